@@ -9,7 +9,8 @@ use Rattle.kds_lines.specs.declared.outcome.Outcome.{Outcome}
 use Rattle.kds_lines.specs.declared.outcome.Outcome.TheVariants as outcome
 use Rattle.kcl_audit.specs.Audited.{AuditsAs, TellsAudit, audit_status}
 
-by_bytes : (s : Status) (bytes : List ℕ) (held now : Option (List ℕ)) → (s ≡ status.Read → ⊥) → (s ≡ status.Write → ⊥) → TellsAudit s bytes held now
+by_bytes : (s : Status) (bytes : List ℕ) (held now : Option (List ℕ)) → (s ≡ status.Read → ⊥) → (s ≡ status.Write → ⊥)
+    → TellsAudit s bytes held now
     → AuditsAs bytes s
 by_bytes status.Done bytes held now read write t = inl (sym (ap audit_status t.1))
 by_bytes status.Unsound bytes held now read write t = inl (sym (ap audit_status t.2))
@@ -26,6 +27,7 @@ completes s None held now read write t = tt
 completes s (Some bytes) held now read write t = by_bytes s bytes held now read write t
 
 -- the sink failed along the lines or behind them
-pub rose_since : (o : Outcome) (a b c : ℕ) → a ≤ b → b ≤ c → (o ≡ outcome.Write → Rose a b) → (o ≡ outcome.Write) ⊎ Rose b c → Rose a c
+pub rose_since : (o : Outcome) (a b c : ℕ) → a ≤ b → b ≤ c → (o ≡ outcome.Write → Rose a b) → (o ≡ outcome.Write)
+    ⊎ Rose b c → Rose a c
 rose_since o a b c ab bc along (inl w) = let r : Rose a b = along w in omega arith
 rose_since o a b c ab bc along (inr r) = omega arith

@@ -5,7 +5,8 @@ use Rattle.kds_base.proofs.Facts.{apart}
 use Rattle.kds_lines.specs.Lines.{End, lined}
 use Rattle.kcl_audit_streams.specs.declared.rule.Rule.{Rule}
 use Rattle.kcl_audit_streams.specs.declared.rule.Rule.TheVariants as rule
-use Rattle.kcl_audit.specs.Progress.{AuditEnd, Progress, audit_of, closed, finish, found, fresh, going, next, progress, progress_from, sound, step}
+use Rattle.kcl_audit.specs.Progress.{AuditEnd, Progress, audit_of, closed, finish, found, fresh, going, next, progress}
+use Rattle.kcl_audit.specs.Progress.{progress_from, sound, step}
 use Rattle.kcl_audit.specs.Progress.{unsound}
 use Rattle.kcl_audit.specs.Text.{report}
 use Rattle.kcl_audit.specs.Stages.{end_by, is_bad, is_sound}
@@ -17,7 +18,8 @@ stays : (n : ℕ) (r : Rule) (texts : List (List ℕ)) → progress_from (found 
 stays n r [] = refl
 stays n r (text ∷ texts) = stays n r texts
 
-pub appended : (p : Progress) (texts rest : List (List ℕ)) → progress_from p (texts ++ rest) ≡ progress_from (progress_from p texts) rest
+pub appended : (p : Progress) (texts rest : List (List ℕ))
+    → progress_from p (texts ++ rest) ≡ progress_from (progress_from p texts) rest
 appended p [] rest = refl
 appended p (text ∷ texts) rest = appended (step p text) texts rest
 
@@ -33,7 +35,8 @@ unreported (found n r) h = absurd cc
 unreported _ h = refl
 
 -- it decides what an audit of all bytes says
-pub found_in : (bytes : List ℕ) (texts rest : List (List ℕ)) (n : ℕ) (r : Rule) → (lined bytes).texts ≡ texts ++ rest → progress texts ≡ found n r
+pub found_in : (bytes : List ℕ) (texts rest : List (List ℕ)) (n : ℕ) (r : Rule) → (lined bytes).texts ≡ texts ++ rest
+    → progress texts ≡ found n r
     → audit_of bytes ≡ unsound n r
 found_in bytes texts rest n r parts is =
     ap (λ p. finish p (lined bytes).end)
@@ -42,16 +45,19 @@ found_in bytes texts rest n r parts is =
 -- ---- the end of the lines
 
 -- all lines were taken, and they end so
-pub ended : (bytes : List ℕ) (texts rest : List (List ℕ)) (end : End) → (lined bytes).texts ≡ texts ++ rest → rest ≡ [] → (lined bytes).end ≡ end
+pub ended : (bytes : List ℕ) (texts rest : List (List ℕ)) (end : End) → (lined bytes).texts ≡ texts ++ rest → rest ≡ []
+    → (lined bytes).end ≡ end
     → audit_of bytes ≡ finish (progress texts) end
 ended bytes texts rest end parts none is =
-    ap (λ ts. finish (progress ts) (lined bytes).end) (parts ∙ ap (λ r. texts ++ r) none ∙ append-nil texts) ∙ ap (finish (progress texts)) is
+    ap (λ ts. finish (progress ts) (lined bytes).end) (parts ∙ ap (λ r. texts ++ r) none ∙ append-nil texts)
+    ∙ ap (finish (progress texts)) is
 
 pub sound_is : (end : AuditEnd) → is_sound end ≡ true → (n : ℕ) × (end ≡ sound n)
 sound_is (sound n) h = (n, refl)
 sound_is _ h = absurd cc
 
-pub unsound_is : (p : Progress) (b : Bool) → is_sound (finish p (end_by b)) ≡ false → (n : ℕ) × (r : Rule) × (finish p (end_by b) ≡ unsound n r)
+pub unsound_is : (p : Progress) (b : Bool) → is_sound (finish p (end_by b)) ≡ false → (n : ℕ) × (r : Rule)
+    × (finish p (end_by b) ≡ unsound n r)
 unsound_is fresh true h = (next 0, rule.Form, refl)
 unsound_is fresh false h = (next 0, rule.Form, refl)
 unsound_is (going version log count) true h = (next count, rule.Form, refl)

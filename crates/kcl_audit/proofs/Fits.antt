@@ -12,7 +12,8 @@ sizes_fit false bytes key_bytes h = h.1
 
 pub tellable_fit : (v : ℕ) (what : Entry) → IsTellable v what → IsFit what
 tellable_fit v (entry.Made s name count) h = h.1.1
-tellable_fit v (entry.Put s sh number hash bytes key_bytes) h = (h.1.1.1.0, sizes_fit (is_first v) bytes key_bytes h.1.1.1.1)
+tellable_fit v (entry.Put s sh number hash bytes key_bytes) h =
+    (h.1.1.1.0, sizes_fit (is_first v) bytes key_bytes h.1.1.1.1)
 tellable_fit v (entry.Kept s hours) h = h.1
 tellable_fit v (entry.Taken key t counter owner) h = h.1.1.0.0
 tellable_fit v (entry.Renewed t counter) h = h.1.0

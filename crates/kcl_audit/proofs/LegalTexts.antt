@@ -19,7 +19,8 @@ use Rattle.kcl_journal.specs.Ranges.{IsEntryLine}
 use Rattle.kcl_audit_streams.specs.declared.rule.Rule.TheVariants as rule
 use Rattle.kcl_audit_streams.specs.Verdict.{verdict}
 use Rattle.kcl_audit_judge.proofs.GoodLines.{not_below}
-use Rattle.kcl_audit.specs.Progress.{AuditEnd, Progress, after_end, after_entry, after_line, after_other, audit_of, closed, finish, found}
+use Rattle.kcl_audit.specs.Progress.{AuditEnd, Progress, after_end, after_entry, after_line, after_other, audit_of}
+use Rattle.kcl_audit.specs.Progress.{closed, finish, found}
 use Rattle.kcl_audit.specs.Progress.{fresh, going, line_of, line_step, next, over, progress, progress_from, sound, step}
 use Rattle.kcl_audit.specs.Text.{IsJournal, counted, entries_text, journal_of, with_feed}
 use Rattle.kcl_audit.proofs.SoundTexts.{lines_are}
@@ -38,18 +39,22 @@ pieces_there (b ∷ bs) h = cut_by (is_feed b) b (pieces bs) h
 
 pieces_line : (text z : List ℕ) → Lacks 10 text → pieces (text ++ 10 ∷ z) ≡ text ∷ pieces z
 pieces_line [] z lacks = slice_split-cons_yes is_feed 10 z refl
-pieces_line (b ∷ bs) z lacks = slice_split-cons_no is_feed b (bs ++ 10 ∷ z) lacks.0 ∙ ap (onto_first b) (pieces_line bs z lacks.1)
+pieces_line (b ∷ bs) z lacks = slice_split-cons_no is_feed b (bs ++ 10 ∷ z) lacks.0
+    ∙ ap (onto_first b) (pieces_line bs z lacks.1)
 
 lined_cut : (used : ℕ) (text : List ℕ) (ps : List (List ℕ)) → (ps ≡ [] → ⊥)
-    → lined_from used (text ∷ ps) ≡ (if is_over (length text) (used + length text + 1) then ended too_long else preceded text
+    → lined_from used (text ∷ ps)
+    ≡ (if is_over (length text) (used + length text + 1) then ended too_long else preceded text
     (lined_from (used + length text + 1) ps))
 lined_cut used text [] there = absurd (there refl)
 lined_cut used text (q ∷ qs) there = refl
 
 lined_line : (used : ℕ) (text z : List ℕ) → Lacks 10 text
-    → lined_from used (pieces (text ++ 10 ∷ z)) ≡ (if is_over (length text) (used + length text + 1) then ended too_long else preceded text
+    → lined_from used (pieces (text ++ 10 ∷ z))
+    ≡ (if is_over (length text) (used + length text + 1) then ended too_long else preceded text
     (lined_from (used + length text + 1) (pieces z)))
-lined_line used text z lacks = ap (lined_from used) (pieces_line text z lacks) ∙ lined_cut used text (pieces z) (pieces_there z)
+lined_line used text z lacks =
+    ap (lined_from used) (pieces_line text z lacks) ∙ lined_cut used text (pieces z) (pieces_there z)
 
 -- ---- how an audit ends that came so far
 
@@ -64,12 +69,14 @@ IsFine n x = (x ≡ over) ⊎ (x ≡ sound n)
 abbrev Ends : Progress → List ℕ → ℕ → Type 0
 Ends p bytes n = (used : ℕ) → IsFine n (ends p (lined_from used (pieces bytes)))
 
-past_by : (b : Bool) (p : Progress) (text : List ℕ) (l : Lined) (n : ℕ) → finish p too_long ≡ over → IsFine n (ends (step p text) l)
+past_by : (b : Bool) (p : Progress) (text : List ℕ) (l : Lined) (n : ℕ) → finish p too_long ≡ over
+    → IsFine n (ends (step p text) l)
     → IsFine n (ends p (if b then ended too_long else preceded text l))
 past_by true p text l n stops later = inl stops
 past_by false p text l n stops later = later
 
-past : (p : Progress) (text z : List ℕ) (n : ℕ) → finish p too_long ≡ over → Lacks 10 text → Ends (step p text) z n → Ends p (text ++ 10 ∷ z) n
+past : (p : Progress) (text z : List ℕ) (n : ℕ) → finish p too_long ≡ over → Lacks 10 text → Ends (step p text) z n
+    → Ends p (text ++ 10 ∷ z) n
 past p text z n stops lacks later used =
     let more = used + length text + 1 in
     subst (λ l. IsFine n (ends p l)) (sym (lined_line used text z lacks)) (
@@ -108,9 +115,11 @@ is_there (Some y) x is none = cc
 abbrev rest_text : ℕ → List EntryLine → ℕ → List ℕ
 rest_text v es end = flat_map (λ e. with_feed (entry_spelling v e)) es ++ with_feed (end_spelling end)
 
-rest_cons : (v : ℕ) (e : EntryLine) (es : List EntryLine) (end : ℕ) → rest_text v (e ∷ es) end ≡ entry_spelling v e ++ 10 ∷ rest_text v es end
+rest_cons : (v : ℕ) (e : EntryLine) (es : List EntryLine) (end : ℕ)
+    → rest_text v (e ∷ es) end ≡ entry_spelling v e ++ 10 ∷ rest_text v es end
 rest_cons v e es end =
-    append_assoc (with_feed (entry_spelling v e)) (flat_map (λ x. with_feed (entry_spelling v x)) es) (with_feed (end_spelling end))
+    append_assoc (with_feed (entry_spelling v e)) (flat_map (λ x. with_feed (entry_spelling v x)) es)
+    (with_feed (end_spelling end))
     ∙ append_assoc (entry_spelling v e) (10 ∷ []) (rest_text v es end)
 
 module _ (again : (v : ℕ) (line : EntryLine) → IsEntryLine v line → entry_of v (entry_spelling v line) ≡ Some line)
@@ -122,28 +131,35 @@ module _ (again : (v : ℕ) (line : EntryLine) → IsEntryLine v line → entry_
     (good : (log : Journal) (line : Line) → IsGood log line → verdict log line ≡ Ok tt) where
   entry_step : (v : ℕ) (log : Journal) (count : ℕ) (e : EntryLine) → IsEntryLine v e → IsGood log (line_of e)
       → line_step v log count (entry_spelling v e) ≡ going v (line_of e ∷ log) (next count)
-  entry_step v log count e is its = ap (after_line v log count (entry_spelling v e)) (again v e is) ∙ ap (after_entry v log count e) (good log (line_of e) its)
+  entry_step v log count e is its = ap (after_line v log count (entry_spelling v e)) (again v e is)
+      ∙ ap (after_entry v log count e) (good log (line_of e) its)
 
-  end_step : (v : ℕ) (log : Journal) (count end : ℕ) → end < 2 ^ 62 → last_clock log ≤ end → line_step v log count (end_spelling end) ≡ closed count
+  end_step : (v : ℕ) (log : Journal) (count end : ℕ) → end < 2 ^ 62 → last_clock log ≤ end
+      → line_step v log count (end_spelling end) ≡ closed count
   end_step v log count end in_time order =
       ap (after_line v log count (end_spelling end)) (apart v (end_spelling end) end (end_again end in_time))
       ∙ ap (after_other log count) (end_again end in_time)
       ∙ ap (λ b. after_end count (if b then Err rule.Clock else Ok tt)) (not_below (last_clock log) end order)
 
   -- what comes first may stand for the entries so far in its own way
-  rest_ends : (v : ℕ) (log : Journal) (count : ℕ) (es : List EntryLine) (end : ℕ) (p : Progress) → end < 2 ^ 62 → AllByRecursion (IsEntryLine v) es
+  rest_ends : (v : ℕ) (log : Journal) (count : ℕ) (es : List EntryLine) (end : ℕ) (p : Progress) → end < 2 ^ 62
+      → AllByRecursion (IsEntryLine v) es
       → IsLegal (with_lines (map line_of es) log) → last_clock (with_lines (map line_of es) log) ≤ end
-      → finish p too_long ≡ over → ((text : List ℕ) → IsTold v text → step p text ≡ line_step v log count text) → Ends p (rest_text v es end) (counted count es)
+      → finish p too_long ≡ over → ((text : List ℕ) → IsTold v text → step p text ≡ line_step v log count text)
+      → Ends p (rest_text v es end) (counted count es)
   rest_ends v log count [] end p in_time lines legal order stops steps =
       let read = end_again end in_time in
-      let goes = steps (end_spelling end) (λ no none. is_there (end_of (end_spelling end)) end read none) ∙ end_step v log count end in_time order in
-      past p (end_spelling end) [] count stops (end_line end in_time) (subst (λ q. Ends q [] count) (sym goes) (λ used. inr refl))
+      let goes = steps (end_spelling end) (λ no none. is_there (end_of (end_spelling end)) end read none)
+      ∙ end_step v log count end in_time order in
+      past p (end_spelling end) [] count stops (end_line end in_time)
+      (subst (λ q. Ends q [] count) (sym goes) (λ used. inr refl))
   rest_ends v log count (e ∷ es) end p in_time lines legal order stops steps =
       let read = again v e lines.0 in
       let goes =
       steps (entry_spelling v e) (λ no none. is_there (entry_of v (entry_spelling v e)) e read no)
       ∙ entry_step v log count e lines.0 (good_first (line_of e) (map line_of es) log legal) in
-      let later = rest_ends v (line_of e ∷ log) (next count) es end (going v (line_of e ∷ log) (next count)) in_time lines.1 legal order refl
+      let later = rest_ends v (line_of e ∷ log) (next count) es end (going v (line_of e ∷ log) (next count))
+      in_time lines.1 legal order refl
       (λ text is. refl) in
       subst (λ z. Ends p z (counted (next count) es)) (sym (rest_cons v e es end)) (
       past p (entry_spelling v e) (rest_text v es end) (counted (next count) es) stops (one_line v e lines.0)
@@ -153,35 +169,45 @@ module _ (again : (v : ℕ) (line : EntryLine) → IsEntryLine v line → entry_
       → (if b then going VERSION [] 0 else line_step FIRST_VERSION [] 0 text) ≡ line_step FIRST_VERSION [] 0 text
   fresh_by text true is told =
       let same = (bytes_eq-Decides text heading).0 is in
-      absurd (told (ap (entry_of FIRST_VERSION) same ∙ (no_heading FIRST_VERSION).0) (ap end_of same ∙ (no_heading FIRST_VERSION).1))
+      absurd (told (ap (entry_of FIRST_VERSION) same ∙ (no_heading FIRST_VERSION).0) (ap end_of same
+      ∙ (no_heading FIRST_VERSION).1))
   fresh_by text false is told = refl
 
   first_ends : (es : List EntryLine) (end : ℕ) → end < 2 ^ 62 → AllByRecursion (IsEntryLine FIRST_VERSION) es
       → IsLegal (with_lines (map line_of es) []) → last_clock (with_lines (map line_of es) []) ≤ end
       → Ends fresh (entries_text FIRST_VERSION es end) (counted 0 es)
   first_ends es end in_time lines legal order =
-      rest_ends FIRST_VERSION [] 0 es end fresh in_time lines legal order refl (λ text told. fresh_by text (bytes_eq text heading) refl told)
+      rest_ends FIRST_VERSION [] 0 es end fresh in_time lines legal order refl
+      (λ text told. fresh_by text (bytes_eq text heading) refl told)
 
   second_ends : (es : List EntryLine) (end : ℕ) → end < 2 ^ 62 → AllByRecursion (IsEntryLine VERSION) es
-      → IsLegal (with_lines (map line_of es) []) → last_clock (with_lines (map line_of es) []) ≤ end → Ends fresh (entries_text VERSION es end) (counted 0 es)
+      → IsLegal (with_lines (map line_of es) []) → last_clock (with_lines (map line_of es) []) ≤ end
+      → Ends fresh (entries_text VERSION es end) (counted 0 es)
   second_ends es end in_time lines legal order =
       let rest = rest_text VERSION es end in
-      let later = rest_ends VERSION [] 0 es end (going VERSION [] 0) in_time lines legal order refl (λ text told. refl) in
+      let later = rest_ends VERSION [] 0 es end (going VERSION [] 0) in_time lines legal order refl
+      (λ text told. refl) in
       let lacks : Lacks 10 heading = (refl, (refl, (refl, (refl, (refl, (refl, (refl, (refl, (refl, tt))))))))) in
-      subst (λ z. Ends fresh z (counted 0 es)) (sym (append_assoc heading (10 ∷ []) rest)) (past fresh heading rest (counted 0 es) refl lacks later)
+      subst (λ z. Ends fresh z (counted 0 es)) (sym (append_assoc heading (10 ∷ []) rest))
+      (past fresh heading rest (counted 0 es) refl lacks later)
 
-  version_ends : (v : ℕ) (es : List EntryLine) (end : ℕ) → IsVersion v → end < 2 ^ 62 → AllByRecursion (IsEntryLine v) es
-      → IsLegal (with_lines (map line_of es) []) → last_clock (with_lines (map line_of es) []) ≤ end → Ends fresh (entries_text v es end) (counted 0 es)
+  version_ends : (v : ℕ) (es : List EntryLine) (end : ℕ) → IsVersion v → end < 2 ^ 62
+      → AllByRecursion (IsEntryLine v) es
+      → IsLegal (with_lines (map line_of es) []) → last_clock (with_lines (map line_of es) []) ≤ end
+      → Ends fresh (entries_text v es end) (counted 0 es)
   version_ends v es end (inl is) in_time lines legal order =
       let these = subst (λ w. AllByRecursion (IsEntryLine w) es) is lines in
-      subst (λ w. Ends fresh (entries_text w es end) (counted 0 es)) (sym is) (first_ends es end in_time these legal order)
+      subst (λ w. Ends fresh (entries_text w es end) (counted 0 es)) (sym is)
+      (first_ends es end in_time these legal order)
   version_ends v es end (inr is) in_time lines legal order =
       let these = subst (λ w. AllByRecursion (IsEntryLine w) es) is lines in
-      subst (λ w. Ends fresh (entries_text w es end) (counted 0 es)) (sym is) (second_ends es end in_time these legal order)
+      subst (λ w. Ends fresh (entries_text w es end) (counted 0 es)) (sym is)
+      (second_ends es end in_time these legal order)
 
   pub legal_text : (bytes : List ℕ) (n : ℕ) → IsJournal bytes n → audit_of bytes ≢ over → audit_of bytes ≡ sound n
   legal_text bytes n j not_over =
-      let its : journal_of j.entries ≡ with_lines (map line_of j.entries) [] = sym (lines_are (map line_of j.entries) [] ∙ append-nil (journal_of j.entries)) in
+      let its : journal_of j.entries ≡ with_lines (map line_of j.entries) [] =
+      sym (lines_are (map line_of j.entries) [] ∙ append-nil (journal_of j.entries)) in
       let fine = version_ends j.version j.entries j.end j.is_version j.in_time j.lines (subst IsLegal its j.legal)
       (subst (λ log. last_clock log ≤ j.end) its j.order) 0 in
       fine_so n (audit_of bytes) (subst (λ z. IsFine n (audit_of z)) (sym j.text)

@@ -13,13 +13,15 @@ use Rattle.kcl_audit.proofs.Ends.{is_bad_found}
 use Rattle.kcl_audit.proofs.Telling.{bad_tells, end_tells, memory_tells, read_tells, write_tells}
 
 -- all was written, unless the sink failed or memory ran out
-all_of : (o : Outcome) (back : List ℕ) → (o ≡ outcome.Write → ⊥) → (o ≡ outcome.Memory → ⊥) → Unwritten o back → back ≡ []
+all_of : (o : Outcome) (back : List ℕ) → (o ≡ outcome.Write → ⊥) → (o ≡ outcome.Memory → ⊥) → Unwritten o back
+    → back ≡ []
 all_of outcome.Write back w m u = absurd (w refl)
 all_of outcome.Memory back w m u = absurd (m refl)
 all_of _ back w m u = u
 
 -- and the lines were taken whole
-taken_of : (o : Outcome) (v : TakerValue) (texts rest : List (List ℕ)) → (o ≡ outcome.Memory → ⊥) → HasTaken o (Took v) (Broke v) texts rest → Took v texts
+taken_of : (o : Outcome) (v : TakerValue) (texts rest : List (List ℕ)) → (o ≡ outcome.Memory → ⊥)
+    → HasTaken o (Took v) (Broke v) texts rest → Took v texts
 taken_of outcome.Memory v texts rest m t = absurd (m refl)
 taken_of _ v texts rest m t = t
 
@@ -38,28 +40,33 @@ module _ (v : TakerValue) (bytes : List ℕ) (left start mid : Option (List ℕ)
       → ((texts : List (List ℕ)) → Took v texts → true ≡ is_bad (progress texts)) → Reads o
       → TellsAudit status.Unsound bytes start mid
   told_bad o w m bad t =
-      bad_tells bytes t.texts t.rest t.front t.back start mid t.parts t.output_is t.written (all_of o t.back w m t.unwritten)
+      bad_tells bytes t.texts t.rest t.front t.back start mid t.parts t.output_is t.written
+      (all_of o t.back w m t.unwritten)
       (sym (bad t.texts (taken_of o v t.texts t.rest m t.taken)))
 
   -- no entry was bad
   module _ (good : (texts : List (List ℕ)) → Took v texts → false ≡ is_bad (progress texts)) where
     pub told_read : Reads outcome.Read → TellsAudit status.Read bytes start mid
-    told_read t = read_tells bytes t.texts t.rest t.front t.back start mid t.parts t.output_is t.written t.unwritten (sym (good t.texts t.taken))
+    told_read t = read_tells bytes t.texts t.rest t.front t.back start mid t.parts t.output_is t.written t.unwritten
+        (sym (good t.texts t.taken))
 
     -- a line is left out behind a bad entry alone
     pub told_stopped : (n : ℕ) (s : Status) → Reads (outcome.Stopped n) → TellsAudit s bytes start mid
     told_stopped n s t = absurd (is_bad_found (progress t.texts) t.because.3 (good t.texts t.taken))
 
   module _ (now : Option (List ℕ)) (s : Status) where
-    pub told_whole : ((texts : List (List ℕ)) → Took v texts → TellsEnd s (finish (progress texts) (end_by false)) (report (progress texts)) mid now)
+    pub told_whole : ((texts : List (List ℕ)) → Took v texts
+        → TellsEnd s (finish (progress texts) (end_by false)) (report (progress texts)) mid now)
         → Reads outcome.Whole → TellsAudit s bytes start now
     told_whole ends t =
-        end_tells bytes t.texts t.rest t.front t.back start mid t.parts t.output_is t.written t.unwritten false now t.because.1 t.because.0 s
+        end_tells bytes t.texts t.rest t.front t.back start mid t.parts t.output_is t.written t.unwritten false now
+        t.because.1 t.because.0 s
         (ends t.texts t.taken)
 
     pub told_unfinished : (n : ℕ) → ((texts : List (List ℕ)) → Took v texts
         → TellsEnd s (finish (progress texts) (end_by true)) (report (progress texts)) mid now)
         → Reads (outcome.Unfinished n) → TellsAudit s bytes start now
     told_unfinished n ends t =
-        end_tells bytes t.texts t.rest t.front t.back start mid t.parts t.output_is t.written t.unwritten true now t.because.1 t.because.0 s
+        end_tells bytes t.texts t.rest t.front t.back start mid t.parts t.output_is t.written t.unwritten true now
+        t.because.1 t.because.0 s
         (ends t.texts t.taken)

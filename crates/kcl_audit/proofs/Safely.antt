@@ -14,11 +14,16 @@ pub some_so : {P Q : List ℕ → Type 0} (o : Option (List ℕ)) → IfSome o P
 some_so None p f = tt
 some_so (Some b) p f = f b p
 
-pub safely : ((bytes : List ℕ) (n : ℕ) → audit_of bytes ≡ sound n → IsJournal bytes n) → ((log : Journal) (c : ℕ) → IsReached log c → IsSafe log c)
+pub safely : ((bytes : List ℕ) (n : ℕ) → audit_of bytes ≡ sound n → IsJournal bytes n)
+    → ((log : Journal) (c : ℕ) → IsReached log c → IsSafe log c)
     → (bytes : List ℕ) (held now : Option (List ℕ)) → TellsAudit status.Done bytes held now → IsSafely bytes
 safely legal safe bytes held now t =
     let j = legal bytes t.0 t.1 in
-    record { count = t.0; journal = j; safe = safe (journal_of j.entries) j.end (record { legal = j.legal; order = j.order }) }
+    record {
+      count = t.0;
+      journal = j;
+      safe = safe (journal_of j.entries) j.end (record { legal = j.legal; order = j.order });
+    }
 
 never_over : (bytes : List ℕ) (n : ℕ) (r : Rule) → audit_of bytes ≡ unsound n r → audit_of bytes ≡ over → ⊥
 never_over bytes n r is too = let e : unsound n r ≡ over = sym is ∙ too in absurd cc
@@ -28,4 +33,5 @@ never_both bytes n m r is so = let e : unsound n r ≡ sound m = sym is ∙ so i
 
 pub no_journal : ((bytes : List ℕ) (n : ℕ) → IsJournal bytes n → (audit_of bytes ≡ over → ⊥) → audit_of bytes ≡ sound n)
     → (bytes : List ℕ) (held now : Option (List ℕ)) → TellsAudit status.Unsound bytes held now → IsNoJournal bytes
-no_journal sounds bytes held now t n j = never_both bytes t.0 n t.1 t.2 (sounds bytes n j (never_over bytes t.0 t.1 t.2))
+no_journal sounds bytes held now t n j =
+    never_both bytes t.0 n t.1 t.2 (sounds bytes n j (never_over bytes t.0 t.1 t.2))

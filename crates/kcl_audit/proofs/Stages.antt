@@ -10,7 +10,8 @@ use Rattle.kcl_journal.specs.declared.line.EntryLine.{EntryLine}
 use Rattle.kcl_journal.specs.Entries.{IsVersion}
 use Rattle.kcl_audit_streams.specs.Verdict.{Verdict}
 use Rattle.kcl_audit.specs.Progress.{Progress, after_entry, fresh, line_of, next, progress, step}
-use Rattle.kcl_audit.specs.Stages.{Broke, IsAt, IsNamed, IsOver, TakerValue, Took, is_found, name_in, stage_report, texts_report}
+use Rattle.kcl_audit.specs.Stages.{Broke, IsAt, IsNamed, IsOver, TakerValue, Took, is_found, name_in, stage_report}
+use Rattle.kcl_audit.specs.Stages.{texts_report}
 use Rattle.kcl_audit.specs.Text.{named_text, report, rule_name}
 use Rattle.kcl_audit.proofs.Ends.{appended}
 
@@ -24,27 +25,32 @@ nothing : (s : Stage) → is_found s ≡ false → stage_report s ≡ []
 nothing (stage.Found n name) h = absurd cc
 nothing _ h = refl
 
-over_at : (s : Stage) (a : JudgeValue) (texts : List (List ℕ)) (text : List ℕ) → is_found s ≡ true → IsAt s a (progress texts) → IsOver texts text
+over_at : (s : Stage) (a : JudgeValue) (texts : List (List ℕ)) (text : List ℕ) → is_found s ≡ true
+    → IsAt s a (progress texts) → IsOver texts text
 over_at (stage.Found n name) a texts text h at = (n, (at.0, at.1.0))
 over_at _ a texts text h at = absurd cc
 
-pub is_over : (v : TakerValue) (texts : List (List ℕ)) (text : List ℕ) → is_found v.stage ≡ true → Took v texts → IsOver texts text
+pub is_over : (v : TakerValue) (texts : List (List ℕ)) (text : List ℕ) → is_found v.stage ≡ true → Took v texts
+    → IsOver texts text
 is_over v texts text h at = over_at v.stage v.judge texts text h at
 
 -- ---- after an entry, and after the last line
 
 module _ (v : ℕ) (version : IsVersion v) (log : Journal) (count : ℕ) (e : EntryLine) (a : JudgeValue) where
-  pub named_by : (x : Verdict) (name : List ℕ) → Some name ≡ name_in x → IsNamed (next count) name (after_entry v log count e x)
+  pub named_by : (x : Verdict) (name : List ℕ) → Some name ≡ name_in x
+      → IsNamed (next count) name (after_entry v log count e x)
   named_by (Ok u) name h = absurd cc
   named_by (Err r) name h = let same : name ≡ rule_name r = cc in (r, (refl, same))
 
-  pub good_by : (x : Verdict) → None ≡ name_in x → Stands a (line_of e ∷ log) → IsAt (stage.Going v (next count)) a (after_entry v log count e x)
+  pub good_by : (x : Verdict) → None ≡ name_in x → Stands a (line_of e ∷ log)
+      → IsAt (stage.Going v (next count)) a (after_entry v log count e x)
   good_by (Ok u) h st = (version, (line_of e ∷ log, (refl, st)))
   good_by (Err r) h st = absurd cc
 
 -- ---- after one more line
 
-module _ (old new : TakerValue) (texts : List (List ℕ)) (text : List ℕ) (before : is_found old.stage ≡ false) (took : Took old texts)
+module _ (old new : TakerValue) (texts : List (List ℕ)) (text : List ℕ) (before : is_found old.stage ≡ false)
+    (took : Took old texts)
     (at : IsAt new.stage new.judge (step (progress texts) text)) where
   takes : Took new (texts ++ text ∷ [])
   takes = subst (IsAt new.stage new.judge) (sym (appended fresh texts (text ∷ []))) at
@@ -52,9 +58,11 @@ module _ (old new : TakerValue) (texts : List (List ℕ)) (text : List ℕ) (bef
   grows : texts_report (texts ++ text ∷ []) ≡ texts_report texts ++ stage_report new.stage
   grows =
       report_at new.stage new.judge (progress (texts ++ text ∷ [])) takes
-      ∙ ap (λ r. r ++ stage_report new.stage) (sym (report_at old.stage old.judge (progress texts) took ∙ nothing old.stage before))
+      ∙ ap (λ r. r ++ stage_report new.stage)
+      (sym (report_at old.stage old.judge (progress texts) took ∙ nothing old.stage before))
 
-  pub goes_on : (from to : List ℕ) → to ≡ from ++ stage_report new.stage → Goes (Took new) texts_report texts text from to
+  pub goes_on : (from to : List ℕ) → to ≡ from ++ stage_report new.stage
+      → Goes (Took new) texts_report texts text from to
   goes_on from to wrote = record { taken = takes; added = stage_report new.stage; grows = grows; wrote = wrote }
 
   pub breaks_off : Breaks (Took new) (Broke new) texts_report texts text

@@ -22,15 +22,20 @@ empty_front (x ∷ xs) ys h = absurd cc
 -- ---- along the lines
 
 module _ (bytes : List ℕ) (texts rest : List (List ℕ)) (front back : List ℕ) (held mid : Option (List ℕ))
-    (parts : (lined bytes).texts ≡ texts ++ rest) (output : report (progress texts) ≡ front ++ back) (written : Appends held mid front) where
+    (parts : (lined bytes).texts ≡ texts ++ rest) (output : report (progress texts) ≡ front ++ back)
+    (written : Appends held mid front) where
   -- a front of what is said was written
   front_told : AppendsFront held mid (audit_text (audit_of bytes))
   front_told = either (is_bad (progress texts)) refl
     where
       either : (b : Bool) → is_bad (progress texts) ≡ b → AppendsFront held mid (audit_text (audit_of bytes))
       either true h =
-          let b = bad_is (progress texts) h in
-          (front, back, ap audit_text (found_in bytes texts rest b.0 b.1 parts b.2) ∙ sym (ap report b.2) ∙ output, written)
+          let b = bad_is (progress texts) h in (
+            front,
+            back,
+            ap audit_text (found_in bytes texts rest b.0 b.1 parts b.2) ∙ sym (ap report b.2) ∙ output,
+            written,
+          )
       either false h =
           let none = empty_front front back (sym (unreported (progress texts) h) ∙ output) in
           (front, audit_text (audit_of bytes), ap (λ z. z ++ audit_text (audit_of bytes)) (sym none), written)
@@ -49,8 +54,13 @@ module _ (bytes : List ℕ) (texts rest : List (List ℕ)) (front back : List �
     pub bad_tells : is_bad (progress texts) ≡ true → TellsAudit status.Unsound bytes held mid
     bad_tells h =
         let b = bad_is (progress texts) h in
-        let a = found_in bytes texts rest b.0 b.1 parts b.2 in
-        (b.0, b.1, a, subst (λ (z : List ℕ). Appends held mid z) (sym reported ∙ ap report b.2 ∙ ap audit_text (sym a)) written)
+        let a = found_in bytes texts rest b.0 b.1 parts b.2 in (
+          b.0,
+          b.1,
+          a,
+          subst (λ (z : List ℕ). Appends held mid z) (sym reported ∙ ap report b.2 ∙ ap audit_text (sym a))
+              written,
+        )
 
     nothing : is_bad (progress texts) ≡ false → Appends held mid []
     nothing h = subst (λ (z : List ℕ). Appends held mid z) (sym reported ∙ unreported (progress texts) h) written
@@ -69,11 +79,15 @@ module _ (bytes : List ℕ) (texts rest : List (List ℕ)) (front back : List �
       whole_text added text = ap (λ z. z ++ added) (sym reported) ∙ text ∙ ap audit_text (sym said)
 
       -- what is added goes behind what was written
-      wrote_all : (added : List ℕ) → report (progress texts) ++ added ≡ audit_text (finish (progress texts) (end_by b)) → Appends mid now added
+      wrote_all : (added : List ℕ) → report (progress texts) ++ added ≡ audit_text (finish (progress texts) (end_by b))
+          → Appends mid now added
           → Appends held now (audit_text (audit_of bytes))
-      wrote_all added text w = subst (λ (z : List ℕ). Appends held now z) (whole_text added text) (Appends-trans held mid now front added written w)
+      wrote_all added text w =
+          subst (λ (z : List ℕ). Appends held now z) (whole_text added text)
+          (Appends-trans held mid now front added written w)
 
-      pub end_tells : (s : Status) → TellsEnd s (finish (progress texts) (end_by b)) (report (progress texts)) mid now → TellsAudit s bytes held now
+      pub end_tells : (s : Status) → TellsEnd s (finish (progress texts) (end_by b)) (report (progress texts)) mid now
+          → TellsAudit s bytes held now
       end_tells status.Done t =
           let n = sound_is (finish (progress texts) (end_by b)) t.0 in
           (n.0, said ∙ n.1, wrote_all t.1.0 t.1.1 t.1.2)
@@ -89,6 +103,11 @@ module _ (bytes : List ℕ) (texts rest : List (List ℕ)) (front back : List �
                 written f.3,
           )
       end_tells status.Memory t =
-          let f = front_told in
-          (f.0, f.1, f.2, subst (λ (z : List ℕ). Appends held now z) (append-nil f.0) (Appends-trans held mid now f.0 [] f.3 t))
+          let f = front_told in (
+            f.0,
+            f.1,
+            f.2,
+            subst (λ (z : List ℕ). Appends held now z) (append-nil f.0)
+                (Appends-trans held mid now f.0 [] f.3 t),
+          )
       end_tells _ t = absurd t

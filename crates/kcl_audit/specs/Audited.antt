@@ -12,11 +12,12 @@ use Rattle.kcl_audit.specs.Text.{IsJournal, audit_text, journal_of}
 use Rattle.kcl_audit.specs.Stages.{is_sound}
 
 -- Of the bytes of a text, what the sink held and holds. With Done every entry is sound, with Unsound one is bad, and it
--- was written which, and why; with TooLong a length is too great. With Read nothing was written, with Write and Memory a
--- front of what an audit of these bytes says.
+-- was written which, and why; with TooLong a length is too great. With Read nothing was written, with Write and Memory
+-- a front of what an audit of these bytes says.
 abbrev pub TellsAudit : Status → List ℕ → Option (List ℕ) → Option (List ℕ) → Type 0
 TellsAudit Done bytes held now = (n : ℕ) × (audit_of bytes ≡ sound n) × Appends held now (audit_text (audit_of bytes))
-TellsAudit Unsound bytes held now = (n : ℕ) × (r : Rule) × (audit_of bytes ≡ unsound n r) × Appends held now (audit_text (audit_of bytes))
+TellsAudit Unsound bytes held now = (n : ℕ) × (r : Rule) × (audit_of bytes ≡ unsound n r)
+    × Appends held now (audit_text (audit_of bytes))
 TellsAudit TooLong bytes held now = (audit_of bytes ≡ over) × Appends held now []
 TellsAudit Read bytes held now = Appends held now []
 TellsAudit Write bytes held now = AppendsFront held now (audit_text (audit_of bytes))
@@ -43,7 +44,8 @@ audit_status over = TooLong
 abbrev pub AuditsAs : List ℕ → Status → Type 0
 AuditsAs bytes status = (status ≡ audit_status (audit_of bytes)) ⊎ (status ≡ Memory)
 
--- the bytes are the text of a legal journal and its last line, and the state that it tells is safe, at that line's clock
+-- the bytes are the text of a legal journal and its last line, and the state that it tells is safe, at that line's
+-- clock
 pub record IsSafely (bytes : List ℕ) : Type 0 where
   pub count : ℕ
   pub journal : IsJournal bytes count
@@ -56,8 +58,10 @@ IsNoJournal bytes = (n : ℕ) → IsJournal bytes n → ⊥
 -- Where the lines end and an audit ends so, behind what was written along them: with Done and Unsound the rest of what
 -- it says was written, with Write a front of that, with Memory nothing.
 abbrev pub TellsEnd : Status → AuditEnd → List ℕ → Option (List ℕ) → Option (List ℕ) → Type 0
-TellsEnd Done end along held now = (is_sound end ≡ true) × ((added : List ℕ) × (along ++ added ≡ audit_text end) × Appends held now added)
-TellsEnd Unsound end along held now = (is_sound end ≡ false) × ((added : List ℕ) × (along ++ added ≡ audit_text end) × Appends held now added)
+TellsEnd Done end along held now =
+    (is_sound end ≡ true) × ((added : List ℕ) × (along ++ added ≡ audit_text end) × Appends held now added)
+TellsEnd Unsound end along held now =
+    (is_sound end ≡ false) × ((added : List ℕ) × (along ++ added ≡ audit_text end) × Appends held now added)
 TellsEnd Write end along held now = (added : List ℕ) × (along ++ added ≡ audit_text end) × AppendsFront held now added
 TellsEnd Memory end along held now = Appends held now []
 TellsEnd _ end along held now = ⊥

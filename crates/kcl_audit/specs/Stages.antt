@@ -37,7 +37,8 @@ IsNamed n name p = (r : Rule) × ((p ≡ found n r) × (name ≡ rule_name r))
 -- the stage, with the judge's journal, is that of the lines so far
 abbrev pub IsAt : Stage → JudgeValue → Progress → Type 0
 IsAt stage.Fresh a p = (p ≡ fresh) × Stands a []
-IsAt (stage.Going version count) a p = IsVersion version × ((log : Journal) × ((p ≡ going version log count) × Stands a log))
+IsAt (stage.Going version count) a p =
+    IsVersion version × ((log : Journal) × ((p ≡ going version log count) × Stands a log))
 IsAt (stage.Closed count) a p = p ≡ closed count
 IsAt (stage.Found n name) a p = IsNamed n name.now p
 

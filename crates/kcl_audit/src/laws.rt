@@ -17,7 +17,8 @@ use kcl_audit_judge::exact as exact_verdicts;
 /// state the line's entry (`IsTellable`).
 pub fn exact()
     ensures good { (log : Journal) (line : Line) → IsGood log line → verdict log line ≡ Ok tt }
-    ensures ok { (log : Journal) (v : ℕ) (e : EntryLine) → IsTellable v e.what → verdict log (line_of e) ≡ Ok tt → IsGood log (line_of e) }
+    ensures ok { (log : Journal) (v : ℕ) (e : EntryLine) → IsTellable v e.what → verdict log (line_of e) ≡ Ok tt
+        → IsGood log (line_of e) }
 {
     exact_verdicts();
 }

@@ -26,7 +26,8 @@ fn line(
 ) -> Result<Stage, Memory>
     requires version { IsVersion version }
     requires stands { (log : Journal) × Stands audit.old log }
-    ensures at { (log : Journal) → Stands audit.old log → IfOk result (λ s. IsAt s audit.new (line_step version log count text.now)) }
+    ensures at { (log : Journal) → Stands audit.old log
+        → IfOk result (λ s. IsAt s audit.new (line_step version log count text.now)) }
     ensures kept { (log : Journal) → Stands audit.old log → OnErr result (Stands audit.new log) }
     ensures stands { (log : Journal) × Stands audit.new log }
     ensures known { IfOk result HasVersion }
@@ -93,7 +94,8 @@ impl AuditTaker {
     /// is true if the text doesn't end with a line feed. Returns whether the journal is sound. If memory runs out,
     /// nothing is added.
     pub fn finish(&self, alloc: Global, unfinished: bool, to: &mut Octets) -> Result<bool, Memory>
-        ensures says { (texts : List (List ℕ)) → Took self.now texts → IfOk result (λ says. Finishes (progress texts) (end_by unfinished) says to.old to.new) }
+        ensures says { (texts : List (List ℕ)) → Took self.now texts
+            → IfOk result (λ says. Finishes (progress texts) (end_by unfinished) says to.old to.new) }
         ensures err { OnErr result (to.new ≡ to.old) }
     {
         finish_stage(alloc, &self.stage, unfinished, to)
@@ -101,7 +103,8 @@ impl AuditTaker {
 
     /// Judges the line `text`, and returns the stage of the audit after this line. The caller stores the stage.
     fn stage_after(&mut self, alloc: Global, text: &[u8]) -> Result<Stage, Memory>
-        ensures at { (texts : List (List ℕ)) → Took self.old texts → IfOk result (λ s. IsAt s self.new.judge (step (progress texts) text.now)) }
+        ensures at { (texts : List (List ℕ)) → Took self.old texts
+            → IfOk result (λ s. IsAt s self.new.judge (step (progress texts) text.now)) }
         ensures kept { (texts : List (List ℕ)) → Took self.old texts → OnErr result (Took self.new texts) }
         ensures same { self.new.stage ≡ self.old.stage }
         ensures known { IfOk result HasVersion }

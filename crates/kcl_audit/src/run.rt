@@ -20,7 +20,8 @@ use std::alloc::Global;
 /// text doesn't end with a line feed.
 fn tell_end<K: Sink>(alloc: Global, taker: &AuditTaker, unfinished: bool, out: &mut K) -> Status
     ensures told { (texts : List (List ℕ)) → Took taker.now texts
-        → TellsEnd result (finish (progress texts) (end_by unfinished)) (report (progress texts)) (K.held out.old) (K.held out.new) }
+        → TellsEnd result (finish (progress texts) (end_by unfinished)) (report (progress texts)) (K.held out.old)
+        (K.held out.new) }
     ensures later { K.faults out.old ≤ K.faults out.new }
     ensures write { result ≡ Status.Write → Rose (K.faults out.old) (K.faults out.new) }
     ensures read { result ≡ Status.Read → ⊥ }
@@ -85,7 +86,8 @@ pub fn run_audit<S: Source, K: Sink>(alloc: Global, input: &mut S, out: &mut K) 
     ensures legal { result ≡ Status.Unsound → IfSome (S.left input.old) IsNoJournal }
 
     // If the source and the sink don't fail and memory doesn't run out, the bytes alone decide the status.
-    ensures complete { (Rose (S.faults input.old) (S.faults input.new) → ⊥) → (Rose (K.faults out.old) (K.faults out.new) → ⊥)
+    ensures complete { (Rose (S.faults input.old) (S.faults input.new) → ⊥)
+        → (Rose (K.faults out.old) (K.faults out.new) → ⊥)
         → IfSome (S.left input.old) (λ bytes. AuditsAs bytes result) }
     ensures read { result ≡ Status.Read → Rose (S.faults input.old) (S.faults input.new) }
     ensures write { result ≡ Status.Write → Rose (K.faults out.old) (K.faults out.new) }

@@ -44,8 +44,10 @@ pub fn entry_name(
 ) -> Result<Option<&'static str>, Memory>
     requires told { (version : ℕ) × IsTellable version line.what }
     requires stands { (log : Journal) × Stands audit.old log }
-    ensures name { (log : Journal) → Stands audit.old log → IfOk result (λ o. option_map (λ s. s.now) o ≡ name_in (verdict log (line_of line))) }
-    ensures good { (log : Journal) → Stands audit.old log → IfOk result (λ o. o ≡ None → Stands audit.new (line_of line ∷ log)) }
+    ensures name { (log : Journal) → Stands audit.old log
+        → IfOk result (λ o. option_map (λ s. s.now) o ≡ name_in (verdict log (line_of line))) }
+    ensures good { (log : Journal) → Stands audit.old log
+        → IfOk result (λ o. o ≡ None → Stands audit.new (line_of line ∷ log)) }
     ensures kept { (log : Journal) → Stands audit.old log → OnErr result (Stands audit.new log) }
     ensures stands { (log : Journal) × Stands audit.new log }
 {
@@ -59,7 +61,8 @@ pub fn entry_name(
 /// Judges the clock of the last line. Returns the name of the rule that the last line breaks, or `None` if the last
 /// line breaks no rule.
 pub fn end_name(audit: &Audit, clock: Moment) -> Option<&'static str>
-    ensures { (log : Journal) → Stands audit.now log → option_map (λ s. s.now) result ≡ name_in (end_verdict log clock) }
+    ensures { (log : Journal) → Stands audit.now log
+        → option_map (λ s. s.now) result ≡ name_in (end_verdict log clock) }
 {
     match audit.finish(clock) {
         Ok(()) => None,
@@ -94,7 +97,8 @@ pub fn finish_stage(
     unfinished: bool,
     to: &mut Octets,
 ) -> Result<bool, Memory>
-    ensures says { (a : JudgeValue) (p : Progress) → IsAt stage.now a p → IfOk result (λ says. Finishes p (end_by unfinished) says to.old to.new) }
+    ensures says { (a : JudgeValue) (p : Progress) → IsAt stage.now a p
+        → IfOk result (λ says. Finishes p (end_by unfinished) says to.old to.new) }
     ensures err { OnErr result (to.new ≡ to.old) }
 {
     let number = match stage {

@@ -46,7 +46,8 @@ impl Audit {
         requires told { (version : ℕ) × IsTellable version line.what }
         requires stands { (log : Journal) × Stands self.old log }
         ensures value { (log : Journal) → Stands self.old log → IfOk result (λ r. r ≡ verdict log (line_of line)) }
-        ensures good { (log : Journal) → Stands self.old log → IfOk result (λ r. OnOk r (Stands self.new (line_of line ∷ log))) }
+        ensures good { (log : Journal) → Stands self.old log
+            → IfOk result (λ r. OnOk r (Stands self.new (line_of line ∷ log))) }
         ensures bad { (log : Journal) → Stands self.old log → IfOk result (λ r. OnErr r (Stands self.new log)) }
         ensures kept { (log : Journal) → Stands self.old log → OnErr result (Stands self.new log) }
     {

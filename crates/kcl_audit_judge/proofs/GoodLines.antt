@@ -25,19 +25,22 @@ use Rattle.kcl_audit_streams.proofs.StreamTold.{AreTold, past, stream_lines}
 -- ---- what an entry tells gives the lines of entries
 
 -- each line that a command for leases adds is that of an entry: only those of puts have a key and a payload
-added_is : (log : Journal) (c by : ℕ) (cmd : Command) (line : Line) → IsAdded log c by cmd line → is_service cmd ≡ false → line ≡ entry_line c by line.what
+added_is : (log : Journal) (c by : ℕ) (cmd : Command) (line : Line) → IsAdded log c by cmd line → is_service cmd ≡ false
+    → line ≡ entry_line c by line.what
 added_is log c by _ _ (Alone _ _ _ (Puts name item s named fits)) lease = absurd cc
 added_is log c by _ _ (Stored_one name items before s number item among) lease = absurd cc
 added_is log c by _ _ _ lease = refl
 
-of_lines : (c by : ℕ) (d : Decision) → AllByRecursion (λ (l : Line). l ≡ entry_line c by l.what) (lines_of d) → AreTold c by d
+of_lines : (c by : ℕ) (d : Decision) → AllByRecursion (λ (l : Line). l ≡ entry_line c by l.what) (lines_of d)
+    → AreTold c by d
 of_lines c by (Refused r) h = tt
 of_lines c by (Accepted lines reply) h = h
 
 of_lease : (log : Journal) (c by : ℕ) (cmd : Command) → is_service cmd ≡ false → AreTold c by (decide log c by cmd)
 of_lease log c by cmd lease =
     of_lines c by (decide log c by cmd)
-    (each_line (λ (l : Line). l ≡ entry_line c by l.what) log c by cmd (λ line added. added_is log c by cmd line added lease))
+    (each_line (λ (l : Line). l ≡ entry_line c by l.what) log c by cmd
+    (λ line added. added_is log c by cmd line added lease))
 
 pub tells : (log : Journal) (c by : ℕ) (what : Entry) → AreTold c by (told log (entry_line c by what) what)
 tells log c by (entry.Made s name count) = past _ _ _ _ _ (past _ _ _ _ _ (past _ _ _ _ _ (refl, tt)))
@@ -46,7 +49,8 @@ tells log c by (entry.Taken key t counter owner) = of_lease log c by (command.Ta
 tells log c by (entry.Renewed t counter) = of_lease log c by (command.Renew t (counter - 1)) refl
 tells log c by (entry.Freed t counter) = of_lease log c by (command.Free t (counter - 1)) refl
 tells log c by (entry.Opened t) = of_lease log c by (command.OpenShard t) refl
-tells log c by (entry.Read t limit ended numbers) = of_lease log c by (command.Read t (reach_in (tenure log t)) limit) refl
+tells log c by (entry.Read t limit ended numbers) =
+    of_lease log c by (command.Read t (reach_in (tenure log t)) limit) refl
 tells log c by (entry.Given t) = of_lease log c by (command.Give t) refl
 tells log c by (entry.Marked t counter to) = of_lease log c by (command.Mark t (counter - 1) to) refl
 tells log c by (entry.LeaseCut key counter) = of_lease log c by (command.CutLease key counter) refl
@@ -60,7 +64,8 @@ in_range (entry.Put s sh n hash bytes key_bytes) h = h.0
 in_range (entry.Kept s hours) h = h
 in_range _ h = tt
 
-one_line : (line : Line) (c by : ℕ) (what : Entry) → line ≡ entry_line c by line.what → same_entry line.what what ≡ true → line ≡ entry_line c by what
+one_line : (line : Line) (c by : ℕ) (what : Entry) → line ≡ entry_line c by line.what → same_entry line.what what ≡ true
+    → line ≡ entry_line c by what
 one_line line c by what is same = is ∙ ap (entry_line c by) (same_so line.what what same)
 
 abbrev meets : Bool → Verdict
@@ -69,22 +74,29 @@ meets b = if b then Ok tt else Err rule.Entry
 by_test : (b : Bool) → meets b ≡ Ok tt → b ≡ true
 by_test b h = grind arith
 
-by_lines : (c by : ℕ) (what : Entry) (lines : List Line) (reply : Reply) → AllByRecursion (λ (l : Line). l ≡ entry_line c by l.what) lines → gives lines what ≡ true → Accepted lines reply ≡ Accepted (entry_line c by what ∷ []) reply
+by_lines : (c by : ℕ) (what : Entry) (lines : List Line) (reply : Reply)
+    → AllByRecursion (λ (l : Line). l ≡ entry_line c by l.what) lines → gives lines what ≡ true
+    → Accepted lines reply ≡ Accepted (entry_line c by what ∷ []) reply
 by_lines c by what [] reply h is = absurd cc
 by_lines c by what (line ∷ []) reply h is = ap (λ l. Accepted (l ∷ []) reply) (one_line line c by what h.0 is)
 by_lines c by what (line ∷ next ∷ lines) reply h is = absurd cc
 
-allowed_so : (c by : ℕ) (what : Entry) (d : Decision) → AreTold c by d → judged d what ≡ Ok tt → (reply : Reply) × (d ≡ Accepted (entry_line c by what ∷ []) reply)
+allowed_so : (c by : ℕ) (what : Entry) (d : Decision) → AreTold c by d → judged d what ≡ Ok tt → (reply : Reply)
+    × (d ≡ Accepted (entry_line c by what ∷ []) reply)
 allowed_so c by what (Refused r) h is = absurd cc
-allowed_so c by what (Accepted lines reply) h is = (reply, by_lines c by what lines reply h (by_test (gives lines what) is))
+allowed_so c by what (Accepted lines reply) h is =
+    (reply, by_lines c by what lines reply h (by_test (gives lines what) is))
 
-good_by : (log : Journal) (c by : ℕ) (what : Entry) (b : Bool) → nat_lt c (last_clock log) ≡ b → IsFit what → (if b then Err rule.Clock else judged (told log (entry_line c by what) what) what) ≡ Ok tt → IsGood log (entry_line c by what)
+good_by : (log : Journal) (c by : ℕ) (what : Entry) (b : Bool) → nat_lt c (last_clock log) ≡ b → IsFit what
+    → (if b then Err rule.Clock else judged (told log (entry_line c by what) what) what) ≡ Ok tt
+    → IsGood log (entry_line c by what)
 good_by log c by what true is range h = absurd cc
 good_by log c by what false is range h =
     let so = allowed_so c by what (told log (entry_line c by what) what) (tells log c by what) h in
     record { in_order = not_past (last_clock log) c is; in_range = in_range what range; reply = so.0; allowed = so.1 }
 
-pub ok_good : (log : Journal) (c by : ℕ) (what : Entry) → IsFit what → verdict log (entry_line c by what) ≡ Ok tt → IsGood log (entry_line c by what)
+pub ok_good : (log : Journal) (c by : ℕ) (what : Entry) → IsFit what → verdict log (entry_line c by what) ≡ Ok tt
+    → IsGood log (entry_line c by what)
 ok_good log c by what range h = good_by log c by what (nat_lt c (last_clock log)) refl range h
 
 -- ---- a good line meets no rule
@@ -94,4 +106,5 @@ not_below a b h = grind (arith, nat_tests)
 
 pub good_ok : (log : Journal) (line : Line) → IsGood log line → verdict log line ≡ Ok tt
 good_ok log line g =
-    rw (not_below (last_clock log) line.clock g.in_order) (ap (λ d. judged d line.what) g.allowed ∙ rw (same_refl line.what) refl)
+    rw (not_below (last_clock log) line.clock g.in_order) (ap (λ d. judged d line.what) g.allowed
+    ∙ rw (same_refl line.what) refl)

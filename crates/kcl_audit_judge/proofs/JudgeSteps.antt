@@ -22,14 +22,17 @@ use Rattle.kcl_audit_judge.proofs.StreamsAfter.{shows_after, stream_told}
 
 -- ---- an entry of a stream
 
-module _ (a : JudgeValue) (old new : StreamsValue) (rs : List Row) (ts : List TenureValue) (is_a : judge old rs ts ≡ a) (by : ℕ) (what : Entry)
+module _ (a : JudgeValue) (old new : StreamsValue) (rs : List Row) (ts : List TenureValue) (is_a : judge old rs ts ≡ a)
+    (by : ℕ) (what : Entry)
     (of : is_some (stream_of what) ≡ true) (log : Journal) where
   told_by_value : (v : Verdict) → v ≡ stream_verdict old.streams old.clock what → Holds a log
       → v ≡ judged (told log (entry_line a.streams.clock by what) what) what
-  told_by_value v is = subst (λ (x : JudgeValue). Holds x log → v ≡ judged (told log (entry_line x.streams.clock by what) what) what) is_a (
+  told_by_value v is = subst (λ (x : JudgeValue). Holds x log
+      → v ≡ judged (told log (entry_line x.streams.clock by what) what) what) is_a (
       λ st. is ∙ sym (stream_told old log by what st.shows (of_some (stream_of what) of)))
 
-  pub stream_value : {E : Type 0} (r : Result Verdict E) → IfOk r (λ v. v ≡ stream_verdict old.streams old.clock what) → Holds a log
+  pub stream_value : {E : Type 0} (r : Result Verdict E) → IfOk r (λ v. v ≡ stream_verdict old.streams old.clock what)
+      → Holds a log
       → IfOk r (λ v. v ≡ judged (told log (entry_line a.streams.clock by what) what) what)
   stream_value (Ok v) is st = told_by_value v is st
   stream_value (Err e) is st = tt
@@ -37,13 +40,17 @@ module _ (a : JudgeValue) (old new : StreamsValue) (rs : List Row) (ts : List Te
   added_by_value : (v : Verdict) → new.clock ≡ old.clock → v ≡ stream_verdict old.streams old.clock what
       → OnOk v (new.streams ≡ streams_after old.clock what old.streams) → Holds a log
       → OnOk v (Holds (judge new rs ts) (entry_line a.streams.clock by what ∷ log))
-  added_by_value (Ok u) at is after = subst (λ (x : JudgeValue). Holds x log → Holds (judge new rs ts) (entry_line x.streams.clock by what ∷ log)) is_a (λ st.
+  added_by_value (Ok u) at is after =
+      subst (λ (x : JudgeValue). Holds x log → Holds (judge new rs ts) (entry_line x.streams.clock by what ∷ log)) is_a
+      (λ st.
       let apart = of_some (stream_of what) of in
-      stands_beside (facing old.clock (Shows old)) (facing new.clock (Shows new)) rs ts log (entry_line old.clock by what) apart
+      stands_beside (facing old.clock (Shows old)) (facing new.clock (Shows new)) rs ts log
+      (entry_line old.clock by what) apart
       (shows_after old new log by what st.shows apart (sym is) at after) st)
   added_by_value (Err e) at is after = λ st. tt
 
-  pub stream_good : {E : Type 0} (r : Result Verdict E) → new.clock ≡ old.clock → IfOk r (λ v. v ≡ stream_verdict old.streams old.clock what)
+  pub stream_good : {E : Type 0} (r : Result Verdict E) → new.clock ≡ old.clock
+      → IfOk r (λ v. v ≡ stream_verdict old.streams old.clock what)
       → IfOk r (λ v. OnOk v (new.streams ≡ streams_after old.clock what old.streams)) → Holds a log
       → IfOk r (λ v. OnOk v (Holds (judge new rs ts) (entry_line a.streams.clock by what ∷ log)))
   stream_good (Ok v) at is after st = added_by_value v at is after st

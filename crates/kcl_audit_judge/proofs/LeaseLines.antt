@@ -1,5 +1,6 @@
 -- The line that a command on leases gives, if it is accepted, and what a judge makes of it.
-use Rattle.std.proofs.Common.{◌≡◌, ℕ, ◌+◌, ◌-◌, ◌≤◌, ◌≢◌, length, true, false, List, [], ◌∷◌, Option, Some, None, refl, sym, ap, subst, ◌∙◌, arith}
+use Rattle.std.proofs.Common.{◌≡◌, ℕ, ◌+◌, ◌-◌, ◌≤◌, ◌≢◌, length, true, false, List, [], ◌∷◌, Option, Some, None, refl}
+use Rattle.std.proofs.Common.{sym, ap, subst, ◌∙◌, arith}
 use Rattle.std.specs.Prelude.{◌==◌, ◌||◌, is_some, if◌then◌else◌, Result, Ok, Err}
 use Rattle.kds_base.specs.declared.lease_key.ShardRef.{ShardRef}
 use Rattle.kds_defs.specs.declared.command.Command.{Command}
@@ -52,8 +53,10 @@ GivesLine (Accepted lines reply) line = lines ≡ line ∷ []
 
 -- the line of a command on leases that gives just one; what other commands give is left open
 abbrev its_lines : Journal → ℕ → ℕ → Command → List Line → List Line
-its_lines log c by (command.MakeLease key from) lines = plain_line c by (entry.LeaseMade key (counting_origin log key from)) ∷ []
-its_lines log c by (command.Take key counter owner) lines = plain_line c by (entry.Taken key (taken_count log + 1) (counter + 1) owner) ∷ []
+its_lines log c by (command.MakeLease key from) lines =
+    plain_line c by (entry.LeaseMade key (counting_origin log key from)) ∷ []
+its_lines log c by (command.Take key counter owner) lines =
+    plain_line c by (entry.Taken key (taken_count log + 1) (counter + 1) owner) ∷ []
 its_lines log c by (command.Renew t counter) lines = plain_line c by (entry.Renewed t (counter + 1)) ∷ []
 its_lines log c by (command.Free t counter) lines = plain_line c by (entry.Freed t (counter + 1)) ∷ []
 its_lines log c by (command.OpenShard t) lines = plain_line c by (entry.Opened t) ∷ []
@@ -62,14 +65,17 @@ its_lines log c by (command.Mark t counter to) lines = plain_line c by (entry.Ma
 its_lines log c by (command.CutLease key counter) lines = plain_line c by (entry.LeaseCut key counter) ∷ []
 its_lines log c by _ lines = lines
 
-one_line : (log : Journal) (c by : ℕ) (what : Command) (lines : List Line) (r : Reply) → Outcome log c by what lines (Ok r)
+one_line : (log : Journal) (c by : ℕ) (what : Command) (lines : List Line) (r : Reply)
+    → Outcome log c by what lines (Ok r)
     → lines ≡ its_lines log c by what lines
 one_line log c by _ _ _ (Adds _ _ _ (Takes key counter owner r there same fits)) =
-    ap (λ (n : ℕ). plain_line c by (entry.Taken key (taken_count log + 1) (n + 1) owner) ∷ []) (equal_unless r.counter counter same)
+    ap (λ (n : ℕ). plain_line c by (entry.Taken key (taken_count log + 1) (n + 1) owner) ∷ [])
+    (equal_unless r.counter counter same)
 one_line log c by _ _ _ (Answers _ _ (Surveys keys rows)) = refl
 one_line log c by _ _ _ _ = refl
 
-gives_line : (log : Journal) (c by : ℕ) (what : Command) (line : Line) → ((lines : List Line) → its_lines log c by what lines ≡ line ∷ [])
+gives_line : (log : Journal) (c by : ℕ) (what : Command) (line : Line)
+    → ((lines : List Line) → its_lines log c by what lines ≡ line ∷ [])
     → GivesLine (decide log c by what) line
 gives_line log c by what line is = of_decision (decide log c by what) refl
   where
@@ -80,7 +86,8 @@ gives_line log c by what line is = of_decision (decide log c by what) refl
 -- ---- the judgement
 
 -- another entry than the one that is given
-pub judged_other : (d : Decision) (line : Line) (what : Entry) (r : Reply) → GivesLine d line → answer_of d ≡ Ok r → same_entry line.what what ≡ false → Err rule.Entry ≡ judged d what
+pub judged_other : (d : Decision) (line : Line) (what : Entry) (r : Reply) → GivesLine d line → answer_of d ≡ Ok r
+    → same_entry line.what what ≡ false → Err rule.Entry ≡ judged d what
 judged_other (Refused q) line what r h is differ = absurd cc
 judged_other (Accepted lines reply) line what r h is differ =
     let one : judged (Accepted (line ∷ []) reply) what ≡ Err rule.Entry = rw differ refl in
@@ -100,45 +107,61 @@ judged_line (Accepted lines reply) line h =
     let one : judged (Accepted (line ∷ []) reply) line.what ≡ Ok tt = rw (same_refl line.what) refl in
     sym (ap (λ (ls : List Line). judged (Accepted ls reply) line.what) h ∙ one)
 
-pub after_line : (d : Decision) (line : Line) (new : LeasesValue) (log : Journal) → GivesLine d line → Stands new (with_lines (lines_of d) log) → After (answer_verdict (answer_of d)) new line log
+pub after_line : (d : Decision) (line : Line) (new : LeasesValue) (log : Journal) → GivesLine d line
+    → Stands new (with_lines (lines_of d) log) → After (answer_verdict (answer_of d)) new line log
 after_line (Refused r) line new log h st = (tt, st)
-after_line (Accepted lines reply) line new log h st = (subst (λ (ls : List Line). Stands new (with_lines ls log)) h st, tt)
+after_line (Accepted lines reply) line new log h st =
+    (subst (λ (ls : List Line). Stands new (with_lines ls log)) h st, tt)
 
 -- a command that was answered so, of an entry that tells all that it gives
-pub leads_entry : (old new : LeasesValue) (by : ℕ) (what : Command) (answer : Result Reply Refusal) (line : Line) (log : Journal) → Leads old new by what answer
+pub leads_entry : (old new : LeasesValue) (by : ℕ) (what : Command) (answer : Result Reply Refusal) (line : Line)
+    (log : Journal) → Leads old new by what answer
     → GivesLine (decide log old.shards.clock by what) line → Stands old log
-    → (answer_verdict answer ≡ judged (decide log old.shards.clock by what) line.what) × After (answer_verdict answer) new line log
+    → (answer_verdict answer ≡ judged (decide log old.shards.clock by what) line.what)
+    × After (answer_verdict answer) new line log
 leads_entry old new by what answer line log leads h st =
     let l = leads log st in
-    let d = decide log old.shards.clock by what in
-    (ap answer_verdict l.0 ∙ judged_line d line h, subst (λ (a : Result Reply Refusal). After (answer_verdict a) new line log) (sym l.0) (after_line d line new log h l.1))
+    let d = decide log old.shards.clock by what in (
+      ap answer_verdict l.0 ∙ judged_line d line h,
+      subst (λ (a : Result Reply Refusal). After (answer_verdict a) new line log) (sym l.0)
+          (after_line d line new log h l.1),
+    )
 
 -- ---- each entry that tells all that its command gives
 
-entry_by : (old new : LeasesValue) (by : ℕ) (cmd : Command) (answer : Result Reply Refusal) (e : Entry) (v : Verdict) (log : Journal) → v ≡ answer_verdict answer → Leads old new by cmd answer → Stands old log
-    → told log (entry_line old.shards.clock by e) e ≡ decide log old.shards.clock by cmd → GivesLine (decide log old.shards.clock by cmd) (entry_line old.shards.clock by e)
+entry_by : (old new : LeasesValue) (by : ℕ) (cmd : Command) (answer : Result Reply Refusal) (e : Entry) (v : Verdict)
+    (log : Journal) → v ≡ answer_verdict answer → Leads old new by cmd answer → Stands old log
+    → told log (entry_line old.shards.clock by e) e ≡ decide log old.shards.clock by cmd
+    → GivesLine (decide log old.shards.clock by cmd) (entry_line old.shards.clock by e)
     → Judges old new by e v log
 entry_by old new by cmd answer e v log is leads st tells gives =
     let l = leads_entry old new by cmd answer (entry_line old.shards.clock by e) log leads gives st in
     let line = entry_line old.shards.clock by e in
     (is ∙ l.0 ∙ ap (λ d. judged d e) (sym tells), subst (λ (w : Verdict). After w new line log) (sym is) l.1)
 
-module _ (old new : LeasesValue) (by : ℕ) (answer : Result Reply Refusal) (v : Verdict) (is : v ≡ answer_verdict answer) (log : Journal) (st : Stands old log) where
+module _ (old new : LeasesValue) (by : ℕ) (answer : Result Reply Refusal) (v : Verdict) (is : v ≡ answer_verdict answer)
+    (log : Journal) (st : Stands old log) where
   -- by its command, which gives the entry's line
-  given_by : (cmd : Command) (e : Entry) → Leads old new by cmd answer → told log (entry_line old.shards.clock by e) e ≡ decide log old.shards.clock by cmd
-      → ((lines : List Line) → its_lines log old.shards.clock by cmd lines ≡ entry_line old.shards.clock by e ∷ []) → Judges old new by e v log
+  given_by : (cmd : Command) (e : Entry) → Leads old new by cmd answer
+      → told log (entry_line old.shards.clock by e) e ≡ decide log old.shards.clock by cmd
+      → ((lines : List Line) → its_lines log old.shards.clock by cmd lines ≡ entry_line old.shards.clock by e ∷ [])
+      → Judges old new by e v log
   given_by cmd e leads tells gives =
-      entry_by old new by cmd answer e v log is leads st tells (gives_line log old.shards.clock by cmd (entry_line old.shards.clock by e) gives)
+      entry_by old new by cmd answer e v log is leads st tells
+      (gives_line log old.shards.clock by cmd (entry_line old.shards.clock by e) gives)
 
-  pub made_entry : (key : ShardRef) (from : Origin) → counting_origin log key from ≡ from → Leads old new by (command.MakeLease key from) answer → Judges old new by (entry.LeaseMade key from) v log
+  pub made_entry : (key : ShardRef) (from : Origin) → counting_origin log key from ≡ from
+      → Leads old new by (command.MakeLease key from) answer → Judges old new by (entry.LeaseMade key from) v log
   made_entry key from counts leads = given_by (command.MakeLease key from) (entry.LeaseMade key from) leads refl
       (λ ls. ap (λ (o : Origin). plain_line old.shards.clock by (entry.LeaseMade key o) ∷ []) counts)
 
-  pub renewed_entry : (t n : ℕ) → 1 ≤ n → Leads old new by (command.Renew t (n - 1)) answer → Judges old new by (entry.Renewed t n) v log
+  pub renewed_entry : (t n : ℕ) → 1 ≤ n → Leads old new by (command.Renew t (n - 1)) answer
+      → Judges old new by (entry.Renewed t n) v log
   renewed_entry t n some leads = given_by (command.Renew t (n - 1)) (entry.Renewed t n) leads refl
       (λ ls. ap (λ (m : ℕ). plain_line old.shards.clock by (entry.Renewed t m) ∷ []) (one_less n some))
 
-  pub freed_entry : (t n : ℕ) → 1 ≤ n → Leads old new by (command.Free t (n - 1)) answer → Judges old new by (entry.Freed t n) v log
+  pub freed_entry : (t n : ℕ) → 1 ≤ n → Leads old new by (command.Free t (n - 1)) answer
+      → Judges old new by (entry.Freed t n) v log
   freed_entry t n some leads = given_by (command.Free t (n - 1)) (entry.Freed t n) leads refl
       (λ ls. ap (λ (m : ℕ). plain_line old.shards.clock by (entry.Freed t m) ∷ []) (one_less n some))
 
@@ -148,75 +171,111 @@ module _ (old new : LeasesValue) (by : ℕ) (answer : Result Reply Refusal) (v :
   pub given_entry : (t : ℕ) → Leads old new by (command.Give t) answer → Judges old new by (entry.Given t) v log
   given_entry t leads = given_by (command.Give t) (entry.Given t) leads refl (λ ls. refl)
 
-  pub marked_entry : (t n : ℕ) (to : Target) → 1 ≤ n → Leads old new by (command.Mark t (n - 1) to) answer → Judges old new by (entry.Marked t n to) v log
+  pub marked_entry : (t n : ℕ) (to : Target) → 1 ≤ n → Leads old new by (command.Mark t (n - 1) to) answer
+      → Judges old new by (entry.Marked t n to) v log
   marked_entry t n to some leads = given_by (command.Mark t (n - 1) to) (entry.Marked t n to) leads refl
       (λ ls. ap (λ (m : ℕ). plain_line old.shards.clock by (entry.Marked t m to) ∷ []) (one_less n some))
 
-  pub cut_entry : (key : ShardRef) (n : ℕ) → Leads old new by (command.CutLease key n) answer → Judges old new by (entry.LeaseCut key n) v log
+  pub cut_entry : (key : ShardRef) (n : ℕ) → Leads old new by (command.CutLease key n) answer
+      → Judges old new by (entry.LeaseCut key n) v log
   cut_entry key n leads = given_by (command.CutLease key n) (entry.LeaseCut key n) leads refl (λ ls. refl)
 
 -- ---- a making, whose origin is to be the one that counts
 
-same_lease : (key : ShardRef) (a b : Origin) → same_entry (entry.LeaseMade key a) (entry.LeaseMade key b) ≡ same_origin a b
+same_lease : (key : ShardRef) (a b : Origin) → same_entry (entry.LeaseMade key a) (entry.LeaseMade key b)
+    ≡ same_origin a b
 same_lease key a b = rw (key_itself key) refl
 
-module _ (s : Facing) (rs : List Row) (ts : List TenureValue) (by : ℕ) (key : ShardRef) (from : Origin) (log : Journal) (st : Stands (leases s rs ts) log) where
-  made_by : judged (told log (entry_line s.clock by (entry.LeaseMade key from)) (entry.LeaseMade key from)) (entry.LeaseMade key from)
-      ≡ lease_verdict (is_listed_key log s.clock key) (is_some (row log key)) (same_origin (counting_origin log key from) from)
-  made_by = then_refuse _ _ _ _ _ (then_refuse _ _ _ _ _ (ap agrees (same_lease key (counting_origin log key from) from)))
+module _ (s : Facing) (rs : List Row) (ts : List TenureValue) (by : ℕ) (key : ShardRef) (from : Origin) (log : Journal)
+    (st : Stands (leases s rs ts) log) where
+  made_by : judged (told log (entry_line s.clock by (entry.LeaseMade key from)) (entry.LeaseMade key from))
+      (entry.LeaseMade key from)
+      ≡ lease_verdict (is_listed_key log s.clock key) (is_some (row log key))
+      (same_origin (counting_origin log key from) from)
+  made_by = then_refuse _ _ _ _ _
+      (then_refuse _ _ _ _ _ (ap agrees (same_lease key (counting_origin log key from) from)))
 
   -- its shard isn't listed
-  pub made_gone : is_listed_key log s.clock key ≡ false → Judges (leases s rs ts) (leases s rs ts) by (entry.LeaseMade key from) (Err (rule.By refusal.ShardGone)) log
-  made_gone gone =
-      (sym (made_by ∙ ap (λ b. lease_verdict b (is_some (row log key)) (same_origin (counting_origin log key from) from)) gone), (tt, st))
+  pub made_gone : is_listed_key log s.clock key ≡ false
+      → Judges (leases s rs ts) (leases s rs ts) by (entry.LeaseMade key from) (Err (rule.By refusal.ShardGone)) log
+  made_gone gone = (
+    sym (made_by ∙ ap (λ b.
+        lease_verdict b (is_some (row log key)) (same_origin (counting_origin log key from) from)) gone),
+    (tt, st),
+  )
 
   -- it has a row
-  pub made_there : is_listed_key log s.clock key ≡ true → is_some (row_of rs key) ≡ true → Judges (leases s rs ts) (leases s rs ts) by (entry.LeaseMade key from) (Err (rule.By refusal.LeaseThere)) log
+  pub made_there : is_listed_key log s.clock key ≡ true → is_some (row_of rs key) ≡ true
+      → Judges (leases s rs ts) (leases s rs ts) by (entry.LeaseMade key from) (Err (rule.By refusal.LeaseThere)) log
   made_there listed there =
-      let has : is_some (row log key) ≡ true = ap is_some (st.row_is key) ∙ there in
-      (sym (made_by ∙ (λ i. lease_verdict (listed i) (has i) (same_origin (counting_origin log key from) from))), (tt, st))
+      let has : is_some (row log key) ≡ true = ap is_some (st.row_is key) ∙ there in (
+        sym (made_by ∙ (λ i. lease_verdict (listed i) (has i) (same_origin (counting_origin log key from) from))),
+        (tt, st),
+      )
 
   -- another origin counts
-  pub made_other : is_listed_key log s.clock key ≡ true → is_some (row_of rs key) ≡ false → same_origin (counting_origin log key from) from ≡ false
+  pub made_other : is_listed_key log s.clock key ≡ true → is_some (row_of rs key) ≡ false
+      → same_origin (counting_origin log key from) from ≡ false
       → Judges (leases s rs ts) (leases s rs ts) by (entry.LeaseMade key from) (Err rule.Entry) log
   made_other listed none other =
       let has : is_some (row log key) ≡ false = ap is_some (st.row_is key) ∙ none in
       (sym (made_by ∙ (λ i. lease_verdict (listed i) (has i) (other i))), (tt, st))
 
   -- the origin that counts, by the rows that are kept
-  reaches_is : (o : Option ℕ) → is_live log key.stream ≡ true → parent_reaches log rs key.stream o ≡ parent_reaches_end log key.stream o
+  reaches_is : (o : Option ℕ) → is_live log key.stream ≡ true
+      → parent_reaches log rs key.stream o ≡ parent_reaches_end log key.stream o
   reaches_is None live = refl
   reaches_is (Some n) live =
       λ i. row_reaches_end (sym (st.row_is (ref key.stream n)) i) (if live i then shard_at log key.stream n else None)
 
-  pub counts_is : (y : Shard) → Some y ≡ option_map shown (live_shard log key) → counting_from log rs key.stream y from ≡ counting_origin log key from
+  pub counts_is : (y : Shard) → Some y ≡ option_map shown (live_shard log key)
+      → counting_from log rs key.stream y from ≡ counting_origin log key from
   counts_is y some =
       let of = is_shard log key y some in
       ap (λ z. counting_from log rs key.stream z from) of.is_shown
-      ∙ (λ i. if reaches_is of.state.parent of.live i || reaches_is of.state.adjacent of.live i then origin.TrimHorizon else from)
-      ∙ ap (λ o. if parent_reaches_end log key.stream (parent_of o) || parent_reaches_end log key.stream (adjacent_of o) then origin.TrimHorizon else from) (sym of.at)
+      ∙ (λ i. if reaches_is of.state.parent of.live i
+      || reaches_is of.state.adjacent of.live i then origin.TrimHorizon else from)
+      ∙ ap (λ o. if parent_reaches_end log key.stream (parent_of o)
+      || parent_reaches_end log key.stream (adjacent_of o) then origin.TrimHorizon else from) (sym of.at)
 
 -- ---- a taking, whose tenure is to be the next
 
-module _ (s : Facing) (rs : List Row) (ts : List TenureValue) (by : ℕ) (key : ShardRef) (t n owner : ℕ) (some : 1 ≤ n) (log : Journal) (st : Stands (leases s rs ts) log) where
-  its_line : GivesLine (take_lease log s.clock by key (n - 1) owner) (plain_line s.clock by (entry.Taken key (taken_count log + 1) n owner))
+module _ (s : Facing) (rs : List Row) (ts : List TenureValue) (by : ℕ) (key : ShardRef) (t n owner : ℕ) (some : 1 ≤ n)
+    (log : Journal) (st : Stands (leases s rs ts) log) where
+  its_line : GivesLine (take_lease log s.clock by key (n - 1) owner)
+      (plain_line s.clock by (entry.Taken key (taken_count log + 1) n owner))
   its_line = gives_line log s.clock by (command.Take key (n - 1) owner) _
-      (λ ls. ap (λ (m : ℕ). plain_line s.clock by (entry.Taken key (taken_count log + 1) m owner) ∷ []) (one_less n some))
+      (λ ls. ap (λ (m : ℕ). plain_line s.clock by (entry.Taken key (taken_count log + 1) m owner) ∷ [])
+      (one_less n some))
 
-  pub taken_refused : (r : Refusal) → Err r ≡ start_answer (row_of rs key) (n - 1) (length ts == last_number) → Judges (leases s rs ts) (leases s rs ts) by (entry.Taken key t n owner) (Err (rule.By r)) log
-  taken_refused r h =
-      (judged_refused (take_lease log s.clock by key (n - 1) owner) (entry.Taken key t n owner) r (take_refused s rs ts by key (n - 1) owner r h log st).0, (tt, st))
+  pub taken_refused : (r : Refusal) → Err r ≡ start_answer (row_of rs key) (n - 1) (length ts == last_number)
+      → Judges (leases s rs ts) (leases s rs ts) by (entry.Taken key t n owner) (Err (rule.By r)) log
+  taken_refused r h = (
+    judged_refused (take_lease log s.clock by key (n - 1) owner) (entry.Taken key t n owner) r
+        (take_refused s rs ts by key (n - 1) owner r h log st).0,
+    (tt, st),
+  )
 
-  pub taken_other : (start : Checkpoint) → Ok start ≡ start_answer (row_of rs key) (n - 1) (length ts == last_number) → t ≢ length ts + 1 → Judges (leases s rs ts) (leases s rs ts) by (entry.Taken key t n owner) (Err rule.Entry) log
+  pub taken_other : (start : Checkpoint) → Ok start ≡ start_answer (row_of rs key) (n - 1) (length ts == last_number)
+      → t ≢ length ts + 1 → Judges (leases s rs ts) (leases s rs ts) by (entry.Taken key t n owner) (Err rule.Entry) log
   taken_other start h other =
       let allowed = take_allowed s rs ts by key (n - 1) owner start h log st in
-      let apart : ((taken_count log + 1) == t) ≡ false = is_other (taken_count log + 1) t (λ e. other (sym e ∙ ap (λ m. m + 1) st.count_is)) in
-      let no : same_entry (entry.Taken key (taken_count log + 1) n owner) (entry.Taken key t n owner) ≡ false = rw (key_itself key, apart) refl in
-      (judged_other (take_lease log s.clock by key (n - 1) owner) (plain_line s.clock by (entry.Taken key (taken_count log + 1) n owner)) (entry.Taken key t n owner) allowed.0 its_line allowed.1 no, (tt, st))
+      let apart : ((taken_count log + 1) == t) ≡ false =
+      is_other (taken_count log + 1) t (λ e. other (sym e ∙ ap (λ m. m + 1) st.count_is)) in
+      let no : same_entry (entry.Taken key (taken_count log + 1) n owner) (entry.Taken key t n owner) ≡ false =
+      rw (key_itself key, apart) refl in (
+        judged_other (take_lease log s.clock by key (n - 1) owner)
+            (plain_line s.clock by (entry.Taken key (taken_count log + 1) n owner)) (entry.Taken key t n owner)
+            allowed.0 its_line allowed.1 no,
+        (tt, st),
+      )
 
-  pub taken_entry : (new : LeasesValue) (answer : Result Reply Refusal) (v : Verdict) → v ≡ answer_verdict answer → t ≡ length ts + 1 → Leads (leases s rs ts) new by (command.Take key (n - 1) owner) answer
+  pub taken_entry : (new : LeasesValue) (answer : Result Reply Refusal) (v : Verdict) → v ≡ answer_verdict answer
+      → t ≡ length ts + 1 → Leads (leases s rs ts) new by (command.Take key (n - 1) owner) answer
       → Judges (leases s rs ts) new by (entry.Taken key t n owner) v log
   taken_entry new answer v is next leads =
       let e : taken_count log + 1 ≡ t = sym (next ∙ ap (λ m. m + 1) (sym st.count_is)) in
-      entry_by (leases s rs ts) new by (command.Take key (n - 1) owner) answer (entry.Taken key t n owner) v log is leads st refl
-      (subst (λ (m : ℕ). GivesLine (take_lease log s.clock by key (n - 1) owner) (plain_line s.clock by (entry.Taken key m n owner))) e its_line)
+      entry_by (leases s rs ts) new by (command.Take key (n - 1) owner) answer (entry.Taken key t n owner)
+      v log is leads st refl
+      (subst (λ (m : ℕ). GivesLine (take_lease log s.clock by key (n - 1) owner)
+      (plain_line s.clock by (entry.Taken key m n owner))) e its_line)

@@ -21,18 +21,21 @@ use Rattle.kcl_audit_streams.proofs.StreamTold.{swapped, then_refuse}
 abbrev live_from : Journal → ℕ → ℕ → List ℕ
 live_from log n count = filter (is_live log) (numbers_from n count)
 
-open_from : (log : Journal) (n : ℕ) (vs : List StreamValue) → AreStreams log n vs → open_of log (live_from log n (length vs)) ≡ open_in vs
+open_from : (log : Journal) (n : ℕ) (vs : List StreamValue) → AreStreams log n vs
+    → open_of log (live_from log n (length vs)) ≡ open_in vs
 open_from log n [] h = refl
 open_from log n (v ∷ vs) h = grind (arith, h.0.lives, h.0.shards_are, open_from log (n + 1) vs h.1)
 
-count_from : (log : Journal) (n : ℕ) (vs : List StreamValue) → AreStreams log n vs → length (live_from log n (length vs)) ≡ live_count vs
+count_from : (log : Journal) (n : ℕ) (vs : List StreamValue) → AreStreams log n vs
+    → length (live_from log n (length vs)) ≡ live_count vs
 count_from log n [] h = refl
 count_from log n (v ∷ vs) h = grind (arith, h.0.lives, count_from log (n + 1) vs h.1)
 
 abbrev named_in : Journal → List ℕ → List ℕ → Bool
 named_in log name ss = is_some (find (λ s. same_name (name_of log s) name) ss)
 
-named_from : (log : Journal) (name : List ℕ) (n : ℕ) (vs : List StreamValue) → AreStreams log n vs → named_in log name (live_from log n (length vs)) ≡ is_named vs name
+named_from : (log : Journal) (name : List ℕ) (n : ℕ) (vs : List StreamValue) → AreStreams log n vs
+    → named_in log name (live_from log n (length vs)) ≡ is_named vs name
 named_from log name n [] h = refl
 named_from log name n (v ∷ vs) h = grind (arith, h.0.lives, h.0.named, named_from log name (n + 1) vs h.1)
 
@@ -54,10 +57,13 @@ module _ (log : Journal) (vs : List StreamValue) (sh : ShowsAll vs log) where
       above n = grind (arith, nat_tests)
 
   -- the making of a stream
-  same_made : (n s count : ℕ) (name : List ℕ) → same_entry (entry.Made n name count) (entry.Made s name count) ≡ (s == n)
+  same_made : (n s count : ℕ) (name : List ℕ) → same_entry (entry.Made n name count) (entry.Made s name count)
+      ≡ (s == n)
   same_made n s count name = rw (list name, is_itself count, swapped n s) (grind arith)
 
-  pub made_told : (clock by s count : ℕ) (name : List ℕ) → judged (told log (entry_line clock by (entry.Made s name count)) (entry.Made s name count)) (entry.Made s name count) ≡ made_verdict vs s name count
+  pub made_told : (clock by s count : ℕ) (name : List ℕ)
+      → judged (told log (entry_line clock by (entry.Made s name count)) (entry.Made s name count))
+      (entry.Made s name count) ≡ made_verdict vs s name count
   made_told clock by s count name =
       then_refuse _ _ _ _ _ (then_refuse _ _ _ _ _ (then_refuse _ _ _ _ _ refl))
       ∙ rw (named_are name, lives_are, open_are, sh.made, same_made (length vs + 1) s count name) (grind arith)

@@ -1,5 +1,6 @@
 -- The verdict of each entry of a stream, by what a judge keeps, and the streams after a good one.
-use Rattle.std.proofs.Common.{◌≡◌, ◌≢◌, ℕ, zero, suc, ◌+◌, ◌-◌, ◌<◌, ◌≤◌, Bool, true, false, List, [], ◌∷◌, ◌++◌, length, slice_get}
+use Rattle.std.proofs.Common.{◌≡◌, ◌≢◌, ℕ, zero, suc, ◌+◌, ◌-◌, ◌<◌, ◌≤◌, Bool, true, false, List, [], ◌∷◌, ◌++◌}
+use Rattle.std.proofs.Common.{length, slice_get}
 use Rattle.std.proofs.Common.{Option, Some, None, refl, sym, ap, subst, ◌∙◌, arith}
 use Rattle.std.specs.Prelude.{if◌then◌else◌, Ok}
 use Rattle.std.proofs.lemmas.List.{length-append}
@@ -13,9 +14,11 @@ use Rattle.kds_defs.specs.Journal.{Line, Journal}
 use Rattle.kds_defs.specs.Legal.{last_clock, told}
 use Rattle.kds_defs.specs.Streams.{made_count}
 use Rattle.kds_defs.specs.Subjects.{stream_of}
-use Rattle.kcl_audit_streams.specs.Judging.{changed_at, changed_of, entry_verdict, in_its, in_live, lacks_room, made_refusal, new_stream, stream_verdict}
+use Rattle.kcl_audit_streams.specs.Judging.{changed_at, changed_of, entry_verdict, in_its, in_live, lacks_room}
+use Rattle.kcl_audit_streams.specs.Judging.{made_refusal, new_stream, stream_verdict}
 use Rattle.kcl_audit_streams.specs.Judging.{streams_after, with_entry}
-use Rattle.kcl_audit_streams.specs.Standing.{AreStreams, IsStream, Shows, ShowsAll, StreamValue, StreamsValue, if_live, stream_at}
+use Rattle.kcl_audit_streams.specs.Standing.{AreStreams, IsStream, Shows, ShowsAll, StreamValue, StreamsValue, if_live}
+use Rattle.kcl_audit_streams.specs.Standing.{stream_at}
 use Rattle.kcl_audit_streams.specs.Verdict.{Verdict, judged}
 use Rattle.kcl_audit_streams.proofs.Changed.{IsOf, agrees_so, is_of, past_by}
 use Rattle.kcl_audit_streams.proofs.Keys.{stream_found, stream_get, stream_none}
@@ -27,17 +30,23 @@ use Rattle.kcl_audit_judge.proofs.LiveStreams.{full_is, made_told}
 -- ---- the verdict
 
 -- an entry of a stream that may be live
-later_told : (w : StreamsValue) (log : Journal) (by : ℕ) (what : Entry) → Shows w log → IsLater what → (o : Option ℕ) → stream_of what ≡ o → o ≢ None
-    → judged (told log (entry_line w.clock by what) what) what ≡ in_its w.streams o (entry_verdict (lacks_room w.streams 1) w.clock what)
+later_told : (w : StreamsValue) (log : Journal) (by : ℕ) (what : Entry) → Shows w log → IsLater what → (o : Option ℕ)
+    → stream_of what ≡ o → o ≢ None
+    → judged (told log (entry_line w.clock by what) what) what
+    ≡ in_its w.streams o (entry_verdict (lacks_room w.streams 1) w.clock what)
 later_told w log by what sh later None is of = absurd (of refl)
 later_told w log by what sh later (Some s) is of = found (stream_at w.streams s) refl
   where
-    some : (v : StreamValue) (b : Bool) → IsStream log s v → v.live ≡ b → judged (told log (entry_line w.clock by what) what) what
+    some : (v : StreamValue) (b : Bool) → IsStream log s v → v.live ≡ b
+        → judged (told log (entry_line w.clock by what) what) what
         ≡ in_live (if b then Some v else None) (entry_verdict (lacks_room w.streams 1) w.clock what)
-    some v true st live = live_told log w.clock by s what later is v (lacks_room w.streams 1) st live sh.order (full_is log w.streams sh.all)
+    some v true st live =
+        live_told log w.clock by s what later is v (lacks_room w.streams 1) st live sh.order
+        (full_is log w.streams sh.all)
     some v false st live = gone_told log w.clock by s what later is (st.lives ∙ live)
 
-    found : (o : Option StreamValue) → stream_at w.streams s ≡ o → judged (told log (entry_line w.clock by what) what) what
+    found : (o : Option StreamValue) → stream_at w.streams s ≡ o
+        → judged (told log (entry_line w.clock by what) what) what
         ≡ in_live (if_live o) (entry_verdict (lacks_room w.streams 1) w.clock what)
     found None at = gone_told log w.clock by s what later is (stream_none w log s sh at).gone
     found (Some v) at = some v v.live (stream_found w log s v sh at) refl
@@ -49,12 +58,14 @@ stream_told w log by what sh of = later_told w log by what sh tt (stream_of what
 
 -- ---- the list of the streams
 
-length-changed : (i : ℕ) (g : StreamValue → StreamValue) (vs : List StreamValue) → length (changed_at i g vs) ≡ length vs
+length-changed : (i : ℕ) (g : StreamValue → StreamValue) (vs : List StreamValue)
+    → length (changed_at i g vs) ≡ length vs
 length-changed i g [] = refl
 length-changed zero g (v ∷ vs) = refl
 length-changed (suc i) g (v ∷ vs) = ap suc (length-changed i g vs)
 
-module _ (log : Journal) (line : Line) (s : ℕ) (order : last_clock log ≤ line.clock) (of : stream_of line.what ≡ Some s) where
+module _ (log : Journal) (line : Line) (s : ℕ) (order : last_clock log ≤ line.clock) (of : stream_of line.what
+    ≡ Some s) where
   -- the streams above it
   above : (n : ℕ) (vs : List StreamValue) → s < n → AreStreams log n vs → AreStreams (line ∷ log) n vs
   above n [] lt h = tt
@@ -63,24 +74,32 @@ module _ (log : Journal) (line : Line) (s : ℕ) (order : last_clock log ≤ lin
       (stream_other log line n v order (of_other line.what s n of apart) h.0, above (n + 1) vs (omega (arith, lt)) h.1)
 
   -- it is changed at its place
-  changed_streams : (n i : ℕ) (vs : List StreamValue) (v : StreamValue) (g : StreamValue → StreamValue) → s ≡ n + i → slice_get vs i ≡ Some v
+  changed_streams : (n i : ℕ) (vs : List StreamValue) (v : StreamValue) (g : StreamValue → StreamValue) → s ≡ n + i
+      → slice_get vs i ≡ Some v
       → IsStream (line ∷ log) s (g v) → AreStreams log n vs
       → AreStreams (line ∷ log) n (changed_at i g vs)
   changed_streams n i [] v g at is next h = tt
   changed_streams n zero (u ∷ vs) v g at is next h =
       let same : v ≡ u = cc in
       let here : s ≡ n = omega (arith, at) in
-      let lt : s < n + 1 = omega (arith, here) in
-      (subst (λ m. IsStream (line ∷ log) m (g u)) here (subst (λ (x : StreamValue). IsStream (line ∷ log) s (g x)) same next), above (n + 1) vs lt h.1)
+      let lt : s < n + 1 = omega (arith, here) in (
+        subst (λ m. IsStream (line ∷ log) m (g u)) here
+            (subst (λ (x : StreamValue). IsStream (line ∷ log) s (g x)) same next),
+        above (n + 1) vs lt h.1,
+      )
   changed_streams n (suc i) (u ∷ vs) v g at is next h =
       let apart : s ≢ n = λ e. omega (arith, at, e) in
-      let on : s ≡ n + 1 + i = omega (arith, at) in
-      (stream_other log line n u order (of_other line.what s n of apart) h.0, changed_streams (n + 1) i vs v g on is next h.1)
+      let on : s ≡ n + 1 + i = omega (arith, at) in (
+        stream_other log line n u order (of_other line.what s n of apart) h.0,
+        changed_streams (n + 1) i vs v g on is next h.1,
+      )
 
   -- a new one comes last
-  last_stream : (n : ℕ) (vs : List StreamValue) (v : StreamValue) → s ≡ n + length vs → IsStream (line ∷ log) s v → AreStreams log n vs
+  last_stream : (n : ℕ) (vs : List StreamValue) (v : StreamValue) → s ≡ n + length vs → IsStream (line ∷ log) s v
+      → AreStreams log n vs
       → AreStreams (line ∷ log) n (vs ++ v ∷ [])
-  last_stream n [] v at next h = let here : s ≡ n = omega (arith, at) in (subst (λ m. IsStream (line ∷ log) m v) here next, tt)
+  last_stream n [] v at next h = let here : s ≡ n = omega (arith, at) in
+      (subst (λ m. IsStream (line ∷ log) m v) here next, tt)
   last_stream n (u ∷ vs) v at next h =
       let apart : s ≢ n = λ e. omega (arith, at, e) in
       let on : s ≡ n + 1 + length vs = omega (arith, at) in
@@ -88,7 +107,8 @@ module _ (log : Journal) (line : Line) (s : ℕ) (order : last_clock log ≤ lin
 
   -- ---- all that is shown
 
-  pub shows_changed : (vs : List StreamValue) (f : StreamValue → Verdict) (g : StreamValue → StreamValue) (o : IsOf vs s f)
+  pub shows_changed : (vs : List StreamValue) (f : StreamValue → Verdict) (g : StreamValue
+      → StreamValue) (o : IsOf vs s f)
       → made_count (line ∷ log) ≡ made_count log → ShowsAll vs log
       → IsStream (line ∷ log) s (g o.value) → ShowsAll (changed_at (s - 1) g vs) (line ∷ log)
   shows_changed vs f g o count sh next =
@@ -103,10 +123,12 @@ module _ (log : Journal) (line : Line) (s : ℕ) (order : last_clock log ≤ lin
             let far : length vs < m = subst (λ n. n < m) len beyond in
             let apart : s ≢ m = λ e. omega (arith, some, within, far, e) in
             fresh_other log line m (sh.others m far) (of_other line.what s m of apart));
-        none = (let apart : s ≢ 0 = λ e. omega (arith, some, e) in fresh_other log line 0 sh.none (of_other line.what s 0 of apart));
+        none = (let apart : s ≢ 0 = λ e. omega (arith, some, e) in
+            fresh_other log line 0 sh.none (of_other line.what s 0 of apart));
       }
 
-  pub shows_made : (vs : List StreamValue) (v : StreamValue) → s ≡ length vs + 1 → made_count (line ∷ log) ≡ made_count log + 1 → ShowsAll vs log
+  pub shows_made : (vs : List StreamValue) (v : StreamValue) → s ≡ length vs + 1
+      → made_count (line ∷ log) ≡ made_count log + 1 → ShowsAll vs log
       → IsStream (line ∷ log) s v → ShowsAll (vs ++ v ∷ []) (line ∷ log)
   shows_made vs v is count sh next =
       let len : length (vs ++ v ∷ []) ≡ length vs + 1 = length-append vs (v ∷ []) in
@@ -119,28 +141,33 @@ module _ (log : Journal) (line : Line) (s : ℕ) (order : last_clock log ≤ lin
             let further : length vs < m = omega (arith, far) in
             let apart : s ≢ m = λ e. omega (arith, is, far, e) in
             fresh_other log line m (sh.others m further) (of_other line.what s m of apart));
-        none = (let apart : s ≢ 0 = λ e. omega (arith, is, e) in fresh_other log line 0 sh.none (of_other line.what s 0 of apart));
+        none = (let apart : s ≢ 0 = λ e. omega (arith, is, e) in
+            fresh_other log line 0 sh.none (of_other line.what s 0 of apart));
       }
 
 -- ---- each good entry
 
-its_stream : (vs : List StreamValue) (log : Journal) (s : ℕ) (f : StreamValue → Verdict) (o : IsOf vs s f) → ShowsAll vs log → IsStream log s o.value
+its_stream : (vs : List StreamValue) (log : Journal) (s : ℕ) (f : StreamValue → Verdict) (o : IsOf vs s f)
+    → ShowsAll vs log → IsStream log s o.value
 its_stream vs log s f o sh =
     let some = o.some in
     let at : 1 + (s - 1) ≡ s = omega (arith, some) in
     subst (λ m. IsStream log m o.value) at (stream_get log 1 (s - 1) vs o.value sh.streams o.at)
 
-all_later : (vs : List StreamValue) (log : Journal) (d by : ℕ) (what : Entry) → ShowsAll vs log → last_clock log ≤ d → IsLater what
+all_later : (vs : List StreamValue) (log : Journal) (d by : ℕ) (what : Entry) → ShowsAll vs log → last_clock log ≤ d
+    → IsLater what
     → (o : Option ℕ) → stream_of what ≡ o → o ≢ None → in_its vs o (entry_verdict (lacks_room vs 1) d what) ≡ Ok tt
     → ShowsAll (changed_of o (with_entry d what) vs) (entry_line d by what ∷ log)
 all_later vs log d by what sh order later None is of good = absurd (of refl)
 all_later vs log d by what sh order later (Some s) is of good =
     let f = entry_verdict (lacks_room vs 1) d what in
     let o = is_of vs s f good in
-    shows_changed log (entry_line d by what) s order is vs f (with_entry d what) o (made_kept what (made_count log) later) sh
+    shows_changed log (entry_line d by what) s order is vs f (with_entry d what) o
+    (made_kept what (made_count log) later) sh
     (stream_step d by s o.value log (lacks_room vs 1) what later is o.good order (its_stream vs log s f o sh))
 
-all_after : (vs : List StreamValue) (log : Journal) (d by : ℕ) (what : Entry) → ShowsAll vs log → last_clock log ≤ d → stream_of what ≢ None
+all_after : (vs : List StreamValue) (log : Journal) (d by : ℕ) (what : Entry) → ShowsAll vs log → last_clock log ≤ d
+    → stream_of what ≢ None
     → stream_verdict vs d what ≡ Ok tt → ShowsAll (streams_after d what vs) (entry_line d by what ∷ log)
 all_after vs log d by (entry.Made s name count) sh order of good =
     let p = past_by (made_refusal vs name count) _ good in
@@ -151,11 +178,14 @@ all_after vs log d by (entry.Made s name count) sh order of good =
 all_after vs log d by what sh order of good = all_later vs log d by what sh order tt (stream_of what) refl of good
 
 -- and the clock
-pub shows_after : (old new : StreamsValue) (log : Journal) (by : ℕ) (what : Entry) → Shows old log → stream_of what ≢ None
+pub shows_after : (old new : StreamsValue) (log : Journal) (by : ℕ) (what : Entry) → Shows old log
+    → stream_of what ≢ None
     → stream_verdict old.streams old.clock what ≡ Ok tt
-    → new.clock ≡ old.clock → new.streams ≡ streams_after old.clock what old.streams → Shows new (entry_line old.clock by what ∷ log)
+    → new.clock ≡ old.clock → new.streams ≡ streams_after old.clock what old.streams
+    → Shows new (entry_line old.clock by what ∷ log)
 shows_after old new log by what sh of good at is =
     record {
-      all = subst (λ xs. ShowsAll xs (entry_line old.clock by what ∷ log)) (sym is) (all_after old.streams log old.clock by what sh.all sh.order of good);
+      all = subst (λ xs. ShowsAll xs (entry_line old.clock by what ∷ log)) (sym is)
+          (all_after old.streams log old.clock by what sh.all sh.order of good);
       order = omega (arith, at);
     }

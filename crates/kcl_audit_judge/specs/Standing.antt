@@ -28,12 +28,15 @@ After v new line log = OnOk v (holding.Stands new (line ∷ log)) × OnErr v (ho
 -- the judgement of an entry by an actor, and what stands after it
 abbrev pub Judges : LeasesValue → LeasesValue → ℕ → Entry → Verdict → Journal → Type 0
 Judges old new by what v log =
-    (v ≡ judged (told log (entry_line old.shards.clock by what) what) what) × After v new (entry_line old.shards.clock by what) log
+    (v ≡ judged (told log (entry_line old.shards.clock by what) what) what)
+    × After v new (entry_line old.shards.clock by what) log
 
 -- so it is for each journal of which rows and tenures are, beside the streams
-abbrev pub JudgesBeside : StreamsValue → List Row → List TenureValue → List Row → List TenureValue → ℕ → Entry → Verdict → Type 0
+abbrev pub JudgesBeside : StreamsValue → List Row → List TenureValue → List Row → List TenureValue → ℕ → Entry → Verdict
+    → Type 0
 JudgesBeside w rows ts rows' ts' by what v =
-    (log : Journal) → HoldBeside w rows ts log → Judges (over w.clock (Shows w) rows ts) (over w.clock (Shows w) rows' ts') by what v log
+    (log : Journal) → HoldBeside w rows ts log
+    → Judges (over w.clock (Shows w) rows ts) (over w.clock (Shows w) rows' ts') by what v log
 
 -- ---- a judge
 

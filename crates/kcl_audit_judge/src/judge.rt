@@ -37,7 +37,8 @@ fn stream_entry(
     requires fit { IsFit what }
     ensures clock { streams.new.clock ≡ streams.old.clock }
     ensures value { IfOk result (λ r. r ≡ stream_verdict streams.old.streams streams.old.clock what) }
-    ensures good { IfOk result (λ r. OnOk r (streams.new.streams ≡ streams_after streams.old.clock what streams.old.streams)) }
+    ensures good { IfOk result
+        (λ r. OnOk r (streams.new.streams ≡ streams_after streams.old.clock what streams.old.streams)) }
     ensures bad { IfOk result (λ r. OnErr r (streams.new.streams ≡ streams.old.streams)) }
     ensures kept { OnErr result (streams.new.streams ≡ streams.old.streams) }
 {
@@ -78,8 +79,10 @@ impl Judge {
         requires fit { IsFit what }
         requires holds { (log : Journal) × Holds self.old log }
         ensures clock { self.new.streams.clock ≡ self.old.streams.clock }
-        ensures value { (log : Journal) → Holds self.old log → IfOk result (λ r. r ≡ judged (told log (entry_line self.old.streams.clock by what) what) what) }
-        ensures good { (log : Journal) → Holds self.old log → IfOk result (λ r. OnOk r (Holds self.new (entry_line self.old.streams.clock by what ∷ log))) }
+        ensures value { (log : Journal) → Holds self.old log
+            → IfOk result (λ r. r ≡ judged (told log (entry_line self.old.streams.clock by what) what) what) }
+        ensures good { (log : Journal) → Holds self.old log
+            → IfOk result (λ r. OnOk r (Holds self.new (entry_line self.old.streams.clock by what ∷ log))) }
         ensures bad { (log : Journal) → Holds self.old log → IfOk result (λ r. OnErr r (Holds self.new log)) }
         ensures kept { (log : Journal) → Holds self.old log → OnErr result (Holds self.new log) }
     {
@@ -111,8 +114,10 @@ impl Judge {
     ) -> Result<Result<(), Rule>, Memory>
         requires fit { IsFit what }
         requires stands { (log : Journal) × Stands self.old log }
-        ensures value { (log : Journal) → Stands self.old log → IfOk result (λ r. r ≡ verdict log (entry_line clock by what)) }
-        ensures good { (log : Journal) → Stands self.old log → IfOk result (λ r. OnOk r (Stands self.new (entry_line clock by what ∷ log))) }
+        ensures value { (log : Journal) → Stands self.old log
+            → IfOk result (λ r. r ≡ verdict log (entry_line clock by what)) }
+        ensures good { (log : Journal) → Stands self.old log
+            → IfOk result (λ r. OnOk r (Stands self.new (entry_line clock by what ∷ log))) }
         ensures bad { (log : Journal) → Stands self.old log → IfOk result (λ r. OnErr r (Stands self.new log)) }
         ensures kept { (log : Journal) → Stands self.old log → OnErr result (Stands self.new log) }
     {

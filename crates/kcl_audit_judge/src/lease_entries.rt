@@ -58,7 +58,9 @@ fn on_take(
 ) -> Result<Result<(), Rule>, Memory>
     requires written { 1 ≤ counter }
     requires stands { (log : Journal) × HoldBeside shards.now table.old book.old.tenures log }
-    ensures judged { IfOk result (JudgesBeside shards.now table.old book.old.tenures table.new book.new.tenures by (entry.Taken key.now no counter owner)) }
+    ensures judged { IfOk result
+        (JudgesBeside shards.now table.old book.old.tenures table.new book.new.tenures by
+        (entry.Taken key.now no counter owner)) }
     ensures kept { OnErr result (Keeps shards.now table.old book.old.tenures table.new book.new.tenures) }
 {
     if let Err(refusal) = take_start(table, key, counter - 1, book.spent()) {
@@ -110,7 +112,9 @@ fn on_read(
     numbers: &Items<Seq>,
 ) -> Result<Result<(), Rule>, Memory>
     requires stands { (log : Journal) × HoldBeside shards.now table.now book.old.tenures log }
-    ensures judged { IfOk result (JudgesBeside shards.now table.now book.old.tenures table.now book.new.tenures by (entry.Read no limit end numbers.now)) }
+    ensures judged { IfOk result
+        (JudgesBeside shards.now table.now book.old.tenures table.now book.new.tenures by
+        (entry.Read no limit end numbers.now)) }
     ensures kept { OnErr result (Keeps shards.now table.now book.old.tenures table.now book.new.tenures) }
 {
     let _ = table;
@@ -159,7 +163,8 @@ fn counts(
     shard: &Shard,
     from: Origin,
 ) -> bool
-    ensures { (log : Journal) → Shows shards.now log → result ≡ same_origin (counting_from log table.now stream shard.now from) from }
+    ensures { (log : Journal) → Shows shards.now log
+        → result ≡ same_origin (counting_from log table.now stream shard.now from) from }
 {
     // The origin is borrowed because it is used more than once.
     let from = &from;
@@ -176,7 +181,9 @@ fn on_make(
     key: &ShardRef,
     from: &Origin,
 ) -> Result<Result<(), Rule>, Memory>
-    ensures judged { IfOk result (JudgesBeside shards.now table.old book.now.tenures table.new book.now.tenures by (entry.LeaseMade key.now from.now)) }
+    ensures judged { IfOk result
+        (JudgesBeside shards.now table.old book.now.tenures table.new book.now.tenures by
+        (entry.LeaseMade key.now from.now)) }
     ensures kept { OnErr result (table.new ≡ table.old) }
 {
     let _ = book;
@@ -206,7 +213,8 @@ fn on_renew(
     counter: u64,
 ) -> Result<(), Rule>
     requires { 1 ≤ counter }
-    ensures { JudgesBeside shards.now table.old book.now.tenures table.new book.now.tenures by (entry.Renewed tenure counter) result }
+    ensures { JudgesBeside shards.now table.old book.now.tenures table.new book.now.tenures by
+        (entry.Renewed tenure counter) result }
 {
     by_answer(&renew(shards, table, book, by, tenure, counter - 1))
 }
@@ -221,7 +229,8 @@ fn on_free(
     counter: u64,
 ) -> Result<(), Rule>
     requires { 1 ≤ counter }
-    ensures { JudgesBeside shards.now table.old book.now.tenures table.new book.now.tenures by (entry.Freed tenure counter) result }
+    ensures { JudgesBeside shards.now table.old book.now.tenures table.new book.now.tenures by
+        (entry.Freed tenure counter) result }
 {
     by_answer(&free(shards, table, book, by, tenure, counter - 1))
 }
@@ -234,7 +243,8 @@ fn on_open(
     by: u32,
     tenure: TenureNo,
 ) -> Result<(), Rule>
-    ensures { JudgesBeside shards.now table.now book.old.tenures table.now book.new.tenures by (entry.Opened tenure) result }
+    ensures { JudgesBeside shards.now table.now book.old.tenures table.now book.new.tenures by (entry.Opened tenure)
+        result }
 {
     by_answer(&open(shards, table, book, by, tenure))
 }
@@ -248,7 +258,8 @@ fn on_give(
     by: u32,
     tenure: TenureNo,
 ) -> Result<(), Rule>
-    ensures { JudgesBeside shards.now table.now book.old.tenures table.now book.new.tenures by (entry.Given tenure) result }
+    ensures { JudgesBeside shards.now table.now book.old.tenures table.now book.new.tenures by (entry.Given tenure)
+        result }
 {
     let _ = table;
     by_answer(&give(shards, book, by, tenure))
@@ -265,7 +276,8 @@ fn on_mark(
     to: Target,
 ) -> Result<(), Rule>
     requires { 1 ≤ counter }
-    ensures { JudgesBeside shards.now table.old book.now.tenures table.new book.now.tenures by (entry.Marked tenure counter to) result }
+    ensures { JudgesBeside shards.now table.old book.now.tenures table.new book.now.tenures by
+        (entry.Marked tenure counter to) result }
 {
     by_answer(&mark(shards, table, book, by, tenure, counter - 1, to))
 }
@@ -279,7 +291,8 @@ fn on_cut(
     key: &ShardRef,
     counter: u64,
 ) -> Result<(), Rule>
-    ensures { JudgesBeside shards.now table.old book.now.tenures table.new book.now.tenures by (entry.LeaseCut key.now counter) result }
+    ensures { JudgesBeside shards.now table.old book.now.tenures table.new book.now.tenures by
+        (entry.LeaseCut key.now counter) result }
 {
     let _ = book;
     by_answer(&cut(shards, table, key, counter))
@@ -298,7 +311,8 @@ pub fn entry(
     requires fit { IsFit what.now }
     requires lease { stream_of what.now ≡ None }
     requires stands { (log : Journal) × HoldBeside shards.now table.old book.old.tenures log }
-    ensures judged { IfOk result (JudgesBeside shards.now table.old book.old.tenures table.new book.new.tenures by what.now) }
+    ensures judged { IfOk result
+        (JudgesBeside shards.now table.old book.old.tenures table.new book.new.tenures by what.now) }
     ensures kept { OnErr result (Keeps shards.now table.old book.old.tenures table.new book.new.tenures) }
 {
     match what {

@@ -1,5 +1,6 @@
 -- How many streams, shards and tenures a legal journal has made, at most.
-use Rattle.std.proofs.Common.{◌≡◌, ℕ, zero, suc, ◌+◌, ◌^◌, ◌<◌, ◌≤◌, Bool, true, false, List, [], ◌∷◌, length, refl, ap, arith}
+use Rattle.std.proofs.Common.{◌≡◌, ℕ, zero, suc, ◌+◌, ◌^◌, ◌<◌, ◌≤◌, Bool, true, false, List, [], ◌∷◌, length, refl, ap}
+use Rattle.std.proofs.Common.{arith}
 use Rattle.std.specs.Prelude.{◌==◌, slice_get, if◌then◌else◌, Option, Some, None}
 use Rattle.std.specs.List.{filter}
 use Rattle.std.proofs.lemmas.Bool.Decides.{nat_tests}
@@ -13,7 +14,8 @@ use Rattle.kds_defs.specs.Journal.{Line, Journal}
 use Rattle.kds_defs.specs.Legal.{IsInRange, IsLegal, told}
 use Rattle.kds_defs.specs.Leases.{taken_count, taken_count_after}
 use Rattle.kds_defs.specs.Records.{next_number}
-use Rattle.kds_defs.specs.Shards.{ShardState, closing_of, home, home_among, is_listed, is_listed_state, is_open, shard_at, shards, shards_after}
+use Rattle.kds_defs.specs.Shards.{ShardState, closing_of, home, home_among, is_listed, is_listed_state, is_open}
+use Rattle.kds_defs.specs.Shards.{shard_at, shards, shards_after}
 use Rattle.kds_defs.specs.StreamCommands.{last_number}
 use Rattle.kds_defs.specs.Streams.{live_streams, made_count, made_count_after, name_of, same_name, stream_named}
 use Rattle.kds_defs.specs.Tiled.{AreNumbered}
@@ -29,7 +31,8 @@ one_more n h le = grind (arith, nat_tests)
 
 -- ---- streams and tenures
 
-made_by : (log : Journal) (line : Line) (e : Entry) (reply : Reply) → told log line e ≡ Accepted (line ∷ []) reply → made_count log ≤ last_number
+made_by : (log : Journal) (line : Line) (e : Entry) (reply : Reply) → told log line e ≡ Accepted (line ∷ []) reply
+    → made_count log ≤ last_number
     → made_count_after e (made_count log) ≤ last_number
 made_by log line (entry.Made s name count) reply h le =
     let a = passes _ _ _ _ reply h in
@@ -42,7 +45,8 @@ pub made_fits : (log : Journal) → IsLegal log → made_count log ≤ last_numb
 made_fits [] legal = omega arith
 made_fits (line ∷ log) legal = made_by log line line.what legal.0.reply legal.0.allowed (made_fits log legal.1)
 
-taken_by : (log : Journal) (line : Line) (e : Entry) (reply : Reply) → told log line e ≡ Accepted (line ∷ []) reply → taken_count log ≤ last_number
+taken_by : (log : Journal) (line : Line) (e : Entry) (reply : Reply) → told log line e ≡ Accepted (line ∷ []) reply
+    → taken_count log ≤ last_number
     → taken_count_after e (taken_count log) ≤ last_number
 taken_by log line (entry.Taken key t counter owner) reply h le =
     let f = found _ _ _ _ reply h in
@@ -59,16 +63,20 @@ taken_fits (line ∷ log) legal = taken_by log line line.what legal.0.reply lega
 -- the number of a stream that a name finds
 pub named_fits : (log : Journal) (name : List ℕ) (s : ℕ) → IsLegal log → stream_named log name ≡ Some s → s < 2 ^ 64
 named_fits log name s legal h =
-    let made : s ≤ made_count log = found_is (λ n. n ≤ made_count log) (λ n. same_name (name_of log n) name) (live_streams log) s (live_below log) h in
+    let made : s ≤ made_count log =
+    found_is (λ n. n ≤ made_count log) (λ n. same_name (name_of log n) name) (live_streams log) s (live_below log)
+    h in
     omega (arith, made, made_fits log legal)
 
 -- ---- shards
 
-either_fits : (b : Bool) (xs ys : List ShardState) → (b ≡ true → length xs ≤ 2 ^ 64) → length ys ≤ 2 ^ 64 → length (if b then xs else ys) ≤ 2 ^ 64
+either_fits : (b : Bool) (xs ys : List ShardState) → (b ≡ true → length xs ≤ 2 ^ 64) → length ys ≤ 2 ^ 64
+    → length (if b then xs else ys) ≤ 2 ^ 64
 either_fits true xs ys h g = h refl
 either_fits false xs ys h g = g
 
-shards_by : (log : Journal) (line : Line) (e : Entry) (reply : Reply) (s start : ℕ) → IsInRange e → told log line e ≡ Accepted (line ∷ []) reply
+shards_by : (log : Journal) (line : Line) (e : Entry) (reply : Reply) (s start : ℕ) → IsInRange e
+    → told log line e ≡ Accepted (line ∷ []) reply
     → length (shards log s) ≤ 2 ^ 64 → length (shards_after line e s start (shards log s)) ≤ 2 ^ 64
 shards_by log line (entry.Made stream name count) reply s start range h le =
     either_fits (stream == s) _ _ (λ is. omega (arith, length_made count start, range.1)) le
@@ -81,7 +89,12 @@ shards_by log line (entry.Split stream sh at number low high) reply s start rang
     let g = passes _ _ _ _ reply f.1 in
     let room = not_past (length (shards log stream) + 1) last_number (or_parts _ _ g.0).0 in
     either_fits (stream == s) _ _
-    (λ is. omega (arith, room, ap (λ k. length (shards log k)) (equal_so stream s is), length_split sh at start (closing_of line number) (shards log s))) le
+    (λ is. omega (
+      arith,
+      room,
+      ap (λ k. length (shards log k)) (equal_so stream s is),
+      length_split sh at start (closing_of line number) (shards log s),
+    )) le
 shards_by log line (entry.Merged stream sh other number child) reply s start range h le =
     let a = passes _ _ _ _ reply h in
     let b = passes _ _ _ _ reply a.1 in
@@ -90,13 +103,19 @@ shards_by log line (entry.Merged stream sh other number child) reply s start ran
     let f = passes _ _ _ _ reply e.1 in
     let room = not_past (length (shards log stream)) last_number (or_parts _ _ f.0).0 in
     either_fits (stream == s) _ _
-    (λ is. omega (arith, room, ap (λ k. length (shards log k)) (equal_so stream s is), length_merged sh other start (closing_of line number) (shards log s))) le
+    (λ is. omega (
+      arith,
+      room,
+      ap (λ k. length (shards log k)) (equal_so stream s is),
+      length_merged sh other start (closing_of line number) (shards log s),
+    )) le
 shards_by log line _ reply s start range h le = le
 
 pub shards_fit : (log : Journal) → IsLegal log → (s : ℕ) → length (shards log s) ≤ 2 ^ 64
 shards_fit [] legal s = omega arith
 shards_fit (line ∷ log) legal s =
-    shards_by log line line.what legal.0.reply s (next_number (line ∷ log) s) legal.0.in_range legal.0.allowed (shards_fit log legal.1 s)
+    shards_by log line line.what legal.0.reply s (next_number (line ∷ log) s) legal.0.in_range legal.0.allowed
+    (shards_fit log legal.1 s)
 
 -- the number of a listed shard
 below_length : (sh : ℕ) (xs : List ShardState) (x : ShardState) → slice_get xs sh ≡ Some x → sh < length xs
@@ -104,18 +123,22 @@ below_length sh [] x h = absurd cc
 below_length zero (y ∷ xs) x h = omega arith
 below_length (suc sh) (y ∷ xs) x h = omega (arith, below_length sh xs x h)
 
-there_below : (log : Journal) (c s sh : ℕ) (o : Option ShardState) → shard_at log s sh ≡ o → is_listed_state log c s o ≡ true → sh < length (shards log s)
+there_below : (log : Journal) (c s sh : ℕ) (o : Option ShardState) → shard_at log s sh ≡ o
+    → is_listed_state log c s o ≡ true → sh < length (shards log s)
 there_below log c s sh None is h = absurd cc
 there_below log c s sh (Some x) is h = below_length sh (shards log s) x is
 
 pub listed_fits : (log : Journal) (c s sh : ℕ) → IsLegal log → is_listed log c s sh ≡ true → sh < 2 ^ 64
-listed_fits log c s sh legal h = omega (arith, there_below log c s sh (shard_at log s sh) refl h, shards_fit log legal s)
+listed_fits log c s sh legal h =
+    omega (arith, there_below log c s sh (shard_at log s sh) refl h, shards_fit log legal s)
 
 -- the home of a key
-home_below : (xs : List ShardState) (n k m : ℕ) → AreNumbered n xs → n + length xs ≤ m → 0 < m → home_among (filter is_open xs) k < m
+home_below : (xs : List ShardState) (n k m : ℕ) → AreNumbered n xs → n + length xs ≤ m → 0 < m
+    → home_among (filter is_open xs) k < m
 home_below [] n k m numbers le some = some
 home_below (x ∷ xs) n k m numbers le some =
     grind (arith, numbers.0, le, home_below xs (n + 1) k m numbers.1 (omega (arith, le)) some)
 
-pub home_fits : (log : Journal) (s k : ℕ) → AreNumbered 0 (shards log s) → length (shards log s) ≤ 2 ^ 64 → home log s k < 2 ^ 64
+pub home_fits : (log : Journal) (s k : ℕ) → AreNumbered 0 (shards log s) → length (shards log s) ≤ 2 ^ 64
+    → home log s k < 2 ^ 64
 home_fits log s k numbers le = home_below (shards log s) 0 k (2 ^ 64) numbers (omega (arith, le)) (omega arith)

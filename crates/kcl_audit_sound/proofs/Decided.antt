@@ -23,7 +23,8 @@ use Rattle.kds_defs.specs.Streams.{is_live, trim_floor}
 use Rattle.kds_defs.specs.Tiled.{AreNumbered}
 use Rattle.kds_defs.proofs.Decisions.{holds_so}
 use Rattle.kds_defs.proofs.Walk.{Outcome, Refuses, Answers, Adds, Stores, Scales, accepted}
-use Rattle.kds_defs.proofs.Walk.{Tells, Creates, Deletes, Puts, Splits, Merges, Keeps, Enforces, Makes, Takes, Renews, Frees, Opens, Reads, Gives, Marks, Cuts}
+use Rattle.kds_defs.proofs.Walk.{Tells, Creates, Deletes, Puts, Splits, Merges, Keeps, Enforces, Makes, Takes, Renews}
+use Rattle.kds_defs.proofs.Walk.{Frees, Opens, Reads, Gives, Marks, Cuts}
 use Rattle.kcl_laws.proofs.Added.{not_past}
 use Rattle.kcl_laws.specs.Recorded.{AreDrawn, RiseBetween}
 use Rattle.kcl_script_fields.specs.Commands.{AreNumbers}
@@ -36,10 +37,12 @@ use Rattle.kcl_audit_sound.proofs.Counts.{listed_fits, made_fits, named_fits, sh
 use Rattle.kcl_audit_sound.proofs.Streams.{AreTold, IsBy, line_told, plan_at, put_told, puts_told, steps_told}
 
 -- the counter after a write, where the row's isn't the last number
-next_counter : (n counter : ℕ) → not (n == counter) ≡ false → (n == last_number) ≡ false → counter < 2 ^ 64 → (1 ≤ counter + 1) × (counter + 1 < 2 ^ 64)
+next_counter : (n counter : ℕ) → not (n == counter) ≡ false → (n == last_number) ≡ false → counter < 2 ^ 64
+    → (1 ≤ counter + 1) × (counter + 1 < 2 ^ 64)
 next_counter n counter same free fits = (omega arith, grind (arith, nat_tests))
 
-row_counter : (n counter : ℕ) → not (n == counter) ≡ false → (n == last_number) ≡ false → counter < 2 ^ 64 → (1 ≤ n + 1) × (n + 1 < 2 ^ 64)
+row_counter : (n counter : ℕ) → not (n == counter) ≡ false → (n == last_number) ≡ false → counter < 2 ^ 64
+    → (1 ≤ n + 1) × (n + 1 < 2 ^ 64)
 row_counter n counter same free fits = (omega arith, grind (arith, nat_tests))
 
 after_free : (n : ℕ) → (n == last_number) ≡ false → n ≤ last_number → n + 1 < 2 ^ 64
@@ -76,7 +79,8 @@ module _
     (numbered : (log : Journal) (s : ℕ) → AreNumbered 0 (shards log s))
     (drawn : (log : Journal) → IsLegal log → (s sh : ℕ) → AreDrawn log s sh)
     (next_fits : (log : Journal) → IsLegal log → (s : ℕ) → next_number log s ≤ last_number) where
-  batch_fits : (log : Journal) (c s sh place limit : ℕ) → IsLegal log → AllByRecursion Is64 (numbers_of (batch log c s sh place limit))
+  batch_fits : (log : Journal) (c s sh place limit : ℕ) → IsLegal log
+      → AllByRecursion Is64 (numbers_of (batch log c s sh place limit))
   batch_fits log c s sh place limit legal =
       let next = next_number log s in
       let left = left_among (trim_floor log c s) place (records log s sh) in
@@ -87,32 +91,50 @@ module _
       (below_next (start_of (shard_at log s sh)) (records log s sh) next (drawn log legal s sh)))))
 
   -- the line of a command that is told in one
-  told_one : (log : Journal) (c by : ℕ) (what : Command) (line : Line) (r : Reply) → Tells log c by what line r → IsLegal log → IsBy c by
+  told_one : (log : Journal) (c by : ℕ) (what : Command) (line : Line) (r : Reply) → Tells log c by what line r
+      → IsLegal log → IsBy c by
       → IsLawfulCommand what → AreNumbers what → IsEntryLine VERSION (told_by line)
-  told_one log c by _ _ _ (Creates name count fits) legal is lawful bits = line_told c by _ is (after_free _ fits (made_fits log legal), lawful)
-  told_one log c by _ _ _ (Deletes name s named) legal is lawful bits = line_told c by _ is (named_fits log name s legal named)
+  told_one log c by _ _ _ (Creates name count fits) legal is lawful bits =
+      line_told c by _ is (after_free _ fits (made_fits log legal), lawful)
+  told_one log c by _ _ _ (Deletes name s named) legal is lawful bits =
+      line_told c by _ is (named_fits log name s legal named)
   told_one log c by _ _ _ (Puts name item s named fits) legal is lawful bits =
-      put_told log c by s item is (named_fits log name s legal named) (numbered log s) (shards_fit log legal s) (next_fits log legal s) lawful.1
+      put_told log c by s item is (named_fits log name s legal named) (numbered log s) (shards_fit log legal s)
+      (next_fits log legal s) lawful.1
   told_one log c by _ _ _ (Splits name sh at s named listed fits) legal is lawful bits =
       let room = not_past (length (shards log s) + 1) last_number (or_parts _ _ fits).0 in
       line_told c by _ is (
         named_fits log name s legal named,
-        (listed_fits log c s sh legal (holds_so _ listed), (lawful.1, (omega (arith, next_fits log legal s), (omega (arith, room), omega (arith, room))))),
+        (
+          listed_fits log c s sh legal (holds_so _ listed),
+          (lawful.1, (omega (arith, next_fits log legal s), (omega (arith, room), omega (arith, room)))),
+        ),
       )
   told_one log c by _ _ _ (Merges name sh other s named listed fits) legal is lawful bits =
       let room = not_past (length (shards log s)) last_number (or_parts _ _ fits).0 in
       let both = both_hold _ _ listed in
       line_told c by _ is (
         named_fits log name s legal named,
-        (listed_fits log c s sh legal both.0, (listed_fits log c s other legal both.1, (omega (arith, next_fits log legal s), omega (arith, room)))),
+        (
+          listed_fits log c s sh legal both.0,
+          (listed_fits log c s other legal both.1, (omega (arith, next_fits log legal s), omega (arith, room))),
+        ),
       )
   told_one log c by _ _ _ (Keeps name wanted raise s named fits) legal is lawful bits =
       line_told c by _ is (named_fits log name s legal named, lawful.1)
-  told_one log c by _ _ _ (Enforces name on s named) legal is lawful bits = line_told c by _ is (named_fits log name s legal named)
-  told_one log c by _ _ _ (Makes key from) legal is lawful bits = line_told c by _ is (bits.0, origin_counts (follows_parent log key) from bits.1)
+  told_one log c by _ _ _ (Enforces name on s named) legal is lawful bits =
+      line_told c by _ is (named_fits log name s legal named)
+  told_one log c by _ _ _ (Makes key from) legal is lawful bits =
+      line_told c by _ is (bits.0, origin_counts (follows_parent log key) from bits.1)
   told_one log c by _ _ _ (Takes key counter owner r there same fits) legal is lawful bits =
       let free = or_parts _ _ fits in
-      line_told c by _ is (bits.0, (after_free _ free.1 (taken_fits log legal), (row_counter _ counter same free.0 bits.1.0, (lawful, bits.1.1))))
+      line_told c by _ is (
+        bits.0,
+        (
+          after_free _ free.1 (taken_fits log legal),
+          (row_counter _ counter same free.0 bits.1.0, (lawful, bits.1.1)),
+        ),
+      )
   told_one log c by _ _ _ (Renews t counter T begun same fits) legal is lawful bits =
       line_told c by _ is (bits.0, next_counter _ counter same fits bits.1)
   told_one log c by _ _ _ (Frees t counter T begun same fits) legal is lawful bits =
@@ -122,21 +144,29 @@ module _
       line_told c by _ is (bits.0, (lawful, batch_fits log c _ _ _ limit legal))
   told_one log c by _ _ _ (Gives t T begun) legal is lawful bits = line_told c by _ is bits
   told_one log c by _ _ _ (Marks t counter to T begun same fits) legal is lawful bits =
-      line_told c by (entry.Marked t (counter + 1) to) is (bits.0, (next_counter _ counter same fits bits.1.0, bits.1.1))
+      line_told c by (entry.Marked t (counter + 1) to) is (
+        bits.0,
+        (next_counter _ counter same fits bits.1.0, bits.1.1),
+      )
   told_one log c by _ _ _ (Cuts key counter) legal is lawful bits = line_told c by _ is (bits.0, bits.1)
 
-  told_of : (log : Journal) (c by : ℕ) (what : Command) (lines : List Line) (answer : Result Reply Refusal) → Outcome log c by what lines answer
+  told_of : (log : Journal) (c by : ℕ) (what : Command) (lines : List Line) (answer : Result Reply Refusal)
+      → Outcome log c by what lines answer
       → IsLegal log → IsBy c by → IsLawfulCommand what → AreNumbers what → AreTold lines
   told_of log c by _ _ _ (Refuses what r may) legal is lawful bits = tt
   told_of log c by _ _ _ (Answers what r shows) legal is lawful bits = tt
-  told_of log c by _ _ _ (Adds what line r tells) legal is lawful bits = (told_one log c by what line r tells legal is lawful bits, tt)
+  told_of log c by _ _ _ (Adds what line r tells) legal is lawful bits =
+      (told_one log c by what line r tells legal is lawful bits, tt)
   told_of log c by _ _ _ (Stores name items s named fits) legal is lawful bits =
-      puts_told items log c by s is (named_fits log name s legal named) (numbered log s) (shards_fit log legal s) (not_past _ _ fits) lawful.1.each
+      puts_told items log c by s is (named_fits log name s legal named) (numbered log s) (shards_fit log legal s)
+      (not_past _ _ fits) lawful.1.each
   told_of log c by _ _ _ (Scales name goal s named few fits) legal is lawful bits =
       let each = or_parts _ _ fits in
-      steps_told numbered _ log c by s is (named_fits log name s legal named) (plan_at _ goal lawful.1.0 lawful.1.1) (not_past _ _ each.0) (not_past _ _ each.1)
+      steps_told numbered _ log c by s is (named_fits log name s legal named) (plan_at _ goal lawful.1.0 lawful.1.1)
+      (not_past _ _ each.0) (not_past _ _ each.1)
 
-  pub told_lines : (log : Journal) (c by : ℕ) (what : Command) (lines : List Line) (reply : Reply) → IsLegal log → IsBy c by → IsLawfulCommand what
+  pub told_lines : (log : Journal) (c by : ℕ) (what : Command) (lines : List Line) (reply : Reply) → IsLegal log
+      → IsBy c by → IsLawfulCommand what
       → AreNumbers what
       → decide log c by what ≡ Accepted lines reply → AreTold lines
   told_lines log c by what lines reply legal is lawful bits h =

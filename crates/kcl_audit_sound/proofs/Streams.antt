@@ -1,5 +1,6 @@
 -- The lines of puts and of scalings can be told.
-use Rattle.std.proofs.Common.{◌≡◌, ℕ, ◌+◌, ◌-◌, ◌*◌, ◌^◌, ◌<◌, ◌≤◌, Bool, true, false, List, [], ◌∷◌, ◌++◌, length, map, refl, ap, arith}
+use Rattle.std.proofs.Common.{◌≡◌, ℕ, ◌+◌, ◌-◌, ◌*◌, ◌^◌, ◌<◌, ◌≤◌, Bool, true, false, List, [], ◌∷◌, ◌++◌, length, map}
+use Rattle.std.proofs.Common.{refl, ap, arith}
 use Rattle.std.specs.Prelude.{chars, if◌then◌else◌}
 use Rattle.std.specs.List.{AllByRecursion}
 use lib.Utf8.{encode, encodes}
@@ -36,7 +37,8 @@ pub record IsBy (c by : ℕ) : Type 0 where
   pub clock : c < 2 ^ 62
   pub actor : by < 2 ^ 32
 
-pub line_told : (c by : ℕ) (what : Entry) → IsBy c by → IsTellable VERSION what → IsEntryLine VERSION (record { clock = c; by = by; what = what })
+pub line_told : (c by : ℕ) (what : Entry) → IsBy c by → IsTellable VERSION what
+    → IsEntryLine VERSION (record { clock = c; by = by; what = what })
 line_told c by what is tellable = record { clock = is.clock; by = is.actor; what = tellable }
 
 -- ---- puts
@@ -44,7 +46,13 @@ line_told c by what is tellable = record { clock = is.clock; by = is.actor; what
 -- so many characters have at most four times as many bytes
 few_bytes : (cs : List ℕ) → length (encodes cs) ≤ 4 * length cs
 few_bytes [] = omega arith
-few_bytes (c ∷ cs) = omega (arith, few_bytes cs, length-append (encode c) (encodes cs), length-encode c, (len_utf8_bounds c).1)
+few_bytes (c ∷ cs) = omega (
+  arith,
+  few_bytes cs,
+  length-append (encode c) (encodes cs),
+  length-encode c,
+  (len_utf8_bounds c).1,
+)
 
 key_sizes : (key : List ℕ) → IsPartitionKey key → (1 ≤ length key) × (length key ≤ 1024)
 key_sizes key is =
@@ -56,10 +64,15 @@ key_sizes key is =
 pub sizes : (item : NewItem) → IsItem item → AreSizes VERSION (length item.payload) (length item.key)
 sizes item is = (key_sizes item.key is.key, is.bytes)
 
-pub put_told : (log : Journal) (c by s : ℕ) (item : NewItem) → IsBy c by → s < 2 ^ 64 → AreNumbered 0 (shards log s) → length (shards log s) ≤ 2 ^ 64
-    → next_number log s ≤ last_number → IsItem item → IsEntryLine VERSION (told_by (put_line log c by s (next_number log s) item))
+pub put_told : (log : Journal) (c by s : ℕ) (item : NewItem) → IsBy c by → s < 2 ^ 64 → AreNumbered 0 (shards log s)
+    → length (shards log s) ≤ 2 ^ 64
+    → next_number log s ≤ last_number → IsItem item
+    → IsEntryLine VERSION (told_by (put_line log c by s (next_number log s) item))
 put_told log c by s item is stream numbers few next lawful =
-    line_told c by _ is (stream, (home_fits log s item.hash numbers few, (omega (arith, next), (lawful.hash, sizes item lawful))))
+    line_told c by _ is (
+      stream,
+      (home_fits log s item.hash numbers few, (omega (arith, next), (lawful.hash, sizes item lawful))),
+    )
 
 -- the line of an item that isn't held back, and the lines of it and of those that follow
 abbrev next_line : Journal → ℕ → ℕ → ℕ → NewItem → Line
@@ -71,18 +84,22 @@ lines_from back log c by s item items =
     then put_lines log c by s items
     else next_line log c by s item ∷ put_lines (next_line log c by s item ∷ log) c by s items
 
-item_told : (back : Bool) (item : NewItem) (items : List NewItem) (log : Journal) (c by s : ℕ) → next_number log s + length (lines_from back log c by s item items) ≤ last_number
+item_told : (back : Bool) (item : NewItem) (items : List NewItem) (log : Journal) (c by s : ℕ)
+    → next_number log s + length (lines_from back log c by s item items) ≤ last_number
     → (next_number log s + length (put_lines log c by s items) ≤ last_number → AreTold (put_lines log c by s items))
     → (next_number log s ≤ last_number → IsEntryLine VERSION (told_by (next_line log c by s item)))
-    → (next_number (next_line log c by s item ∷ log) s + length (put_lines (next_line log c by s item ∷ log) c by s items) ≤ last_number
+    → (next_number (next_line log c by s item ∷ log) s
+    + length (put_lines (next_line log c by s item ∷ log) c by s items) ≤ last_number
     → AreTold (put_lines (next_line log c by s item ∷ log) c by s items))
     → AreTold (lines_from back log c by s item items)
 item_told true item items log c by s fits skip one take = skip fits
 item_told false item items log c by s fits skip one take =
     (one (omega (arith, fits)), take (omega (arith, fits, draws_one s (next_number log s) (next_number log s) refl)))
 
-pub puts_told : (items : List NewItem) (log : Journal) (c by s : ℕ) → IsBy c by → s < 2 ^ 64 → AreNumbered 0 (shards log s) → length (shards log s) ≤ 2 ^ 64
-    → next_number log s + length (put_lines log c by s items) ≤ last_number → AllByRecursion IsItem items → AreTold (put_lines log c by s items)
+pub puts_told : (items : List NewItem) (log : Journal) (c by s : ℕ) → IsBy c by → s < 2 ^ 64
+    → AreNumbered 0 (shards log s) → length (shards log s) ≤ 2 ^ 64
+    → next_number log s + length (put_lines log c by s items) ≤ last_number → AllByRecursion IsItem items
+    → AreTold (put_lines log c by s items)
 puts_told [] log c by s is stream numbers few fits lawful = tt
 puts_told (item ∷ items) log c by s is stream numbers few fits lawful =
     item_told (is_held_back log c s item) item items log c by s fits
@@ -101,21 +118,28 @@ abbrev step_line : Journal → ℕ → ℕ → ℕ → ScaleStep → Line
 step_line log c by s step = plain_line c by (step_entry log s step)
 
 -- the shards after a merge and after a split of a scaling
-many_join : (log : Journal) (c by s b : ℕ) → length (shards (step_line log c by s (Join b) ∷ log) s) ≡ length (shards log s) + 1
+many_join : (log : Journal) (c by s b : ℕ) → length (shards (step_line log c by s (Join b) ∷ log) s)
+    ≡ length (shards log s) + 1
 many_join log c by s b = rw (is_itself s) (length_merged _ _ _ _ (shards log s))
 
-many_cut : (log : Journal) (c by s b : ℕ) → length (shards (step_line log c by s (Cut b) ∷ log) s) ≡ length (shards log s) + 2
+many_cut : (log : Journal) (c by s b : ℕ) → length (shards (step_line log c by s (Cut b) ∷ log) s)
+    ≡ length (shards log s) + 2
 many_cut log c by s b = rw (is_itself s) (length_split _ _ _ _ (shards log s))
 
 module _ (numbered : (log : Journal) (s : ℕ) → AreNumbered 0 (shards log s)) where
-  pub steps_told : (steps : List ScaleStep) (log : Journal) (c by s : ℕ) → IsBy c by → s < 2 ^ 64 → AllByRecursion IsAtKey steps
-      → next_number log s + length steps ≤ last_number → length (shards log s) + made_by steps ≤ last_number → AreTold (step_lines log c by s steps)
+  pub steps_told : (steps : List ScaleStep) (log : Journal) (c by s : ℕ) → IsBy c by → s < 2 ^ 64
+      → AllByRecursion IsAtKey steps
+      → next_number log s + length steps ≤ last_number → length (shards log s) + made_by steps ≤ last_number
+      → AreTold (step_lines log c by s steps)
   steps_told [] log c by s is stream at fits room = tt
   steps_told (Join b ∷ steps) log c by s is stream at fits room =
       let line = step_line log c by s (Join b) in
       let low = home_fits log s (b - 1) (numbered log s) (omega (arith, room)) in
       let high = home_fits log s b (numbered log s) (omega (arith, room)) in (
-        line_told c by (step_entry log s (Join b)) is (stream, (low, (high, (omega (arith, fits), omega (arith, room))))),
+        line_told c by (step_entry log s (Join b)) is (
+          stream,
+          (low, (high, (omega (arith, fits), omega (arith, room)))),
+        ),
         steps_told steps (line ∷ log) c by s is stream at.1
             (omega (arith, fits, draws_one s (next_number log s) (next_number log s) refl))
             (omega (arith, room, many_join log c by s b)),
@@ -123,7 +147,10 @@ module _ (numbered : (log : Journal) (s : ℕ) → AreNumbered 0 (shards log s))
   steps_told (Cut b ∷ steps) log c by s is stream at fits room =
       let line = step_line log c by s (Cut b) in
       let sh = home_fits log s b (numbered log s) (omega (arith, room)) in (
-        line_told c by (step_entry log s (Cut b)) is (stream, (sh, (at.0, (omega (arith, fits), (omega (arith, room), omega (arith, room)))))),
+        line_told c by (step_entry log s (Cut b)) is (
+          stream,
+          (sh, (at.0, (omega (arith, fits), (omega (arith, room), omega (arith, room))))),
+        ),
         steps_told steps (line ∷ log) c by s is stream at.1
             (omega (arith, fits, draws_one s (next_number log s) (next_number log s) refl))
             (omega (arith, room, many_cut log c by s b)),
@@ -136,7 +163,8 @@ cuts_at : (bs : List ℕ) → AreBelow bs → AllByRecursion IsAtKey (map Cut bs
 cuts_at [] h = tt
 cuts_at (b ∷ bs) h = (h.0, cuts_at bs h.1)
 
-joins_at : (bs : List ℕ) (steps : List ScaleStep) → AllByRecursion IsAtKey steps → AllByRecursion IsAtKey (map Join bs ++ steps)
+joins_at : (bs : List ℕ) (steps : List ScaleStep) → AllByRecursion IsAtKey steps
+    → AllByRecursion IsAtKey (map Join bs ++ steps)
 joins_at [] steps h = h
 joins_at (b ∷ bs) steps h = (tt, joins_at bs steps h)
 

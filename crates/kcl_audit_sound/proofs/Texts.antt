@@ -1,5 +1,6 @@
 -- The text of a history's journal is that of a legal journal.
-use Rattle.std.proofs.Common.{◌≡◌, ◌≢◌, ℕ, ◌^◌, ◌<◌, ◌≤◌, max, List, [], ◌∷◌, ◌++◌, map, reverse, refl, sym, ap, subst, ◌∙◌, arith, inr}
+use Rattle.std.proofs.Common.{◌≡◌, ◌≢◌, ℕ, ◌^◌, ◌<◌, ◌≤◌, max, List, [], ◌∷◌, ◌++◌, map, reverse, refl, sym, ap, subst}
+use Rattle.std.proofs.Common.{◌∙◌, arith, inr}
 use Rattle.std.specs.Prelude.{flat_map}
 use Rattle.std.specs.List.{AllByRecursion}
 use Rattle.std.proofs.lemmas.List.{append_assoc, reverse-append}
@@ -38,13 +39,16 @@ with_told (line ∷ lines) log new old = with_told lines (line ∷ log) new.1 (n
 
 -- what each command adds after a legal journal, at a clock, by an actor
 abbrev pub TellsLines : Type 0
-TellsLines = (log : Journal) (c by : ℕ) (what : Command) (lines : List Line) (reply : Reply) → IsLegal log → IsBy c by → IsLawfulCommand what → AreNumbers what
+TellsLines = (log : Journal) (c by : ℕ) (what : Command) (lines : List Line) (reply : Reply) → IsLegal log → IsBy c by
+    → IsLawfulCommand what → AreNumbers what
     → decide log c by what ≡ Accepted lines reply → AreTold lines
 
 module _ (tells : TellsLines) (reached : (h : List Turn) → IsHistory h → IsReached (journal h) (clock h)) where
-  by_decision : (log : Journal) (c by : ℕ) (what : Command) (d : Decision) → decide log c by what ≡ d → IsLegal log → IsBy c by → IsLawfulCommand what → AreNumbers what → AreTold (lines_of d)
+  by_decision : (log : Journal) (c by : ℕ) (what : Command) (d : Decision) → decide log c by what ≡ d → IsLegal log
+      → IsBy c by → IsLawfulCommand what → AreNumbers what → AreTold (lines_of d)
   by_decision log c by what (Refused r) h legal is lawful bits = tt
-  by_decision log c by what (Accepted lines reply) h legal is lawful bits = tells log c by what lines reply legal is lawful bits h
+  by_decision log c by what (Accepted lines reply) h legal is lawful bits =
+      tells log c by what lines reply legal is lawful bits h
 
   told_journal : (h : List Turn) → IsHistory h → HaveBits h → AreTold (journal h)
   told_journal [] lawful bits = tt
@@ -52,7 +56,8 @@ module _ (tells : TellsLines) (reached : (h : List Turn) → IsHistory h → IsR
       let c = clock (turn ∷ h) in
       let is : IsBy c turn.by = record { clock = clock_fits (turn ∷ h) lawful; actor = bits.0.0 } in
       with_told (lines_of (decision (journal h) c turn)) (journal h)
-      (by_decision (journal h) c turn.by turn.what (decision (journal h) c turn) refl (reached h lawful.1).legal is lawful.0.1 bits.0.1)
+      (by_decision (journal h) c turn.by turn.what (decision (journal h) c turn) refl (reached h lawful.1).legal is
+      lawful.0.1 bits.0.1)
       (told_journal h lawful.1 bits.1)
 
 -- ---- as entries, the oldest first
@@ -67,7 +72,8 @@ push_line (x ∷ es) e all is = (all.0, push_line es e all.1 is)
 oldest_first : (log : Journal) → AreTold log → AreLines (reverse (map told_by log))
 oldest_first [] are = tt
 oldest_first (line ∷ log) are =
-    subst AreLines (sym (reverse-append (told_by line ∷ []) (map told_by log))) (push_line (reverse (map told_by log)) (told_by line) (oldest_first log are.1) are.0)
+    subst AreLines (sym (reverse-append (told_by line ∷ []) (map told_by log)))
+    (push_line (reverse (map told_by log)) (told_by line) (oldest_first log are.1) are.0)
 
 -- the journal that the entries tell is the one that the text shows
 each_shown : (log : Journal) → map line_of (map told_by log) ≡ shown_journal log
@@ -90,7 +96,8 @@ told_journal_is : (h : List Turn) → journal_of (history_entries h) ≡ shown_j
 told_journal_is h = map_reverse (map told_by (journal h)) ∙ each_shown (journal h)
 
 text_is : (h : List Turn) → journal_text h ≡ entries_text VERSION (history_entries h) (clock h)
-text_is h = sym (append_assoc heading (10 ∷ []) (flat_map (λ e. with_feed (entry_spelling VERSION e)) (history_entries h) ++ with_feed (end_spelling (clock h))))
+text_is h = sym (append_assoc heading (10 ∷ [])
+    (flat_map (λ e. with_feed (entry_spelling VERSION e)) (history_entries h) ++ with_feed (end_spelling (clock h))))
 
 module _
     (tells : TellsLines)
@@ -100,7 +107,8 @@ module _
   pub all_lines : (h : List Turn) → IsHistory h → HaveBits h → AllByRecursion (IsEntryLine VERSION) (history_entries h)
   all_lines h lawful bits = oldest_first (journal h) (told_journal tells reached h lawful bits)
 
-  pub is_journal : (h : List Turn) → IsHistory h → HaveBits h → IsJournal (journal_text h) (counted 0 (history_entries h))
+  pub is_journal : (h : List Turn) → IsHistory h → HaveBits h
+      → IsJournal (journal_text h) (counted 0 (history_entries h))
   is_journal h lawful bits =
       let shows = shown (journal h) (clock h) (reached h lawful) in
       let is = sym (told_journal_is h) in
@@ -117,5 +125,7 @@ module _
         many = refl;
       }
 
-  pub is_sound : (h : List Turn) → IsHistory h → HaveBits h → audit_of (journal_text h) ≢ over → audit_of (journal_text h) ≡ sound (counted 0 (history_entries h))
-  is_sound h lawful bits within = complete (journal_text h) (counted 0 (history_entries h)) (is_journal h lawful bits) within
+  pub is_sound : (h : List Turn) → IsHistory h → HaveBits h → audit_of (journal_text h) ≢ over
+      → audit_of (journal_text h) ≡ sound (counted 0 (history_entries h))
+  is_sound h lawful bits within =
+      complete (journal_text h) (counted 0 (history_entries h)) (is_journal h lawful bits) within

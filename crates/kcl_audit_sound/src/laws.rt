@@ -18,8 +18,10 @@ ghost use Rattle.kcl_audit_sound.specs.Bits.{HaveBits};
 /// legal if some sequence of accepted commands leaves it. So an audit finds this text sound, unless a line or the whole
 /// text is longer than the limits.
 pub fn sound_histories()
-    ensures lines { (h : List Turn) → IsHistory h → HaveBits h → AllByRecursion (IsEntryLine VERSION) (history_entries h) }
-    ensures legal { (h : List Turn) → IsHistory h → HaveBits h → IsJournal (journal_text h) (counted 0 (history_entries h)) }
+    ensures lines { (h : List Turn) → IsHistory h → HaveBits h
+        → AllByRecursion (IsEntryLine VERSION) (history_entries h) }
+    ensures legal { (h : List Turn) → IsHistory h → HaveBits h
+        → IsJournal (journal_text h) (counted 0 (history_entries h)) }
     ensures sound { (h : List Turn) → IsHistory h → HaveBits h → audit_of (journal_text h) ≢ over
         → audit_of (journal_text h) ≡ sound (counted 0 (history_entries h)) }
 {

@@ -1,5 +1,6 @@
 -- The numbers of a batch that grow, one record after another.
-use Rattle.std.proofs.Common.{◌≡◌, ℕ, zero, suc, ◌+◌, ◌-◌, ◌<◌, ◌≤◌, Bool, true, List, [], ◌∷◌, ◌++◌, length, get_or, drop, refl, sym, ap, ◌∙◌, arith}
+use Rattle.std.proofs.Common.{◌≡◌, ℕ, zero, suc, ◌+◌, ◌-◌, ◌<◌, ◌≤◌, Bool, true, List, [], ◌∷◌, ◌++◌, length, get_or}
+use Rattle.std.proofs.Common.{drop, refl, sym, ap, ◌∙◌, arith}
 use Rattle.std.specs.Prelude.{◌==◌, ◌&&◌, cond}
 use Rattle.std.specs.List.{AllByRecursion}
 use Rattle.std.proofs.lemmas.List.{at_drop_more, drop_all, append-nil, append_assoc}
@@ -18,16 +19,20 @@ abbrev pub left_in : ℕ → ℕ → ℕ → List Sized → List Logged
 left_in sh floor position xs = left_among floor position (records_in xs sh)
 
 -- one record more
-left_by : (sh floor position : ℕ) (x : Sized) (xs : List Sized) (a b : Bool) → is_in sh x ≡ a → is_left floor position (logged x) ≡ b
-    → left_in sh floor position (x ∷ xs) ≡ cond (a && b) (logged x ∷ left_in sh floor position xs) (left_in sh floor position xs)
+left_by : (sh floor position : ℕ) (x : Sized) (xs : List Sized) (a b : Bool) → is_in sh x ≡ a
+    → is_left floor position (logged x) ≡ b
+    → left_in sh floor position (x ∷ xs)
+    ≡ cond (a && b) (logged x ∷ left_in sh floor position xs) (left_in sh floor position xs)
 left_by sh floor position x xs a b e f = grind (arith, e, f)
 
 -- what is left of the records from a place on
 abbrev pub ahead : ℕ → ℕ → ℕ → List Sized → ℕ → List Logged
 ahead sh floor position xs i = left_in sh floor position (drop i xs)
 
-pub ahead_more : (sh floor position : ℕ) (xs : List Sized) (i : ℕ) (x : Sized) (b : Bool) → i < length xs → x ≡ get_or xs i x → counts sh floor position x ≡ b
-    → ahead sh floor position xs i ≡ cond b (logged x ∷ ahead sh floor position xs (i + 1)) (ahead sh floor position xs (i + 1))
+pub ahead_more : (sh floor position : ℕ) (xs : List Sized) (i : ℕ) (x : Sized) (b : Bool) → i < length xs
+    → x ≡ get_or xs i x → counts sh floor position x ≡ b
+    → ahead sh floor position xs i
+    ≡ cond b (logged x ∷ ahead sh floor position xs (i + 1)) (ahead sh floor position xs (i + 1))
 ahead_more sh floor position xs i x b lt is t =
     at_drop_more (λ ys. left_in sh floor position ys) xs i x lt
     ∙ ap (λ (y : Sized). left_in sh floor position (y ∷ drop (i + 1) xs)) (sym is)
@@ -38,22 +43,31 @@ ahead_more sh floor position xs i x b lt is t =
 abbrev pub Grows : List ℕ → ℕ → ℕ → List Logged → List ℕ → Type 0
 Grows numbers left room rest whole = numbers ++ numbers_of (beginning left room rest) ≡ whole
 
-module _ (sh floor position : ℕ) (xs : List Sized) (i : ℕ) (x : Sized) (within : i < length xs) (is : x ≡ get_or xs i x) where
+module _ (sh floor position : ℕ) (xs : List Sized) (i : ℕ) (x : Sized) (within : i < length xs)
+    (is : x ≡ get_or xs i x) where
   -- a record that is left, and is_le, is taken
-  pub grows_by : (numbers : List ℕ) (left room : ℕ) (whole : List ℕ) → counts sh floor position x ≡ true → (left ≡ 0 → ⊥) → x.bytes ≤ room
-      → Grows numbers left room (ahead sh floor position xs i) whole → Grows (numbers ++ x.seq ∷ []) (left - 1) (room - x.bytes) (ahead sh floor position xs (i + 1)) whole
+  pub grows_by : (numbers : List ℕ) (left room : ℕ) (whole : List ℕ) → counts sh floor position x ≡ true
+      → (left ≡ 0 → ⊥) → x.bytes ≤ room
+      → Grows numbers left room (ahead sh floor position xs i) whole
+      → Grows (numbers ++ x.seq ∷ []) (left - 1) (room - x.bytes) (ahead sh floor position xs (i + 1)) whole
   grows_by numbers left room whole t some small h =
       let rest = ahead sh floor position xs (i + 1) in
-      let one : beginning left room (ahead sh floor position xs i) ≡ logged x ∷ beginning (left - 1) (room - x.bytes) rest =
-      ap (beginning left room) (ahead_more sh floor position xs i x true within is t) ∙ beginning_one left room (logged x) rest some (is_le x.bytes room small) in
-      append_assoc numbers (x.seq ∷ []) (numbers_of (beginning (left - 1) (room - x.bytes) rest)) ∙ ap (λ taken. numbers ++ numbers_of taken) (sym one) ∙ h
+      let one : beginning left room (ahead sh floor position xs i)
+      ≡ logged x ∷ beginning (left - 1) (room - x.bytes) rest =
+      ap (beginning left room) (ahead_more sh floor position xs i x true within is t)
+      ∙ beginning_one left room (logged x) rest some (is_le x.bytes room small) in
+      append_assoc numbers (x.seq ∷ []) (numbers_of (beginning (left - 1) (room - x.bytes) rest))
+      ∙ ap (λ taken. numbers ++ numbers_of taken) (sym one) ∙ h
 
 -- at the end of the records the batch is whole
-pub grows_all : (sh floor position : ℕ) (xs : List Sized) (i : ℕ) (numbers : List ℕ) (left room : ℕ) (whole : List ℕ) → length xs ≤ i
+pub grows_all : (sh floor position : ℕ) (xs : List Sized) (i : ℕ) (numbers : List ℕ) (left room : ℕ) (whole : List ℕ)
+    → length xs ≤ i
     → Grows numbers left room (ahead sh floor position xs i) whole → numbers ≡ whole
 grows_all sh floor position xs i numbers left room whole le h =
     sym (append-nil numbers)
-    ∙ ap (λ taken. numbers ++ numbers_of taken) (sym (ap (λ ys. beginning left room (left_in sh floor position ys)) (drop_all i xs le) ∙ beginning_none left room)) ∙ h
+    ∙ ap (λ taken. numbers ++ numbers_of taken)
+    (sym (ap (λ ys. beginning left room (left_in sh floor position ys)) (drop_all i xs le)
+    ∙ beginning_none left room)) ∙ h
 
 -- ---- the numbers of a batch are those of records
 
@@ -79,5 +93,7 @@ below_numbers : (top : ℕ) (rs : List Logged) → below top rs → AllByRecursi
 below_numbers top [] h = tt
 below_numbers top (r ∷ rs) h = (h.0, below_numbers top rs h.1)
 
-pub batch_below : (top sh floor position limit room : ℕ) (rs : List Sized) → AreBelow top rs → AllByRecursion (λ n. n < top) (numbers_of (beginning limit room (left_among floor position (records_in rs sh))))
-batch_below top sh floor position limit room rs h = below_numbers top _ (below_beginning top limit room _ (below_left top floor position _ (below_in top sh rs h)))
+pub batch_below : (top sh floor position limit room : ℕ) (rs : List Sized) → AreBelow top rs
+    → AllByRecursion (λ n. n < top) (numbers_of (beginning limit room (left_among floor position (records_in rs sh))))
+batch_below top sh floor position limit room rs h =
+    below_numbers top _ (below_beginning top limit room _ (below_left top floor position _ (below_in top sh rs h)))

@@ -19,29 +19,38 @@ use Rattle.kcl_audit_streams.specs.Standing.{IsStream, StreamValue, floor_in, re
 
 -- ---- of a live stream
 
-left_is : (log : Journal) (c s sh p : ℕ) (v : StreamValue) → IsStream log s v → v.live ≡ true → last_clock log ≤ c → map bare (left_from log c s sh p) ≡ left_among (floor_in v c) p (records_in v.records sh)
+left_is : (log : Journal) (c s sh p : ℕ) (v : StreamValue) → IsStream log s v → v.live ≡ true → last_clock log ≤ c
+    → map bare (left_from log c s sh p) ≡ left_among (floor_in v c) p (records_in v.records sh)
 left_is log c s sh p v st live order =
-    ap (λ (b : Bool). map bare (if b then left_among (trim_floor log c s) p (records log s sh) else [])) (st.lives ∙ live)
+    ap (λ (b : Bool). map bare (if b then left_among (trim_floor log c s) p (records log s sh) else [])) (st.lives
+    ∙ live)
     ∙ left_bare (trim_floor log c s) p (records log s sh)
     ∙ ap (λ f. left_among f p (map bare (records log s sh))) (st.trims c order)
     ∙ ap (left_among (floor_in v c) p) (st.records_are sh)
 
-pub batch_is : (log : Journal) (c s sh p limit : ℕ) (v : StreamValue) → IsStream log s v → v.live ≡ true → last_clock log ≤ c
-    → numbers_of (batch log c s sh p limit) ≡ numbers_of (beginning limit BATCH_BYTES (left_among (floor_in v c) p (records_in v.records sh)))
+pub batch_is : (log : Journal) (c s sh p limit : ℕ) (v : StreamValue) → IsStream log s v → v.live ≡ true
+    → last_clock log ≤ c
+    → numbers_of (batch log c s sh p limit)
+    ≡ numbers_of (beginning limit BATCH_BYTES (left_among (floor_in v c) p (records_in v.records sh)))
 batch_is log c s sh p limit v st live order =
     sym (numbers_bare (batch log c s sh p limit))
     ∙ ap numbers_of (beginning_bare limit BATCH_BYTES (left_from log c s sh p))
     ∙ ap (λ rs. numbers_of (beginning limit BATCH_BYTES rs)) (left_is log c s sh p v st live order)
 
-pub ends_is : (log : Journal) (c s sh place : ℕ) (v : StreamValue) → IsStream log s v → v.live ≡ true → last_clock log ≤ c
-    → ends_at log c s sh place ≡ (is_closed_at (slice_get v.tree sh) && are_none (left_among (floor_in v c) place (records_in v.records sh)))
+pub ends_is : (log : Journal) (c s sh place : ℕ) (v : StreamValue) → IsStream log s v → v.live ≡ true
+    → last_clock log ≤ c
+    → ends_at log c s sh place
+    ≡ (is_closed_at (slice_get v.tree sh) && are_none (left_among (floor_in v c) place (records_in v.records sh)))
 ends_is log c s sh place v st live order =
-    ap (λ (b : Bool). is_closed_at (slice_get (shards log s) sh) && b) (sym (none_bare (left_from log c s sh place)) ∙ ap are_none (left_is log c s sh place v st live order))
-    ∙ ap (λ (xs : List ShardState). is_closed_at (slice_get xs sh) && are_none (left_among (floor_in v c) place (records_in v.records sh))) st.shards_are
+    ap (λ (b : Bool). is_closed_at (slice_get (shards log s) sh) && b) (sym (none_bare (left_from log c s sh place))
+    ∙ ap are_none (left_is log c s sh place v st live order))
+    ∙ ap (λ (xs : List ShardState). is_closed_at (slice_get xs sh)
+    && are_none (left_among (floor_in v c) place (records_in v.records sh))) st.shards_are
 
 -- ---- where reading begins
 
-pub position_is : (log : Journal) (c : ℕ) (key : ShardRef) (from : Origin) (v : StreamValue) → IsStream log key.stream v → v.live ≡ true → last_clock log ≤ c
+pub position_is : (log : Journal) (c : ℕ) (key : ShardRef) (from : Origin) (v : StreamValue) → IsStream log key.stream v
+    → v.live ≡ true → last_clock log ≤ c
     → position_in v c key.shard from ≡ origin_position log c key from
 position_is log c key origin.TrimHorizon v st live order = refl
 position_is log c key origin.Latest v st live order = sym st.draws

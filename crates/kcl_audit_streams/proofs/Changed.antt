@@ -1,12 +1,14 @@
 -- The stream of a good entry, and the streams with it changed.
-use Rattle.std.proofs.Common.{◌≡◌, ◌≢◌, ℕ, zero, suc, ◌-◌, ◌≤◌, Bool, true, false, List, [], ◌∷◌, slice_get, slice_set, slice_index_or, Option, Some, None, refl, sym, ap, ◌∙◌, arith}
+use Rattle.std.proofs.Common.{◌≡◌, ◌≢◌, ℕ, zero, suc, ◌-◌, ◌≤◌, Bool, true, false, List, [], ◌∷◌, slice_get, slice_set}
+use Rattle.std.proofs.Common.{slice_index_or, Option, Some, None, refl, sym, ap, ◌∙◌, arith}
 use Rattle.std.specs.Prelude.{if◌then◌else◌, Result, Ok, Err, OnOk}
 use Rattle.std.proofs.lemmas.Bool.Decides.{nat_tests}
 use Rattle.std.proofs.lemmas.Option.{get_or_from_slice_get}
 use Rattle.kds_defs.specs.declared.reply.Refusal.{Refusal}
 use Rattle.kds_defs.specs.StreamCommands.{last_number}
 use Rattle.kds_tree.specs.Tree.{merge_refusal, split_refusal}
-use Rattle.kcl_audit_streams.specs.Judging.{agrees, changed_at, in_live, merge_verdict, refused, refused_by, split_verdict}
+use Rattle.kcl_audit_streams.specs.Judging.{agrees, changed_at, in_live, merge_verdict, refused, refused_by}
+use Rattle.kcl_audit_streams.specs.Judging.{split_verdict}
 use Rattle.kcl_audit_streams.specs.Standing.{StreamValue, if_live, live_at}
 use Rattle.kcl_audit_streams.specs.Verdict.{Verdict}
 
@@ -20,13 +22,15 @@ pub record IsOf (vs : List StreamValue) (s : ℕ) (f : StreamValue → Verdict) 
   pub live : value.live ≡ true
   pub good : f value ≡ Ok tt
 
-by_state : (vs : List StreamValue) (i : ℕ) (f : StreamValue → Verdict) (v : StreamValue) (b : Bool) → slice_get vs i ≡ Some v → v.live ≡ b → in_live (if b then Some v else None) f ≡ Ok tt → IsOf vs (suc i) f
+by_state : (vs : List StreamValue) (i : ℕ) (f : StreamValue → Verdict) (v : StreamValue) (b : Bool)
+    → slice_get vs i ≡ Some v → v.live ≡ b → in_live (if b then Some v else None) f ≡ Ok tt → IsOf vs (suc i) f
 by_state vs i f v true is live good =
     let same : suc i - 1 ≡ i = omega arith in
     record { value = v; some = omega arith; at = ap (slice_get vs) same ∙ is; live = live; good = good }
 by_state vs i f v false is live good = absurd cc
 
-by_place : (vs : List StreamValue) (i : ℕ) (f : StreamValue → Verdict) (o : Option StreamValue) → slice_get vs i ≡ o → in_live (if_live o) f ≡ Ok tt → IsOf vs (suc i) f
+by_place : (vs : List StreamValue) (i : ℕ) (f : StreamValue → Verdict) (o : Option StreamValue) → slice_get vs i ≡ o
+    → in_live (if_live o) f ≡ Ok tt → IsOf vs (suc i) f
 by_place vs i f None is good = absurd cc
 by_place vs i f (Some v) is good = by_state vs i f v v.live is refl good
 
@@ -36,28 +40,33 @@ is_of vs (suc i) f good = by_place vs i f (slice_get vs i) refl good
 
 -- ---- the place of it
 
-changed_get : (vs : List StreamValue) (i : ℕ) (g : StreamValue → StreamValue) (v : StreamValue) → slice_get vs i ≡ Some v → slice_set vs i (g v) ≡ changed_at i g vs
+changed_get : (vs : List StreamValue) (i : ℕ) (g : StreamValue → StreamValue) (v : StreamValue)
+    → slice_get vs i ≡ Some v → slice_set vs i (g v) ≡ changed_at i g vs
 changed_get [] i g v is = absurd cc
 changed_get (u ∷ vs) zero g v is = let same : u ≡ v = cc in ap (λ (x : StreamValue). g x ∷ vs) (sym same)
 changed_get (u ∷ vs) (suc i) g v is = ap (λ xs. u ∷ xs) (changed_get vs i g v is)
 
-module _ (vs : List StreamValue) (s : ℕ) (f : StreamValue → Verdict) (good : in_live (live_at vs s) f ≡ Ok tt) (i : ℕ) (is : i ≡ s) where
+module _ (vs : List StreamValue) (s : ℕ) (f : StreamValue → Verdict) (good : in_live (live_at vs s) f ≡ Ok tt) (i : ℕ)
+    (is : i ≡ s) where
   module _ (old : StreamValue) (read : old ≡ slice_index_or vs (i - 1) old) where
     same_value : old ≡ (is_of vs s f good).value
-    same_value = let o = is_of vs s f good in read ∙ get_or_from_slice_get vs (i - 1) o.value old (ap (λ n. slice_get vs (n - 1)) is ∙ o.at)
+    same_value = let o = is_of vs s f good in
+        read ∙ get_or_from_slice_get vs (i - 1) o.value old (ap (λ n. slice_get vs (n - 1)) is ∙ o.at)
 
     -- it is good of that stream
     pub good_there : f old ≡ Ok tt
     good_there = let o = is_of vs s f good in ap f same_value ∙ o.good
 
-    pub changed_there : (g : StreamValue → StreamValue) (new : StreamValue) → new ≡ g old → slice_set vs (i - 1) new ≡ changed_at (s - 1) g vs
+    pub changed_there : (g : StreamValue → StreamValue) (new : StreamValue) → new ≡ g old
+        → slice_set vs (i - 1) new ≡ changed_at (s - 1) g vs
     changed_there g new e =
         let o = is_of vs s f good in
         ap (λ n. slice_set vs (n - 1) new) is
         ∙ ap (slice_set vs (s - 1)) (e ∙ ap g same_value)
         ∙ changed_get vs (s - 1) g o.value o.at
 
-    pub changed_if : {E : Type 0} (r : Result (Unit {0}) E) (g : StreamValue → StreamValue) (new : StreamValue) → OnOk r (new ≡ g old) → OnOk r (slice_set vs (i - 1) new ≡ changed_at (s - 1) g vs)
+    pub changed_if : {E : Type 0} (r : Result (Unit {0}) E) (g : StreamValue → StreamValue) (new : StreamValue)
+        → OnOk r (new ≡ g old) → OnOk r (slice_set vs (i - 1) new ≡ changed_at (s - 1) g vs)
     changed_if (Ok u) g new e = changed_there g new e
     changed_if (Err x) g new e = tt
 
@@ -67,7 +76,8 @@ pub agrees_so : (b : Bool) → agrees b ≡ Ok tt → b ≡ true
 agrees_so true h = refl
 agrees_so false h = absurd cc
 
-past : (r : Refusal) (b : Bool) (next : Verdict) → (if b then refused r else next) ≡ Ok tt → (b ≡ false) × (next ≡ Ok tt)
+past : (r : Refusal) (b : Bool) (next : Verdict) → (if b then refused r else next) ≡ Ok tt
+    → (b ≡ false) × (next ≡ Ok tt)
 past r true next h = absurd cc
 past r false next h = (refl, h)
 
@@ -79,10 +89,12 @@ past_by None next h = (refl, h)
 abbrev pub Draws : StreamValue → ℕ → Type 0
 Draws v number = (number ≡ v.next) × (v.next ≢ last_number)
 
-pub split_draws : (v : StreamValue) (clock sh at : ℕ) (full : Bool) (number low high : ℕ) → split_verdict v clock sh at full number low high ≡ Ok tt → (split_refusal v.tree sh at ≡ None) × Draws v number
+pub split_draws : (v : StreamValue) (clock sh at : ℕ) (full : Bool) (number low high : ℕ)
+    → split_verdict v clock sh at full number low high ≡ Ok tt → (split_refusal v.tree sh at ≡ None) × Draws v number
 split_draws v clock sh at full number low high h =
     (grind (arith, nat_tests, h), (grind (arith, nat_tests, h), grind (arith, nat_tests, h)))
 
-pub merge_draws : (v : StreamValue) (clock sh other number child : ℕ) → merge_verdict v clock sh other number child ≡ Ok tt → (merge_refusal v.tree sh other ≡ None) × Draws v number
+pub merge_draws : (v : StreamValue) (clock sh other number child : ℕ)
+    → merge_verdict v clock sh other number child ≡ Ok tt → (merge_refusal v.tree sh other ≡ None) × Draws v number
 merge_draws v clock sh other number child h =
     (grind (arith, nat_tests, h), (grind (arith, nat_tests, h), grind (arith, nat_tests, h)))

@@ -1,5 +1,6 @@
 -- The order of the records: what a put does to it, and which of them stand below a position.
-use Rattle.std.proofs.Common.{◌≡◌, ℕ, zero, suc, ◌+◌, ◌-◌, ◌<◌, ◌≤◌, Bool, true, false, List, [], ◌∷◌, length, get_or, drop, take, refl, sym, ap, ◌∙◌, arith, ltb-true}
+use Rattle.std.proofs.Common.{◌≡◌, ℕ, zero, suc, ◌+◌, ◌-◌, ◌<◌, ◌≤◌, Bool, true, false, List, [], ◌∷◌, length, get_or}
+use Rattle.std.proofs.Common.{drop, take, refl, sym, ap, ◌∙◌, arith, ltb-true}
 use Rattle.std.specs.Prelude.{nat_lt}
 use Rattle.std.specs.List.{AllByRecursion}
 use Rattle.std.specs.List.Sorted.{IsPartitionPoint}
@@ -21,11 +22,13 @@ under_more next (r ∷ rs) h = let one : r.seq < next = h.0 in (omega arith, und
 -- ---- positions
 
 -- a record below the position isn't left
-past_one : (sh floor position : ℕ) (x : Sized) (xs : List Sized) (b : Bool) → is_in sh x ≡ b → x.seq < position → left_in sh floor position (x ∷ xs) ≡ left_in sh floor position xs
+past_one : (sh floor position : ℕ) (x : Sized) (xs : List Sized) (b : Bool) → is_in sh x ≡ b → x.seq < position
+    → left_in sh floor position (x ∷ xs) ≡ left_in sh floor position xs
 past_one sh floor position x xs b e lt = grind (arith, nat_tests, e)
 
 -- where those of so many are below the position, those behind them are all that are left
-pub left_behind : (sh floor position : ℕ) (xs : List Sized) (i : ℕ) → ((k : ℕ) (d : Sized) → k < i → k < length xs → (get_or xs k d).seq < position)
+pub left_behind : (sh floor position : ℕ) (xs : List Sized) (i : ℕ)
+    → ((k : ℕ) (d : Sized) → k < i → k < length xs → (get_or xs k d).seq < position)
     → left_in sh floor position (drop i xs) ≡ left_in sh floor position xs
 left_behind sh floor position xs zero h = refl
 left_behind sh floor position [] (suc i) h = refl
@@ -34,7 +37,8 @@ left_behind sh floor position (x ∷ xs) (suc i) h =
     ∙ sym (past_one sh floor position x xs (is_in sh x) refl (h 0 x (omega arith) (omega arith)))
 
 -- so it is of the records behind those whose numbers are below the position
-pub left_from : (sh floor position : ℕ) (xs : List Sized) (i : ℕ) → IsPartitionPoint (λ (y : Sized). nat_lt y.seq position ≡ true) (λ (y : Sized). nat_lt y.seq position ≡ false) xs i
+pub left_from : (sh floor position : ℕ) (xs : List Sized) (i : ℕ)
+    → IsPartitionPoint (λ (y : Sized). nat_lt y.seq position ≡ true) (λ (y : Sized). nat_lt y.seq position ≡ false) xs i
     → left_in sh floor position (take (length xs - i) (drop i xs)) ≡ left_in sh floor position xs
 left_from sh floor position xs i point =
     let all : length (drop i xs) ≤ length xs - i = (let e = length-drop i xs in omega (arith, e)) in

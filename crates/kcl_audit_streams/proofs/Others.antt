@@ -8,7 +8,8 @@ use Rattle.kds_defs.specs.Subjects.{stream_of}
 use Rattle.kcl_laws.specs.Recorded.{bare}
 use Rattle.kcl_audit_streams.specs.Standing.{AreStreams, IsStream, Shows, StreamValue, StreamsValue}
 
-pub stream_other : (log : Journal) (line : Line) (s : ℕ) (v : StreamValue) → last_clock log ≤ line.clock → stream_of line.what ≢ Some s → IsStream log s v
+pub stream_other : (log : Journal) (line : Line) (s : ℕ) (v : StreamValue) → last_clock log ≤ line.clock
+    → stream_of line.what ≢ Some s → IsStream log s v
     → IsStream (line ∷ log) s v
 stream_other log line s v order other st =
     let same = same_stream log line s other in
@@ -27,13 +28,17 @@ stream_other log line s v order other st =
 
 -- ---- all streams after a line of a lease
 
-streams_kept : (log : Journal) (line : Line) (n : ℕ) (vs : List StreamValue) → last_clock log ≤ line.clock → stream_of line.what ≡ None
+streams_kept : (log : Journal) (line : Line) (n : ℕ) (vs : List StreamValue) → last_clock log ≤ line.clock
+    → stream_of line.what ≡ None
     → AreStreams log n vs → AreStreams (line ∷ log) n vs
 streams_kept log line n [] order none h = tt
-streams_kept log line n (v ∷ vs) order none h =
-    (stream_other log line n v order (of_no_stream line.what n none) h.0, streams_kept log line (n + 1) vs order none h.1)
+streams_kept log line n (v ∷ vs) order none h = (
+  stream_other log line n v order (of_no_stream line.what n none) h.0,
+  streams_kept log line (n + 1) vs order none h.1,
+)
 
-pub shows_lease : (w : StreamsValue) (log : Journal) (line : Line) → Shows w log → line.clock ≡ w.clock → stream_of line.what ≡ None → Shows w (line ∷ log)
+pub shows_lease : (w : StreamsValue) (log : Journal) (line : Line) → Shows w log → line.clock ≡ w.clock
+    → stream_of line.what ≡ None → Shows w (line ∷ log)
 shows_lease w log line sh at none =
     let order : last_clock log ≤ line.clock = subst (λ n. last_clock log ≤ n) (sym at) sh.order in
     record {

@@ -1,5 +1,6 @@
 -- What a shard has taken within a second, put after put.
-use Rattle.std.proofs.Common.{◌≡◌, ℕ, ◌+◌, ◌-◌, ◌^◌, ◌<◌, ◌≤◌, min, Bool, List, ◌∷◌, length, get_or, drop, sym, ap, ◌∙◌, arith}
+use Rattle.std.proofs.Common.{◌≡◌, ℕ, ◌+◌, ◌-◌, ◌^◌, ◌<◌, ◌≤◌, min, Bool, List, ◌∷◌, length, get_or, drop, sym, ap, ◌∙◌}
+use Rattle.std.proofs.Common.{arith}
 use Rattle.std.specs.Prelude.{if◌then◌else◌, nat_lt}
 use Rattle.std.proofs.lemmas.Bool.Decides.{nat_tests}
 use Rattle.std.proofs.lemmas.List.{at_drop_more}
@@ -20,11 +21,13 @@ pub record IsTaken (sh c : ℕ) (xs : List Sized) (i count held : ℕ) : Type 0 
   pub few : count ≤ i
 
 module _ (sh c : ℕ) (xs : List Sized) (i : ℕ) (x : Sized) (within : i < length xs) (is : x ≡ get_or xs i x) where
-  more : (before : List SizedPut) (b : Bool) → is_in sh x ≡ b → puts_from before (drop i xs) sh ≡ puts_from (if b then sized x ∷ before else before) (drop (i + 1) xs) sh
+  more : (before : List SizedPut) (b : Bool) → is_in sh x ≡ b
+      → puts_from before (drop i xs) sh ≡ puts_from (if b then sized x ∷ before else before) (drop (i + 1) xs) sh
   more before b in_it =
       at_drop_more (λ ys. puts_from before ys sh) xs i x within
       ∙ ap (λ (y : Sized). puts_from before (y ∷ drop (i + 1) xs) sh) (sym is)
       ∙ ap (λ (t : Bool). puts_from (if t then sized x ∷ before else before) (drop (i + 1) xs) sh) in_it
 
-same_test : (n held bytes : ℕ) → held ≡ min n (2 ^ 64 - 1) → nat_lt SECOND_BYTES (held + bytes) ≡ nat_lt SECOND_BYTES (n + bytes)
+same_test : (n held bytes : ℕ) → held ≡ min n (2 ^ 64 - 1)
+    → nat_lt SECOND_BYTES (held + bytes) ≡ nat_lt SECOND_BYTES (n + bytes)
 same_test n held bytes h = grind (arith, nat_tests)

@@ -56,5 +56,6 @@ origin_so _ _ h = grind arith
 
 pub same_so : (a b : Entry) → same_entry a b ≡ true → a ≡ b
 same_so (entry.Made s name count) (entry.Made s' name' count') h = grind (arith, nat_tests, list_so name name')
-same_so (entry.Read t limit ended ns) (entry.Read t' limit' ended' ns') h = grind (arith, nat_tests, flag_so, list_so ns ns')
+same_so (entry.Read t limit ended ns) (entry.Read t' limit' ended' ns') h =
+    grind (arith, nat_tests, flag_so, list_so ns ns')
 same_so _ _ h = grind (arith, nat_tests, flag_so, aim_so, origin_so, same_ref)

@@ -1,5 +1,6 @@
 -- What a good entry makes of its stream. Of each reading only the entries that change it are named here.
-use Rattle.std.proofs.Common.{◌≡◌, ℕ, ◌+◌, ◌*◌, max, ◌≤◌, Bool, true, false, List, [], ◌∷◌, ◌++◌, Some, map, refl, sym, ap, ◌∙◌, arith}
+use Rattle.std.proofs.Common.{◌≡◌, ℕ, ◌+◌, ◌*◌, max, ◌≤◌, Bool, true, false, List, [], ◌∷◌, ◌++◌, Some, map, refl, sym}
+use Rattle.std.proofs.Common.{ap, ◌∙◌, arith}
 use Rattle.std.specs.Prelude.{◌==◌, if◌then◌else◌, Ok}
 use Rattle.std.proofs.lemmas.List.{map_push}
 use Rattle.kds_base.proofs.Facts.{is_equal, is_itself, same_some}
@@ -15,11 +16,13 @@ use Rattle.kds_defs.specs.PutCommands.{enforced_after}
 use Rattle.kds_defs.specs.Rates.{SizedPut, puts, puts_after}
 use Rattle.kds_defs.specs.Records.{Logged, draws, next_number, records, records_after}
 use Rattle.kds_defs.specs.Shards.{Closing, made_shards, merged_shards, shards_after, split_shards}
-use Rattle.kds_defs.specs.Streams.{floor_at, hours, hours_after, is_live_after, made_count_after, name_of_after, trim_floor, was_made, was_made_after}
+use Rattle.kds_defs.specs.Streams.{floor_at, hours, hours_after, is_live_after, made_count_after, name_of_after}
+use Rattle.kds_defs.specs.Streams.{trim_floor, was_made, was_made_after}
 use Rattle.kds_defs.specs.Subjects.{IsFresh, stream_of}
 use Rattle.kcl_audit_streams.specs.declared.records.Sized.{Sized}
 use Rattle.kcl_audit_streams.specs.Judging.{entry_verdict, new_stream, with_entry}
-use Rattle.kcl_audit_streams.specs.Standing.{IsStream, StreamValue, floor_in, is_in, logged, puts_from, puts_in, records_in}
+use Rattle.kcl_audit_streams.specs.Standing.{IsStream, StreamValue, floor_in, is_in, logged, puts_from, puts_in}
+use Rattle.kcl_audit_streams.specs.Standing.{records_in}
 use Rattle.kcl_audit_streams.proofs.Changed.{merge_draws, split_draws}
 use Rattle.kcl_audit_streams.proofs.RateSteps.{sized}
 use Rattle.kcl_audit_streams.proofs.Floors.{changed_later, first_later}
@@ -52,18 +55,21 @@ in_last sh [] r true h = rw h refl
 in_last sh [] r false h = rw h refl
 in_last sh (x ∷ rs) r b h = grind (arith, in_last sh rs r b h)
 
-record_more : (q : ℕ) (before : List Logged) (x : Logged) (rs : List Sized) (r : Sized) → bare x ≡ logged r → map bare before ≡ records_in rs q
+record_more : (q : ℕ) (before : List Logged) (x : Logged) (rs : List Sized) (r : Sized) → bare x ≡ logged r
+    → map bare before ≡ records_in rs q
     → map bare (if is_in q r then before ++ x ∷ [] else before) ≡ records_in (rs ++ r ∷ []) q
 record_more q before x rs r same h = by (is_in q r) ∙ sym (in_last q rs r (is_in q r) refl)
   where
-    by : (b : Bool) → map bare (if b then before ++ x ∷ [] else before) ≡ (if b then records_in rs q ++ logged r ∷ [] else records_in rs q)
+    by : (b : Bool) → map bare (if b then before ++ x ∷ [] else before)
+        ≡ (if b then records_in rs q ++ logged r ∷ [] else records_in rs q)
     by true = map_push bare before x ∙ ap (λ xs. xs ++ bare x ∷ []) h ∙ ap (λ y. records_in rs q ++ y ∷ []) same
     by false = h
 
 -- ---- a put more
 
 from_last : (before : List SizedPut) (rs : List Sized) (r : Sized) (sh : ℕ)
-    → puts_from before (rs ++ r ∷ []) sh ≡ (if is_in sh r then sized r ∷ puts_from before rs sh else puts_from before rs sh)
+    → puts_from before (rs ++ r ∷ []) sh
+    ≡ (if is_in sh r then sized r ∷ puts_from before rs sh else puts_from before rs sh)
 from_last before [] r sh = refl
 from_last before (x ∷ rs) r sh = from_last (if is_in sh x then sized x ∷ before else before) rs r sh
 
@@ -82,22 +88,26 @@ module _ (d by s : ℕ) (v : StreamValue) where
   name_step (entry.Made a name count) later = absurd later
   name_step _ later = refl
 
-  live_step : (what : Entry) → IsLater what → stream_of what ≡ Some s → is_live_after what s v.live ≡ (with_entry d what v).live
+  live_step : (what : Entry) → IsLater what → stream_of what ≡ Some s
+      → is_live_after what s v.live ≡ (with_entry d what v).live
   live_step (entry.Made a name count) later of = absurd later
   live_step (entry.Gone a) later of = rw (its a s of) refl
   live_step _ later of = refl
 
-  hours_step : (what : Entry) → IsLater what → stream_of what ≡ Some s → hours_after what s v.hours ≡ (with_entry d what v).hours
+  hours_step : (what : Entry) → IsLater what → stream_of what ≡ Some s
+      → hours_after what s v.hours ≡ (with_entry d what v).hours
   hours_step (entry.Made a name count) later of = absurd later
   hours_step (entry.Kept a wanted) later of = rw (its a s of) refl
   hours_step _ later of = refl
 
-  limits_step : (what : Entry) → IsLater what → stream_of what ≡ Some s → enforced_after what s v.enforced ≡ (with_entry d what v).enforced
+  limits_step : (what : Entry) → IsLater what → stream_of what ≡ Some s
+      → enforced_after what s v.enforced ≡ (with_entry d what v).enforced
   limits_step (entry.Made a name count) later of = absurd later
   limits_step (entry.Enforced a on) later of = rw (its a s of) refl
   limits_step _ later of = refl
 
-  next_step : (what : Entry) → IsLater what → stream_of what ≡ Some s → draws what s + v.next ≡ (with_entry d what v).next
+  next_step : (what : Entry) → IsLater what → stream_of what ≡ Some s
+      → draws what s + v.next ≡ (with_entry d what v).next
   next_step (entry.Made a name count) later of = absurd later
   next_step (entry.Put a sh n hash bytes key_bytes) later of = rw (its a s of) (one_drawn v.next)
   next_step (entry.Split a sh at n low high) later of = rw (its a s of) (one_drawn v.next)
@@ -105,8 +115,10 @@ module _ (d by s : ℕ) (v : StreamValue) where
   next_step _ later of = none_drawn v.next
 
   -- where the entry is good, the number that it draws is the next one: so its children start right after it
-  shards_step : (full : Bool) (what : Entry) → IsLater what → stream_of what ≡ Some s → entry_verdict full d what v ≡ Ok tt
-      → (start : ℕ) → start ≡ (with_entry d what v).next → shards_after (entry_line d by what) what s start v.tree ≡ (with_entry d what v).tree
+  shards_step : (full : Bool) (what : Entry) → IsLater what → stream_of what ≡ Some s
+      → entry_verdict full d what v ≡ Ok tt
+      → (start : ℕ) → start ≡ (with_entry d what v).next → shards_after (entry_line d by what) what s start v.tree
+      ≡ (with_entry d what v).tree
   shards_step full (entry.Made a name count) later of good start is = absurd later
   shards_step full (entry.Split a sh at n low high) later of good start is =
       let closing : Closing = record { number = n; clock = d } in
@@ -119,22 +131,33 @@ module _ (d by s : ℕ) (v : StreamValue) where
   shards_step full _ later of good start is = refl
 
   records_step : (what : Entry) → IsLater what → stream_of what ≡ Some s → (q : ℕ) (before : List Logged)
-      → map bare before ≡ records_in v.records q → map bare (records_after (entry_line d by what) what s q before) ≡ records_in (with_entry d what v).records q
+      → map bare before ≡ records_in v.records q → map bare (records_after (entry_line d by what) what s q before)
+      ≡ records_in (with_entry d what v).records q
   records_step (entry.Made a name count) later of q before h = absurd later
   records_step (entry.Put a sh n hash bytes key_bytes) later of q before h =
       let line : Line = entry_line d by (entry.Put a sh n hash bytes key_bytes) in
-      let x : Logged = record { seq = n; arrival = d; bytes = bytes + key_bytes; key = line.key; payload = line.payload } in
-      rw (its a s of) (record_more q before x v.records (record { shard = sh; seq = n; arrival = d; bytes = bytes + key_bytes }) refl h)
+      let x : Logged = record {
+        seq = n;
+        arrival = d;
+        bytes = bytes + key_bytes;
+        key = line.key;
+        payload = line.payload;
+      } in
+      rw (its a s of) (record_more q before x v.records
+      (record { shard = sh; seq = n; arrival = d; bytes = bytes + key_bytes }) refl h)
   records_step _ later of q before h = h
 
-  puts_step : (what : Entry) → IsLater what → stream_of what ≡ Some s → (q : ℕ) (before : List SizedPut) → before ≡ puts_in v.records q
+  puts_step : (what : Entry) → IsLater what → stream_of what ≡ Some s → (q : ℕ) (before : List SizedPut)
+      → before ≡ puts_in v.records q
       → puts_after (entry_line d by what) what s q before ≡ puts_in (with_entry d what v).records q
   puts_step (entry.Made a name count) later of q before h = absurd later
   puts_step (entry.Put a sh n hash bytes key_bytes) later of q before h =
-      rw (its a s of) (put_more q before v.records (record { shard = sh; seq = n; arrival = d; bytes = bytes + key_bytes }) h)
+      rw (its a s of) (put_more q before v.records
+      (record { shard = sh; seq = n; arrival = d; bytes = bytes + key_bytes }) h)
   puts_step _ later of q before h = h
 
-  floor_step : (log : Journal) (what : Entry) → IsLater what → stream_of what ≡ Some s → IsStream log s v → last_clock log ≤ d
+  floor_step : (log : Journal) (what : Entry) → IsLater what → stream_of what ≡ Some s → IsStream log s v
+      → last_clock log ≤ d
       → (c : ℕ) → d ≤ c → trim_floor (entry_line d by what ∷ log) c s ≡ floor_in (with_entry d what v) c
   floor_step log (entry.Made a name count) later of st order c after = absurd later
   floor_step log (entry.Kept a wanted) later of st order c after =
@@ -146,11 +169,13 @@ module _ (d by s : ℕ) (v : StreamValue) where
       floor_same log (entry_line d by what) s c after refl ∙ st.trims c (omega (arith, order, after))
 
   -- ... and all of them
-  pub stream_step : (log : Journal) (full : Bool) (what : Entry) → IsLater what → stream_of what ≡ Some s → entry_verdict full d what v ≡ Ok tt
+  pub stream_step : (log : Journal) (full : Bool) (what : Entry) → IsLater what → stream_of what ≡ Some s
+      → entry_verdict full d what v ≡ Ok tt
       → last_clock log ≤ d → IsStream log s v → IsStream (entry_line d by what ∷ log) s (with_entry d what v)
   stream_step log full what later of good order st =
       let line : Line = entry_line d by what in
-      let next : next_number (line ∷ log) s ≡ (with_entry d what v).next = ap (λ n. draws what s + n) st.draws ∙ next_step what later of in
+      let next : next_number (line ∷ log) s ≡ (with_entry d what v).next =
+      ap (λ n. draws what s + n) st.draws ∙ next_step what later of in
       record {
         was = was_step what (was_made log s) later ∙ st.was;
         named = ap (name_of_after what s) st.named ∙ name_step what later;

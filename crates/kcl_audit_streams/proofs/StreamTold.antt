@@ -1,5 +1,6 @@
 -- What the entry of a stream tells, by what a judge keeps of it.
-use Rattle.std.proofs.Common.{◌≡◌, ◌≢◌, ℕ, zero, suc, ◌+◌, ◌≤◌, Bool, true, false, List, length, slice_get, Option, Some, None}
+use Rattle.std.proofs.Common.{◌≡◌, ◌≢◌, ℕ, zero, suc, ◌+◌, ◌≤◌, Bool, true, false, List, length, slice_get, Option}
+use Rattle.std.proofs.Common.{Some, None}
 use Rattle.std.proofs.Common.{refl, sym, ap, subst, ◌∙◌, arith}
 use Rattle.std.specs.Prelude.{◌==◌, ◌&&◌, not, is_some, nat_lt, nat_le, if◌then◌else◌, IfSome, Result, Ok}
 use Rattle.std.specs.List.{AllByRecursion}
@@ -23,7 +24,8 @@ use Rattle.kds_defs.specs.StreamCommands.{delete, keep, merge, put_line, split}
 use Rattle.kds_defs.specs.Streams.{hours, is_live, trim_floor}
 use Rattle.kds_defs.specs.Subjects.{stream_of}
 use Rattle.kds_defs.proofs.Leads.{Leads, past_test}
-use Rattle.kcl_audit_streams.specs.Judging.{agrees, entry_verdict, home_in, put_verdict, refused, split_verdict, merge_verdict}
+use Rattle.kcl_audit_streams.specs.Judging.{agrees, entry_verdict, home_in, put_verdict, refused, split_verdict}
+use Rattle.kcl_audit_streams.specs.Judging.{merge_verdict}
 use Rattle.kcl_audit_streams.specs.Standing.{IsStream, StreamValue, floor_in, is_listed_in, is_listed_of}
 use Rattle.kcl_audit_streams.specs.Verdict.{Verdict, judged}
 use Rattle.kcl_audit_streams.proofs.SameEntries.{same_refl}
@@ -40,8 +42,10 @@ then_refuse r false d what x h = h
 -- a stream that is live, or isn't
 judged_in : (log : Journal) (s : ℕ) (d : Decision) (what : Entry) (live : Bool) → is_live log s ≡ live
     → judged (in_stream log s d) what ≡ (if live then judged d what else refused refusal.NoStream)
-judged_in log s d what true is = then_refuse refusal.NoStream (not (is_live log s)) d what (judged d what) refl ∙ rw is refl
-judged_in log s d what false is = then_refuse refusal.NoStream (not (is_live log s)) d what (judged d what) refl ∙ rw is refl
+judged_in log s d what true is = then_refuse refusal.NoStream (not (is_live log s)) d what (judged d what) refl
+    ∙ rw is refl
+judged_in log s d what false is = then_refuse refusal.NoStream (not (is_live log s)) d what (judged d what) refl
+    ∙ rw is refl
 
 -- ---- the lines that a decision gives are those of entries
 
@@ -61,7 +65,8 @@ length-blank zero = refl
 length-blank (suc n) = ap suc (length-blank n)
 
 put_told : (log : Journal) (clock by s sh m hash bytes key_bytes : ℕ) (v : StreamValue) → IsStream log s v
-    → judged (put log clock by s (item_of (entry_line clock by (entry.Put s sh m hash bytes key_bytes)) hash)) (entry.Put s sh m hash bytes key_bytes)
+    → judged (put log clock by s (item_of (entry_line clock by (entry.Put s sh m hash bytes key_bytes)) hash))
+    (entry.Put s sh m hash bytes key_bytes)
     ≡ put_verdict v clock sh m hash (bytes + key_bytes)
 put_told log clock by s sh m hash bytes key_bytes v st =
     then_refuse _ _ _ _ _ (then_refuse _ _ _ _ _ refl)
@@ -81,11 +86,13 @@ kept_told log clock by s wanted =
 
 -- ---- listed shards
 
-listed_state : (log : Journal) (c s f : ℕ) (o : Option ShardState) (live : Bool) → is_live log s ≡ live → trim_floor log c s ≡ f → is_listed_state log c s o ≡ (live && is_listed_of f o)
+listed_state : (log : Journal) (c s f : ℕ) (o : Option ShardState) (live : Bool) → is_live log s ≡ live
+    → trim_floor log c s ≡ f → is_listed_state log c s o ≡ (live && is_listed_of f o)
 listed_state log c s f None _ live is = grind (arith, live)
 listed_state log c s f (Some x) _ live is = grind (arith, live, is)
 
-pub listed_is : (log : Journal) (c s sh : ℕ) (v : StreamValue) → IsStream log s v → last_clock log ≤ c → is_listed log c s sh ≡ is_listed_in (Some v) c sh
+pub listed_is : (log : Journal) (c s sh : ℕ) (v : StreamValue) → IsStream log s v → last_clock log ≤ c
+    → is_listed log c s sh ≡ is_listed_in (Some v) c sh
 listed_is log c s sh v st order =
     listed_state log c s (floor_in v c) (shard_at log s sh) (is_live log s) refl (st.trims c order)
     ∙ ap (λ (b : Bool). b && is_listed_of (floor_in v c) (shard_at log s sh)) st.lives
@@ -101,16 +108,31 @@ listed_made live f None h = grind (arith, h)
 pub swapped : (a b : ℕ) → (a == b) ≡ (b == a)
 swapped a b = grind (arith, nat_tests)
 
-split_told : (log : Journal) (clock by s sh at m low high : ℕ) (v : StreamValue) (full : Bool) → IsStream log s v → last_clock log ≤ clock
+split_told : (log : Journal) (clock by s sh at m low high : ℕ) (v : StreamValue) (full : Bool) → IsStream log s v
+    → last_clock log ≤ clock
     → full ≡ nat_le OPEN_SHARDS (open_count log)
     → judged (split log clock by s sh at) (entry.Split s sh at m low high) ≡ split_verdict v clock sh at full m low high
 split_told log clock by s sh at m low high v full st order room =
     let n = length v.tree in
-    then_refuse _ _ _ _ _ (then_refuse _ _ _ _ _ (then_refuse _ _ _ _ _ (then_refuse _ _ _ _ _ (then_refuse _ _ _ _ _ refl))))
-    ∙ rw (listed_is log clock s sh v st order, sym room, st.shards_are, st.draws, is_itself s, is_itself sh, is_itself at)
-    (rw (swapped v.next m, swapped n low, swapped (n + 1) high) (grind (arith, listed_made v.live (floor_in v clock) (slice_get v.tree sh))))
+    then_refuse _ _ _ _ _
+    (then_refuse _ _ _ _ _ (then_refuse _ _ _ _ _ (then_refuse _ _ _ _ _ (then_refuse _ _ _ _ _ refl))))
+    ∙ rw (
+      listed_is log clock s sh v st order,
+      sym room,
+      st.shards_are,
+      st.draws,
+      is_itself s,
+      is_itself sh,
+      is_itself at,
+    )
+    (rw (
+      swapped v.next m,
+      swapped n low,
+      swapped (n + 1) high,
+    ) (grind (arith, listed_made v.live (floor_in v clock) (slice_get v.tree sh))))
 
-merge_told : (log : Journal) (clock by s sh other m child : ℕ) (v : StreamValue) → IsStream log s v → last_clock log ≤ clock
+merge_told : (log : Journal) (clock by s sh other m child : ℕ) (v : StreamValue) → IsStream log s v
+    → last_clock log ≤ clock
     → judged (merge log clock by s sh other) (entry.Merged s sh other m child) ≡ merge_verdict v clock sh other m child
 merge_told log clock by s sh other m child v st order =
     let n = length v.tree in
@@ -118,7 +140,14 @@ merge_told log clock by s sh other m child v st order =
     λ q. listed_made v.live (floor_in v clock) (slice_get v.tree q) in
     then_refuse _ _ _ _ _ (then_refuse _ _ _ _ _ (then_refuse _ _ _ _ _ (then_refuse _ _ _ _ _ refl)))
     ∙ rw (listed_is log clock s sh v st order, listed_is log clock s other v st order, st.shards_are, st.draws)
-    (rw (is_itself s, is_itself sh, is_itself other, swapped v.next m, swapped n child, plus_none n) (grind (arith, made sh, made other)))
+    (rw (
+      is_itself s,
+      is_itself sh,
+      is_itself other,
+      swapped v.next m,
+      swapped n child,
+      plus_none n,
+    ) (grind (arith, made sh, made other)))
 
 -- ---- each entry, once its stream is live
 
@@ -127,13 +156,20 @@ pub record Tells (log : Journal) (clock by : ℕ) (what : Entry) (s : ℕ) : Typ
   pub rest : Decision
   pub told_is : told log (entry_line clock by what) what ≡ in_stream log s rest
   pub lines_are : AreTold clock by rest
-  pub verdict_is : (v : StreamValue) (full : Bool) → IsStream log s v → last_clock log ≤ clock → full ≡ nat_le OPEN_SHARDS (open_count log)
+  pub verdict_is : (v : StreamValue) (full : Bool) → IsStream log s v → last_clock log ≤ clock
+      → full ≡ nat_le OPEN_SHARDS (open_count log)
       → judged rest what ≡ entry_verdict full clock what v
 
-each : (log : Journal) (clock by : ℕ) (what : Entry) → IsLater what → IfSome (stream_of what) (λ s. Tells log clock by what s)
+each : (log : Journal) (clock by : ℕ) (what : Entry) → IsLater what
+    → IfSome (stream_of what) (λ s. Tells log clock by what s)
 each log c by (entry.Made s name count) later = absurd later
 each log c by (entry.Gone s) later =
-    record { rest = delete log c by s; told_is = refl; lines_are = (refl, tt); verdict_is = λ v full st order room. ap agrees (same_refl (entry.Gone s)) }
+    record {
+      rest = delete log c by s;
+      told_is = refl;
+      lines_are = (refl, tt);
+      verdict_is = λ v full st order room. ap agrees (same_refl (entry.Gone s));
+    }
 each log c by (entry.Put s sh m hash bytes key_bytes) later =
     let item : NewItem = item_of (entry_line c by (entry.Put s sh m hash bytes key_bytes)) hash in
     let line : Line = put_line log c by s (next_number log s) item in
@@ -142,7 +178,8 @@ each log c by (entry.Put s sh m hash bytes key_bytes) later =
     record {
       rest = put log c by s item;
       told_is = refl;
-      lines_are = past _ _ _ _ _ (past _ _ _ _ _ ((λ i. record line { key = blank (keys i); payload = blank (payloads i) }), tt));
+      lines_are = past _ _ _ _ _
+          (past _ _ _ _ _ ((λ i. record line { key = blank (keys i); payload = blank (payloads i) }), tt));
       verdict_is = λ v full st order room. put_told log c by s sh m hash bytes key_bytes v st;
     }
 each log c by (entry.Split s sh at m low high) later = record {
@@ -159,10 +196,20 @@ each log c by (entry.Merged s sh other m child) later = record {
 }
 each log c by (entry.Kept s wanted) later =
     let after = keep log c by s wanted (not (nat_lt wanted (hours log s))) in
-    record { rest = after; told_is = refl; lines_are = past _ _ _ _ _ (refl, tt); verdict_is = λ v full st order room. kept_told log c by s wanted }
+    record {
+      rest = after;
+      told_is = refl;
+      lines_are = past _ _ _ _ _ (refl, tt);
+      verdict_is = λ v full st order room. kept_told log c by s wanted;
+    }
 each log c by (entry.Enforced s on) later =
     let same = same_refl (entry.Enforced s on) in
-    record { rest = enforce log c by s on; told_is = refl; lines_are = (refl, tt); verdict_is = λ v full st order room. ap agrees same }
+    record {
+      rest = enforce log c by s on;
+      told_is = refl;
+      lines_are = (refl, tt);
+      verdict_is = λ v full st order room. ap agrees same;
+    }
 each log c by _ later = tt
 
 module _ (log : Journal) (clock by s : ℕ) (what : Entry) (later : IsLater what) (of : stream_of what ≡ Some s) where
@@ -170,14 +217,17 @@ module _ (log : Journal) (clock by s : ℕ) (what : Entry) (later : IsLater what
   tells = subst (λ o. IfSome o (λ m. Tells log clock by what m)) of (each log clock by what later)
 
   judged_so : (live : Bool) → is_live log s ≡ live
-      → judged (told log (entry_line clock by what) what) what ≡ (if live then judged tells.rest what else refused refusal.NoStream)
+      → judged (told log (entry_line clock by what) what) what
+      ≡ (if live then judged tells.rest what else refused refusal.NoStream)
   judged_so live is = ap (λ d. judged d what) tells.told_is ∙ judged_in log s tells.rest what live is
 
-  pub gone_told : is_live log s ≡ false → judged (told log (entry_line clock by what) what) what ≡ refused refusal.NoStream
+  pub gone_told : is_live log s ≡ false → judged (told log (entry_line clock by what) what) what
+      ≡ refused refusal.NoStream
   gone_told gone = judged_so false gone
 
   pub live_told : (v : StreamValue) (full : Bool) → IsStream log s v → v.live ≡ true → last_clock log ≤ clock
-      → full ≡ nat_le OPEN_SHARDS (open_count log) → judged (told log (entry_line clock by what) what) what ≡ entry_verdict full clock what v
+      → full ≡ nat_le OPEN_SHARDS (open_count log) → judged (told log (entry_line clock by what) what) what
+      ≡ entry_verdict full clock what v
   live_told v full st live order room = judged_so true (st.lives ∙ live) ∙ tells.verdict_is v full st order room
 
   lines_told : AreTold clock by (told log (entry_line clock by what) what)

@@ -1,5 +1,7 @@
 -- What is judged of an entry of a stream, and kept of a good one, by what is known of the streams.
-use Rattle.std.specs.Prelude.{ℕ, zero, suc, ◌+◌, ◌-◌, ◌*◌, max, Bool, true, false, ◌==◌, ◌&&◌, ◌||◌, not, nat_le, nat_lt, if◌then◌else◌, List, [], ◌∷◌, ◌++◌, length, slice_get, Option, Some, None, Ok, Err}
+use Rattle.std.specs.Prelude.{ℕ, zero, suc, ◌+◌, ◌-◌, ◌*◌, max, Bool, true, false, ◌==◌, ◌&&◌, ◌||◌, not, nat_le}
+use Rattle.std.specs.Prelude.{nat_lt, if◌then◌else◌, List, [], ◌∷◌, ◌++◌, length, slice_get, Option, Some, None, Ok}
+use Rattle.std.specs.Prelude.{Err}
 use Rattle.std.specs.List.{filter}
 use Rattle.kds_defs.specs.declared.command.Origin.{Origin}
 use Rattle.kds_defs.specs.declared.command.Origin.TheVariants as origin
@@ -42,7 +44,8 @@ home_in v hash = home_among (filter is_open v.tree) hash
 -- a put of so many bytes at a clock
 abbrev pub put_verdict : StreamValue → ℕ → ℕ → ℕ → ℕ → ℕ → Verdict
 put_verdict v clock sh number hash bytes =
-    if v.enforced && is_throttled (puts_in v.records (home_in v hash)) clock bytes then refused (refusal.Throttled (home_in v hash)) else
+    if v.enforced && is_throttled (puts_in v.records (home_in v hash)) clock bytes then refused
+    (refusal.Throttled (home_in v hash)) else
     if v.next == last_number then refused refusal.Spent else
     agrees ((home_in v hash == sh) && (v.next == number))
 
@@ -71,7 +74,8 @@ left_in v clock sh position = left_among (floor_in v clock) position (records_in
 
 -- the shard is closed, and nothing of it is left after a batch of these numbers
 abbrev pub is_end_in : StreamValue → ℕ → ℕ → ℕ → List ℕ → Bool
-is_end_in v clock sh position numbers = is_closed_at (slice_get v.tree sh) && are_none (left_in v clock sh (place_after position numbers))
+is_end_in v clock sh position numbers =
+    is_closed_at (slice_get v.tree sh) && are_none (left_in v clock sh (place_after position numbers))
 
 -- the position where reading of a shard begins from an origin at a clock
 abbrev pub position_in : StreamValue → ℕ → ℕ → Origin → ℕ
@@ -114,7 +118,8 @@ in_live (Some v) next = next v
 
 -- an entry, other than a making, of a live stream at a clock, where `full` tells that no more shards may be open
 abbrev pub entry_verdict : Bool → ℕ → Entry → StreamValue → Verdict
-entry_verdict full clock (entry.Put s sh number hash bytes key_bytes) = λ v. put_verdict v clock sh number hash (bytes + key_bytes)
+entry_verdict full clock (entry.Put s sh number hash bytes key_bytes) =
+    λ v. put_verdict v clock sh number hash (bytes + key_bytes)
 entry_verdict full clock (entry.Split s sh at number low high) = λ v. split_verdict v clock sh at full number low high
 entry_verdict full clock (entry.Merged s sh other number child) = λ v. merge_verdict v clock sh other number child
 entry_verdict full clock _ = λ v. Ok tt
@@ -147,7 +152,11 @@ abbrev pub with_put : Sized → StreamValue → StreamValue
 with_put r v = record v { next = v.next + 1; records = v.records ++ r ∷ [] }
 
 abbrev pub with_split : ℕ → ℕ → ℕ → ℕ → StreamValue → StreamValue
-with_split clock sh at number v = record v { next = v.next + 1; tree = split_shards sh at (record { number = number; clock = clock }) (number + 1) v.tree }
+with_split clock sh at number v =
+    record v {
+      next = v.next + 1;
+      tree = split_shards sh at (record { number = number; clock = clock }) (number + 1) v.tree;
+    }
 
 abbrev pub with_merge : ℕ → ℕ → ℕ → ℕ → StreamValue → StreamValue
 with_merge clock sh other number v = record v {
@@ -174,7 +183,8 @@ changed_at (suc n) f (v ∷ vs) = v ∷ changed_at n f vs
 -- a stream after a good entry of it at a clock, other than its making
 abbrev pub with_entry : ℕ → Entry → StreamValue → StreamValue
 with_entry clock (entry.Gone s) = with_gone
-with_entry clock (entry.Put s sh number hash bytes key_bytes) = with_put (record { shard = sh; seq = number; arrival = clock; bytes = bytes + key_bytes })
+with_entry clock (entry.Put s sh number hash bytes key_bytes) =
+    with_put (record { shard = sh; seq = number; arrival = clock; bytes = bytes + key_bytes })
 with_entry clock (entry.Split s sh at number low high) = with_split clock sh at number
 with_entry clock (entry.Merged s sh other number child) = with_merge clock sh other number
 with_entry clock (entry.Kept s hours) = with_hours clock hours

@@ -1,5 +1,6 @@
 -- Which journals the streams that a judge knows stand for.
-use Rattle.std.specs.Prelude.{ℕ, ◌≡◌, ◌+◌, ◌*◌, ◌<◌, ◌≤◌, ◌==◌, ◌&&◌, max, zero, suc, Bool, true, false, not, if◌then◌else◌, List, [], ◌∷◌, length}
+use Rattle.std.specs.Prelude.{ℕ, ◌≡◌, ◌+◌, ◌*◌, ◌<◌, ◌≤◌, ◌==◌, ◌&&◌, max, zero, suc, Bool, true, false, not}
+use Rattle.std.specs.Prelude.{if◌then◌else◌, List, [], ◌∷◌, length}
 use Rattle.std.specs.Prelude.{map, slice_get, Option, Some, None}
 use Rattle.std.specs.List.{filter}
 use Rattle.kds_base.specs.declared.lease_key.ShardRef.{ShardRef}

@@ -1,5 +1,6 @@
 -- What a judge says of an entry: that it is good, or the rule that it breaks.
-use Rattle.std.specs.Prelude.{ℕ, ◌+◌, ◌^◌, ◌<◌, ◌≤◌, Bool, true, false, ◌==◌, ◌&&◌, nat_eq, nat_lt, if◌then◌else◌, List, [], ◌∷◌, Result, Ok, Err}
+use Rattle.std.specs.Prelude.{ℕ, ◌+◌, ◌^◌, ◌<◌, ◌≤◌, Bool, true, false, ◌==◌, ◌&&◌, nat_eq, nat_lt, if◌then◌else◌, List}
+use Rattle.std.specs.Prelude.{[], ◌∷◌, Result, Ok, Err}
 use Rattle.std.specs.Cmp.Lexicographic.{pointwise}
 use Rattle.kds_defs.specs.declared.command.Origin.{Origin}
 use Rattle.kds_defs.specs.declared.command.Origin.TheVariants as origin
@@ -41,10 +42,12 @@ same_origin _ _ = false
 
 -- both entries are the same
 abbrev pub same_entry : Entry → Entry → Bool
-same_entry (entry.Made s name count) (entry.Made s' name' count') = (s == s') && (same_list name name' && (count == count'))
+same_entry (entry.Made s name count) (entry.Made s' name' count') =
+    (s == s') && (same_list name name' && (count == count'))
 same_entry (entry.Gone s) (entry.Gone s') = s == s'
 same_entry (entry.Put s sh number hash bytes key_bytes) (entry.Put s' sh' number' hash' bytes' key_bytes') =
-    (s == s') && ((sh == sh') && ((number == number') && ((hash == hash') && ((bytes == bytes') && (key_bytes == key_bytes')))))
+    (s == s') && ((sh == sh')
+    && ((number == number') && ((hash == hash') && ((bytes == bytes') && (key_bytes == key_bytes')))))
 same_entry (entry.Split s sh at number low high) (entry.Split s' sh' at' number' low' high') =
     (s == s') && ((sh == sh') && ((at == at') && ((number == number') && ((low == low') && (high == high')))))
 same_entry (entry.Merged s sh other number child) (entry.Merged s' sh' other' number' child') =
@@ -60,7 +63,8 @@ same_entry (entry.Opened t) (entry.Opened t') = t == t'
 same_entry (entry.Read t limit ended numbers) (entry.Read t' limit' ended' numbers') =
     (t == t') && ((limit == limit') && (same_flag ended ended' && same_list numbers numbers'))
 same_entry (entry.Given t) (entry.Given t') = t == t'
-same_entry (entry.Marked t counter to) (entry.Marked t' counter' to') = (t == t') && ((counter == counter') && same_target to to')
+same_entry (entry.Marked t counter to) (entry.Marked t' counter' to') =
+    (t == t') && ((counter == counter') && same_target to to')
 same_entry (entry.LeaseCut key counter) (entry.LeaseCut key' counter') = same_key key key' && (counter == counter')
 same_entry _ _ = false
 
@@ -77,7 +81,8 @@ judged (Accepted lines reply) what = if gives lines what then Ok tt else Err rul
 -- a line after the lines of a journal: its clock isn't below the last one's, the command that it tells is allowed
 -- there, and it gives this entry
 abbrev pub verdict : Journal → Line → Verdict
-verdict log line = if nat_lt line.clock (last_clock log) then Err rule.Clock else judged (told log line line.what) line.what
+verdict log line = if nat_lt line.clock (last_clock log) then Err rule.Clock else judged (told log line line.what)
+    line.what
 
 -- the clock of the last line of a journal's text
 abbrev pub end_verdict : Journal → ℕ → Verdict

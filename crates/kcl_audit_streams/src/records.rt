@@ -58,7 +58,8 @@ fn is_left(item: &Sized, shard: ShardNo, floor: u64, position: u64) -> bool
 /// Precondition: `records` is sorted by sequence number.
 pub fn from_position(records: &[Sized], position: u64) -> &[Sized]
     requires { IsNonDecreasingBy (λ r. r.seq) records.now }
-    ensures { (shard floor : ℕ) → left_among floor position (records_in result.now shard) ≡ left_among floor position (records_in records.now shard) }
+    ensures { (shard floor : ℕ) → left_among floor position (records_in result.now shard)
+        ≡ left_among floor position (records_in records.now shard) }
 {
     let start = records.partition_point(|item| item.seq.0 < position);
     &records[start..]
@@ -75,7 +76,9 @@ pub fn batch(
     position: u64,
     limit: u32,
 ) -> Result<Items<Seq>, Memory>
-    ensures { IfOk result (λ ns. ns ≡ numbers_of (beginning limit BATCH_BYTES (left_among floor position (records_in records.now shard)))) }
+    ensures { IfOk result
+        (λ ns. ns ≡ numbers_of
+        (beginning limit BATCH_BYTES (left_among floor position (records_in records.now shard)))) }
 {
     let mut numbers = Items::new(alloc);
     let mut left = limit;

@@ -1,7 +1,8 @@
 //! A stream in the judge's model of the streams. The judge checks the entries of a journal, which is an event log. An
 //! entry records a command and what this command changed. The trim floor is a time that follows from the retention
 //! period. Records that arrived before the trim floor are trimmed, and no others.
-ghost use Rattle.std.specs.Prelude.{Bool, Ok, ◌≡◌, ◌≢◌, ◌+◌, ◌-◌, ◌*◌, ◌<◌, ◌≤◌, ◌^◌, if◌then◌else◌, slice_get, None, Some, IfOk, OnOk, OnErr};
+ghost use Rattle.std.specs.Prelude.{Bool, Ok, ◌≡◌, ◌≢◌, ◌+◌, ◌-◌, ◌*◌, ◌<◌, ◌≤◌, ◌^◌, if◌then◌else◌, slice_get, None};
+ghost use Rattle.std.specs.Prelude.{Some, IfOk, OnOk, OnErr};
 ghost use Rattle.std.specs.Option.{option_map};
 ghost use Rattle.std.specs.List.{AllByRecursion};
 ghost use Rattle.kds_defs.specs.declared.limits.TheConstants.{BATCH_BYTES, HOUR, MOST_SHARDS};
@@ -12,7 +13,10 @@ ghost use Rattle.kds_defs.specs.Streams.{floor_at, floor_of};
 ghost use Rattle.kds_tree.specs.Tree.{merge_refusal, split_refusal};
 ghost use Rattle.kcl_audit_streams.specs.declared.rule.Rule.TheVariants as rule;
 ghost use Rattle.kcl_audit_streams.specs.Verdict.{IsFit};
-ghost use Rattle.kcl_audit_streams.specs.Judging.{agrees, entry_verdict, is_end_in, is_spent, left_in, merge_verdict, new_stream, position_in, put_verdict, refused, split_verdict, with_entry, with_gone, with_hours, with_limits, with_merge, with_put, with_split};
+ghost use Rattle.kcl_audit_streams.specs.Judging.{agrees, entry_verdict, is_end_in, is_spent, left_in, merge_verdict};
+ghost use Rattle.kcl_audit_streams.specs.Judging.{new_stream, position_in, put_verdict, refused, split_verdict};
+ghost use Rattle.kcl_audit_streams.specs.Judging.{with_entry, with_gone, with_hours, with_limits, with_merge, with_put};
+ghost use Rattle.kcl_audit_streams.specs.Judging.{with_split};
 ghost use Rattle.kcl_audit_streams.specs.Standing.{floor_in, is_listed_in};
 
 use crate::records::{Records, Sized, batch, first_since, from_position, none_left};
@@ -50,7 +54,8 @@ impl Model for ToldStream {
 
     ghost Value = { StreamValue };
 
-    ghost invariant = { λ s. (s.floor ≤ 2 ^ 62) × (AllByRecursion (λ r. r.seq < 2 ^ 64 - 1) s.records × AreNumbered s.next s.records) };
+    ghost invariant = { λ s. (s.floor ≤ 2 ^ 62)
+        × (AllByRecursion (λ r. r.seq < 2 ^ 64 - 1) s.records × AreNumbered s.next s.records) };
 
     ghost view = { λ s. record {
       name = s.name;
@@ -163,7 +168,8 @@ impl ToldStream {
 
     /// Returns the shard with the number `shard`, or `None` if there is no such shard or the stream was deleted.
     pub fn shard(&self, shard: ShardNo) -> Option<&Shard>
-        ensures { option_map (λ x. x.now) result ≡ (if self.now.live then option_map shown (slice_get self.now.tree shard) else None) }
+        ensures { option_map (λ x. x.now) result
+            ≡ (if self.now.live then option_map shown (slice_get self.now.tree shard) else None) }
     {
         if self.live {
             self.tree.shard(shard)
@@ -268,7 +274,8 @@ impl ToldStream {
         position: u64,
         limit: u32,
     ) -> Result<(Items<Seq>, bool), Memory>
-        ensures numbers { IfOk result (λ r. r.0 ≡ numbers_of (beginning limit BATCH_BYTES (left_in self.now clock shard position))) }
+        ensures numbers { IfOk result
+            (λ r. r.0 ≡ numbers_of (beginning limit BATCH_BYTES (left_in self.now clock shard position))) }
         ensures small { IfOk result (λ r. AllByRecursion (λ n. n < 2 ^ 64 - 1) r.0) }
         ensures end { IfOk result (λ r. r.1 ≡ is_end_in self.now clock shard position r.0) }
     {
@@ -321,7 +328,8 @@ impl ToldStream {
     ) -> Result<(), Memory>
         requires number { seq ≡ self.old.next }
         requires unspent { self.old.next ≢ last_number }
-        ensures ok { OnOk result (self.new ≡ with_put (record { shard = shard; seq = seq; arrival = clock; bytes = bytes }) self.old) }
+        ensures ok { OnOk result
+            (self.new ≡ with_put (record { shard = shard; seq = seq; arrival = clock; bytes = bytes }) self.old) }
         ensures err { OnErr result (self.new ≡ self.old) }
     {
         self.records.push(Sized {

@@ -1,10 +1,12 @@
 //! All streams in the judge's model of the streams. The judge checks the entries of a journal, which is an event log.
-ghost use Rattle.std.specs.Prelude.{Bool, not, nat_lt, length, ◌≡◌, ◌==◌, ◌+◌, ◌-◌, ◌≤◌, ◌∷◌, ◌++◌, [], if◌then◌else◌, None, Some, Ok, OnErr, OnOk};
+ghost use Rattle.std.specs.Prelude.{Bool, not, nat_lt, length, ◌≡◌, ◌==◌, ◌+◌, ◌-◌, ◌≤◌, ◌∷◌, ◌++◌, [], if◌then◌else◌};
+ghost use Rattle.std.specs.Prelude.{None, Some, Ok, OnErr, OnOk};
 ghost use Rattle.std.specs.List.{filter};
 ghost use Rattle.std.specs.Option.{option_map};
 ghost use Rattle.kds_defs.specs.declared.limits.TheConstants.{MOST_SHARDS, OPEN_SHARDS};
 ghost use Rattle.kcl_audit_streams.specs.Standing.{is_listed_in, live_at};
-ghost use Rattle.kcl_audit_streams.specs.Judging.{changed_at, entry_verdict, in_live, is_named, lacks_room, live_count, made_refusal, new_stream, with_entry};
+ghost use Rattle.kcl_audit_streams.specs.Judging.{changed_at, entry_verdict, in_live, is_named, lacks_room, live_count};
+ghost use Rattle.kcl_audit_streams.specs.Judging.{made_refusal, new_stream, with_entry};
 ghost use Rattle.kcl_audit_streams.specs.Living.{is_deletion, is_named_among, open_among};
 ghost use Rattle.kcl_audit_streams.specs.Verdict.{IsFit};
 

@@ -1,5 +1,6 @@
 -- The tenures of leases, the first of them number 1 (Kinesis Client Library, lease ownership).
-use Rattle.std.specs.Prelude.{ℕ, zero, suc, ◌≡◌, ◌-◌, Bool, false, List, [], ◌∷◌, ◌++◌, length, slice_get, slice_set, Option, None, IfSome}
+use Rattle.std.specs.Prelude.{ℕ, zero, suc, ◌≡◌, ◌-◌, Bool, false, List, [], ◌∷◌, ◌++◌, length, slice_get, slice_set}
+use Rattle.std.specs.Prelude.{Option, None, IfSome}
 use Rattle.kds_base.specs.declared.lease_key.Checkpoint.{Checkpoint}
 use Rattle.kds_base.specs.declared.lease_key.ShardRef.{ShardRef}
 use Rattle.kds_defs.specs.Leases.{place_of}
@@ -26,7 +27,16 @@ pub record BookValue : Type 0 where
 -- a tenure as it begins: nothing is read or given
 abbrev pub begun : ℕ → ShardRef → Checkpoint → TenureValue
 begun by key start =
-    record { by = by; key = key; start = start; opened = false; reach = place_of start; delivered = place_of start; pending = []; at_end = false }
+    record {
+      by = by;
+      key = key;
+      start = start;
+      opened = false;
+      reach = place_of start;
+      delivered = place_of start;
+      pending = [];
+      at_end = false;
+    }
 
 -- the tenure of a number
 abbrev pub tenure_at : List TenureValue → ℕ → Option TenureValue

@@ -1,7 +1,8 @@
 //! The tenures of all leases. A tenure is one worker's hold on a lease. An actor is a client or a process. Each read of
 //! a tenure fetches a batch of records. A read counts as delivered once the record processor has processed its batch.
 //! Until then, the read is pending.
-ghost use Rattle.std.specs.Prelude.{◌≡◌, ◌≢◌, ◌+◌, ◌-◌, ◌<◌, ◌≤◌, ◌++◌, ◌∷◌, ◌==◌, [], length, true, false, IfErr, IfNone, IfOk, IfSome, IsSome, None, OnErr, OnOk, Some};
+ghost use Rattle.std.specs.Prelude.{◌≡◌, ◌≢◌, ◌+◌, ◌-◌, ◌<◌, ◌≤◌, ◌++◌, ◌∷◌, ◌==◌, [], length, true, false, IfErr};
+ghost use Rattle.std.specs.Prelude.{IfNone, IfOk, IfSome, IsSome, None, OnErr, OnOk, Some};
 ghost use Rattle.std.specs.Option.{option_map};
 ghost use Rattle.kds_base.specs.declared.lease_key.Checkpoint.TheVariants.{At, ShardEnd};
 ghost use Rattle.kds_defs.specs.declared.limits.TheConstants.{PENDING_READS};
@@ -142,7 +143,8 @@ impl Book {
         requires opened { IfSome (tenure_at self.old.tenures no) (λ t. t.opened ≡ true) }
         requires room { IfSome (tenure_at self.old.tenures no) (λ t. length t.pending < PENDING_READS) }
         requires onward { IfSome (tenure_at self.old.tenures no) (λ t. t.reach ≤ reach) }
-        ensures { IfSome (tenure_at self.old.tenures no) (λ t. self.new ≡ with_tenure no (with_read reach end t) self.old) }
+        ensures { IfSome (tenure_at self.old.tenures no)
+            (λ t. self.new ≡ with_tenure no (with_read reach end t) self.old) }
     {
         self.tenures[(no.0 - 1) as usize].read(reach, end);
     }

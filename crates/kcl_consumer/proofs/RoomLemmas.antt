@@ -1,5 +1,6 @@
 -- In the phase that reads, fewer batches wait than may, and a Read is refused for too many only where as many wait.
-use Rattle.std.proofs.Common.{◌≡◌, ℕ, suc, ◌+◌, ◌-◌, ◌<◌, ◌≤◌, Bool, true, false, List, [], ◌∷◌, ◌++◌, length, Option, Some, None, Ok, Err, refl, sym, ap}
+use Rattle.std.proofs.Common.{◌≡◌, ℕ, suc, ◌+◌, ◌-◌, ◌<◌, ◌≤◌, Bool, true, false, List, [], ◌∷◌, ◌++◌, length, Option}
+use Rattle.std.proofs.Common.{Some, None, Ok, Err, refl, sym, ap}
 use Rattle.std.proofs.Common.{subst, ◌∙◌, arith, length-append}
 use Rattle.std.specs.Prelude.{◌==◌, ◌||◌, nat_le, nat_lt, if◌then◌else◌, not, map, Result}
 use Rattle.std.proofs.lemmas.Bool.Decides.{nat_tests}
@@ -23,8 +24,10 @@ use Rattle.kcl_defs.specs.declared.consumer.Ask.{Ask}
 use Rattle.kcl_defs.specs.declared.consumer.Fetched.{Fetched}
 use Rattle.kcl_defs.specs.declared.consumer.Tenancy.{Tenancy}
 use Rattle.kcl_defs.specs.declared.consumer.Why.TheVariants as why
-use Rattle.kcl_defs.specs.Consumers.{Answered, Called, Ending, Event, Filling, Giving, Holding, Leaving, Losing, Marking, MarkingEnd, Opening, Over, Past}
-use Rattle.kcl_defs.specs.Consumers.{Phase, Starting, after_answer, after_call, after_event, after_loss, after_open, after_read, calls_after, front}
+use Rattle.kcl_defs.specs.Consumers.{Answered, Called, Ending, Event, Filling, Giving, Holding, Leaving, Losing}
+use Rattle.kcl_defs.specs.Consumers.{Marking, MarkingEnd, Opening, Over, Past}
+use Rattle.kcl_defs.specs.Consumers.{Phase, Starting, after_answer, after_call, after_event, after_loss, after_open}
+use Rattle.kcl_defs.specs.Consumers.{after_read, calls_after, front}
 use Rattle.kcl_defs.specs.Consumers.{given, is_empty, is_filled, is_loss, next_command, onward, phase_after, was_handed}
 use Rattle.kcl_defs.specs.Lives.{Deal, deals_of, gives_after, gives_in, reads_after, reads_in}
 use Rattle.kcl_defs.specs.WorkerLives.{read_done}
@@ -41,7 +44,8 @@ HasRoom _ = Unit {0}
 none_wait : 0 < PENDING_READS
 none_wait = omega arith
 
-first_room : (b : Bool) (place : ℕ) (ws : List Fetched) → HasRoom (if b then Giving place ws None false else Holding place ws)
+first_room : (b : Bool) (place : ℕ) (ws : List Fetched)
+    → HasRoom (if b then Giving place ws None false else Holding place ws)
 first_room true place ws = tt
 first_room false place ws = tt
 
@@ -61,9 +65,11 @@ fetched_room : (limit place : ℕ) (ws : List Fetched) (f : Fetched) (b : Bool) 
 fetched_room limit place ws f true e = front_room place (ws ++ f ∷ [])
 fetched_room limit place ws f false e =
     subst (λ n. n < PENDING_READS) (sym (length-append ws (f ∷ [])))
-    (below PENDING_READS (length ws + 1) (first_false (nat_le PENDING_READS (length ws + 1)) f.ended (nat_lt (length f.batch) limit) e))
+    (below PENDING_READS (length ws + 1)
+    (first_false (nat_le PENDING_READS (length ws + 1)) f.ended (nat_lt (length f.batch) limit) e))
 
-ended_room : (b : Bool) (place : ℕ) (ws : List Fetched) (asked : Option Target) → HasRoom (if b then Ending else onward place ws asked)
+ended_room : (b : Bool) (place : ℕ) (ws : List Fetched) (asked : Option Target)
+    → HasRoom (if b then Ending else onward place ws asked)
 ended_room true place ws asked = tt
 ended_room false place ws None = front_room place ws
 ended_room false place ws (Some target) = tt
@@ -73,7 +79,8 @@ given_room place [] asked lost = tt
 given_room place (f ∷ ws) asked true = tt
 given_room place (f ∷ ws) asked false = ended_room f.ended place ws asked
 
-read_room : (limit place : ℕ) (ws : List Fetched) (a : Result Reply Refusal) → length ws < PENDING_READS → HasRoom (after_read limit place ws a)
+read_room : (limit place : ℕ) (ws : List Fetched) (a : Result Reply Refusal) → length ws < PENDING_READS
+    → HasRoom (after_read limit place ws a)
 read_room limit place ws (Ok (reply.Read batch next ended)) room =
     fetched_room limit next ws (record { batch = batch; ended = ended }) _ refl
 read_room limit place ws (Ok _) room = room
@@ -89,7 +96,8 @@ open_room (Ok r) = tt
 open_room (Err (refusal.ParentsOpen parent)) = tt
 open_room (Err _) = tt
 
-answer_room : (made : Tenancy) (a : Result Reply Refusal) (phase : Phase) → HasRoom phase → HasRoom (after_answer made a phase)
+answer_room : (made : Tenancy) (a : Result Reply Refusal) (phase : Phase) → HasRoom phase
+    → HasRoom (after_answer made a phase)
 answer_room made a Opening room = open_room a
 answer_room made a Starting room = tt
 answer_room made a (Filling place ws) room = read_room made.limit place ws a room
@@ -116,7 +124,8 @@ call_room made asked MarkingEnd room = tt
 call_room made asked (Leaving why) room = tt
 call_room made asked (Over why) room = tt
 
-handed_room : (b : Bool) (place : ℕ) (ws : List Fetched) (asked : Option Target) → HasRoom (if b then Giving place ws asked true else Leaving why.Lost)
+handed_room : (b : Bool) (place : ℕ) (ws : List Fetched) (asked : Option Target)
+    → HasRoom (if b then Giving place ws asked true else Leaving why.Lost)
 handed_room true place ws asked = tt
 handed_room false place ws asked = tt
 
@@ -142,7 +151,8 @@ room_after made [] = tt
 room_after made (event ∷ past) = event_room made event (phase_after made past) (room_after made past)
 
 -- only one phase reads
-reads_filling : (made : Tenancy) (phase : Phase) (counter t position limit : ℕ) → next_command made phase counter ≡ Some (command.Read t position limit)
+reads_filling : (made : Tenancy) (phase : Phase) (counter t position limit : ℕ)
+    → next_command made phase counter ≡ Some (command.Read t position limit)
     → (to : ℕ) × (waiting : List Fetched) × (phase ≡ Filling to waiting) × (made.tenure ≡ t)
 reads_filling made Opening counter t position limit e = cc
 reads_filling made Starting counter t position limit e = cc
@@ -159,7 +169,8 @@ reads_filling made (Over why) counter t position limit e = cc
 
 -- where the answer is that too many wait, as many do
 abbrev IsManyIfRefused : ℕ → List Deal → List Line → Result Reply Refusal → Type 0
-IsManyIfRefused t deals lines a = a ≡ Err refusal.TooManyPending → PENDING_READS + gives_in t deals ≤ length (reads_in t deals)
+IsManyIfRefused t deals lines a = a ≡ Err refusal.TooManyPending
+    → PENDING_READS + gives_in t deals ≤ length (reads_in t deals)
 
 if_tested : (P : List Line → Result Reply Refusal → Type 0) (r : Refusal) (b : Bool) (d : Decision)
     → (b ≡ true → P [] (Err r)) → (b ≡ false → Leads P d) → Leads P (refuse r if b else d)
@@ -204,13 +215,18 @@ never_full by at counter t position limit h made past step next told =
     let ws = r.1 in
     let room : length ws < PENDING_READS = subst HasRoom r.2 (room_after made past) in
     let stands =
-    subst (λ phase. Holds made phase (reads_after made past) (gives_after made past) (calls_after made past)) r.2 (holds made past) in
+    subst (λ phase. Holds made phase (reads_after made past) (gives_after made past) (calls_after made past)) r.2
+    (holds made past) in
     let deals = deals_of by h in
     let turn : Turn = record { by = by; at = at; what = command.Read t position limit } in
     let c = clock_of (turn ∷ h) in
     let many : answer h turn ≡ Err refusal.TooManyPending → PENDING_READS + gives_in t deals ≤ length (reads_in t deals)
-    = leads_so (IsManyIfRefused t deals) (read (journal h) c by t position limit) (read_told by c t position limit deals (journal h) (agree by h)) in
+    = leads_so (IsManyIfRefused t deals) (read (journal h) c by t position limit)
+    (read_told by c t position limit deals (journal h) (agree by h)) in
     let reads : length (reads_in t deals) ≡ length stands.done + length ws
-    = ap (λ n. length (reads_in n deals)) (sym r.3) ∙ ap length step.reads ∙ ap length stands.all ∙ length-append stands.done ws in
-    let gives : gives_in t deals ≡ length stands.done = ap (λ n. gives_in n deals) (sym r.3) ∙ step.gives ∙ sym stands.count in
-    too_many PENDING_READS (length ws) (gives_in t deals) _ room (reads ∙ ap (λ n. n + length ws) (sym gives)) (many told)
+    = ap (λ n. length (reads_in n deals)) (sym r.3) ∙ ap length step.reads ∙ ap length stands.all
+    ∙ length-append stands.done ws in
+    let gives : gives_in t deals ≡ length stands.done = ap (λ n. gives_in n deals) (sym r.3) ∙ step.gives
+    ∙ sym stands.count in
+    too_many PENDING_READS (length ws) (gives_in t deals) _ room (reads ∙ ap (λ n. n + length ws) (sym gives))
+    (many told)

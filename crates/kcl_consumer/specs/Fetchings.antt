@@ -14,4 +14,5 @@ phase_by limit reach waiting fetching.Nothing = Filling reach waiting
 phase_by limit reach waiting (fetching.Left why) = Leaving why
 
 abbrev pub IsFetching : Result Reply Refusal → Fetching → Type 0
-IsFetching answer f = (limit reach : ℕ) (waiting : List Fetched) → after_read limit reach waiting answer ≡ phase_by limit reach waiting f
+IsFetching answer f = (limit reach : ℕ) (waiting : List Fetched)
+    → after_read limit reach waiting answer ≡ phase_by limit reach waiting f

@@ -3,7 +3,8 @@ use Rattle.std.specs.Prelude.{ℕ, ◌≡◌, ◌<◌, Bool, true, List, [], len
 use Rattle.kds_defs.specs.declared.command.Target.{Target}
 use Rattle.kcl_defs.specs.declared.consumer.Fetched.{Fetched}
 use Rattle.kds_defs.specs.declared.limits.TheConstants.{PENDING_READS}
-use Rattle.kcl_defs.specs.Consumers.{Phase, Opening, Starting, Filling, Holding, Giving, Marking, Ending, MarkingEnd, Leaving, Over, was_handed}
+use Rattle.kcl_defs.specs.Consumers.{Phase, Opening, Starting, Filling, Holding, Giving, Marking, Ending, MarkingEnd}
+use Rattle.kcl_defs.specs.Consumers.{Leaving, Over, was_handed}
 use Rattle.kcl_consumer.specs.declared.stage.ConsumerStage.{ConsumerStage}
 use Rattle.kcl_consumer.specs.declared.stage.ConsumerStage.TheVariants as stage
 

@@ -2,9 +2,13 @@
 //! consumer's commands are: OpenShard, after which the tenure may read; Read, which fetches a batch; Give, which
 //! reports the oldest batch as processed; and Mark, which sets the lease's checkpoint. The reach is the read position.
 //! The ring holds the batches that were read but not yet reported as processed. A consumer is over when it has ended.
-ghost use Rattle.std.specs.Prelude.{◌≡◌, ◌<◌, ℕ, false, length, List, [], ◌∷◌, IsSome, IfOk, OnOk, OnErr, Some, None, Option, Bool};
+ghost use Rattle.std.specs.Prelude.{◌≡◌, ◌<◌, ℕ, false, length, List, [], ◌∷◌, IsSome, IfOk, OnOk, OnErr, Some, None};
+ghost use Rattle.std.specs.Prelude.{Option, Bool};
 ghost use Rattle.kcl_defs.specs.declared.consumer.Ask.{Ask};
-ghost use Rattle.kcl_defs.specs.Consumers.{Past, Answered, Called, Losing, calls_after, Giving, Opening, due_call, over_at, next_command, phase_after, after_answer, after_end, after_open, progress_of, after_loss, first_place, last_number_in, target_of, given, given_after, after_give, after_mark, after_read, told_over, told_refusal};
+ghost use Rattle.kcl_defs.specs.Consumers.{Past, Answered, Called, Losing, calls_after, Giving, Opening, due_call};
+ghost use Rattle.kcl_defs.specs.Consumers.{over_at, next_command, phase_after, after_answer, after_end, after_open};
+ghost use Rattle.kcl_defs.specs.Consumers.{progress_of, after_loss, first_place, last_number_in, target_of, given};
+ghost use Rattle.kcl_defs.specs.Consumers.{given_after, after_give, after_mark, after_read, told_over, told_refusal};
 ghost use Rattle.kcl_defs.specs.Workers.{is_giving_phase, is_marking_or_opening};
 ghost use Rattle.kds_defs.specs.Kinds.{is_service};
 ghost use Rattle.kds_defs.specs.Lawful.{IsLawfulCommand, IsLimit};
@@ -72,8 +76,10 @@ fn fetched_of(answer: Answer) -> Fetching
 /// says whether the read of that batch reached the shard's end. `asked` is the checkpoint to set, if any. `lost` says
 /// whether the lease is known to be lost.
 fn stage_after_give(ahead: &Ahead, ended: bool, asked: Option<Target>, lost: bool) -> ConsumerStage
-    ensures phase { (reach : ℕ) (f : Fetched) → f.ended ≡ ended → phase_of result reach ahead.now None false ≡ given reach (f ∷ ahead.now) asked lost }
-    ensures going { (reach : ℕ) (f : Fetched) → f.ended ≡ ended → over_at (given reach (f ∷ ahead.now) asked lost) ≡ None }
+    ensures phase { (reach : ℕ) (f : Fetched) → f.ended ≡ ended
+        → phase_of result reach ahead.now None false ≡ given reach (f ∷ ahead.now) asked lost }
+    ensures going { (reach : ℕ) (f : Fetched) → f.ended ≡ ended → over_at (given reach (f ∷ ahead.now) asked lost)
+        ≡ None }
     ensures kept { IsKept result ahead.now }
 {
     if lost {
@@ -96,7 +102,8 @@ fn after_giving(
     lost: bool,
     answer: &Answer,
 ) -> ConsumerStage
-    ensures phase { (reach : ℕ) → phase_of result reach ahead.new None false ≡ after_give reach ahead.old asked lost answer.now }
+    ensures phase { (reach : ℕ)
+        → phase_of result reach ahead.new None false ≡ after_give reach ahead.old asked lost answer.now }
     ensures going { (reach : ℕ) → over_at (after_give reach ahead.old asked lost answer.now) ≡ None }
     ensures kept { IsKept result ahead.new }
 {
@@ -113,7 +120,8 @@ fn after_giving(
 /// batch. `given` is that number before the Give. If the Give was refused, or the batch is empty, the number is
 /// unchanged.
 fn last_after(ahead: &Ahead, given: Option<Seq>, answer: &Answer) -> Option<Seq>
-    ensures { (reach : ℕ) (asked : Option Target) (lost : Bool) → result ≡ given_after answer.now (Giving reach ahead.now asked lost) given }
+    ensures { (reach : ℕ) (asked : Option Target) (lost : Bool)
+        → result ≡ given_after answer.now (Giving reach ahead.now asked lost) given }
 {
     match answer {
         Ok(_) => match last_in(ahead.first_batch()) {
@@ -243,7 +251,12 @@ impl<P> Model for Consumer<P> {
     ghost use Rattle.kcl_consumer.specs.Stages.{phase_of, IsKept};
     ghost use Rattle.kds_defs.specs.Lawful.{IsLimit};
 
-    ghost view = { λ c. record { made = c.made; phase = phase_of c.stage c.reach c.ahead c.asked c.lost; given = c.given; processor = c.processor } };
+    ghost view = { λ c. record {
+      made = c.made;
+      phase = phase_of c.stage c.reach c.ahead c.asked c.lost;
+      given = c.given;
+      processor = c.processor;
+    } };
 
     ghost invariant = { λ c. IsKept c.stage c.ahead × IsLimit c.made.limit };
 }
@@ -390,9 +403,11 @@ impl<P: Processor> Consumer<P> {
         requires { IsSome (due_call self.old.phase) }
         ensures ok { OnOk result ((asked : Ask) × HasCalled P.stands_for P.asks asked self.old self.new) }
         ensures err { OnErr result (IsAsBefore P.stands_for P.asks self.old self.new) }
-        ensures stands { OnOk result ((asked : Ask) (past : Past) → HasCalled P.stands_for P.asks asked self.old self.new
+        ensures stands { OnOk result ((asked : Ask) (past : Past)
+            → HasCalled P.stands_for P.asks asked self.old self.new
             → StandsFor P.stands_for self.old past → StandsFor P.stands_for self.new (Called asked ∷ past)) }
-        ensures still { OnErr result ((past : Past) → StandsFor P.stands_for self.old past → StandsFor P.stands_for self.new past) }
+        ensures still { OnErr result ((past : Past) → StandsFor P.stands_for self.old past
+            → StandsFor P.stands_for self.new past) }
     {
         match self.stage {
             ConsumerStage::Starting => {
@@ -429,7 +444,8 @@ impl<P: Processor> Consumer<P> {
         ensures given { self.new.given ≡ given_after answer self.old.phase self.old.given }
         ensures processor { self.new.processor ≡ self.old.processor }
         ensures progress { result ≡ progress_of self.old.made answer self.old.phase }
-        ensures stands { (past : Past) → StandsFor P.stands_for self.old past → StandsFor P.stands_for self.new (Answered answer ∷ past) }
+        ensures stands { (past : Past) → StandsFor P.stands_for self.old past
+            → StandsFor P.stands_for self.new (Answered answer ∷ past) }
     {
         match self.stage {
             ConsumerStage::Opening => {
@@ -475,7 +491,8 @@ impl<P: Processor> Consumer<P> {
         ensures phase { self.new.phase ≡ after_loss self.old.phase }
         ensures given { self.new.given ≡ self.old.given }
         ensures processor { self.new.processor ≡ self.old.processor }
-        ensures stands { (past : Past) → StandsFor P.stands_for self.old past → StandsFor P.stands_for self.new (Losing ∷ past) }
+        ensures stands { (past : Past) → StandsFor P.stands_for self.old past
+            → StandsFor P.stands_for self.new (Losing ∷ past) }
     {
         match self.stage {
             ConsumerStage::Opening => self.stage = ConsumerStage::Over(Why::NeverOpened),
@@ -506,8 +523,10 @@ impl<P: Processor> Consumer<P> {
 /// that the consumer has been updated with exactly the answers to the commands on its tenure in this history. Then the
 /// reported batches are the reads that the history reports as processed in this tenure.
 pub fn life()
-    ensures own { (made : Tenancy) (past : Past) → IsLife made (reads_after made past) (gives_after made past) (calls_after made past) }
-    ensures among { (deals : List Deal) (made : Tenancy) (past : Past) → IsInStep deals made past → IsLifeAmong deals made (calls_after made past) }
+    ensures own { (made : Tenancy) (past : Past)
+        → IsLife made (reads_after made past) (gives_after made past) (calls_after made past) }
+    ensures among { (deals : List Deal) (made : Tenancy) (past : Past) → IsInStep deals made past
+        → IsLifeAmong deals made (calls_after made past) }
     ensures step { (deal : Deal) (deals : List Deal) (counter : ℕ) (made : Tenancy) (past : Past)
         → next_command made (phase_after made past) counter ≡ Some deal.what
         → IsInStep deals made past → IsInStep (deal ∷ deals) made (Answered deal.answer ∷ past) }

@@ -24,7 +24,8 @@ pub trait Processor {
     /// Tells the processor that its worker now holds the lease of the shard `key`. `start` is the lease's checkpoint at
     /// this moment.
     fn initialize(&mut self, key: ShardRef, start: Checkpoint) -> Result<(), Memory>
-        ensures called { (calls : List Call) → stands_for self.old calls → OnOk result (stands_for self.new (call.Initialize key start ∷ calls)) }
+        ensures called { (calls : List Call) → stands_for self.old calls
+            → OnOk result (stands_for self.new (call.Initialize key start ∷ calls)) }
         ensures kept { (calls : List Call) → stands_for self.old calls → OnErr result (stands_for self.new calls) }
         ensures steady { (batch : List Stored) (a : Ask) → asks self.new batch a → asks self.old batch a };
 
@@ -32,21 +33,24 @@ pub trait Processor {
     /// ProcessTask). Precondition: the batch isn't empty.
     fn process_records(&mut self, batch: &[Stored]) -> Result<Ask, Memory>
         requires { 0 < length batch.now }
-        ensures called { (calls : List Call) → stands_for self.old calls → OnOk result (stands_for self.new (call.Process batch.now ∷ calls)) }
+        ensures called { (calls : List Call) → stands_for self.old calls
+            → OnOk result (stands_for self.new (call.Process batch.now ∷ calls)) }
         ensures kept { (calls : List Call) → stands_for self.old calls → OnErr result (stands_for self.new calls) }
         ensures asked { IfOk result (λ a. asks self.old batch.now a) }
         ensures steady { (batch : List Stored) (a : Ask) → asks self.new batch a → asks self.old batch a };
 
     /// Tells the processor that its lease is lost. The processor can no longer set a checkpoint.
     fn lease_lost(&mut self) -> Result<(), Memory>
-        ensures called { (calls : List Call) → stands_for self.old calls → OnOk result (stands_for self.new (call.LeaseLost ∷ calls)) }
+        ensures called { (calls : List Call) → stands_for self.old calls
+            → OnOk result (stands_for self.new (call.LeaseLost ∷ calls)) }
         ensures kept { (calls : List Call) → stands_for self.old calls → OnErr result (stands_for self.new calls) }
         ensures steady { (batch : List Stored) (a : Ask) → asks self.new batch a → asks self.old batch a };
 
     /// Tells the processor that the shard is closed, and that the processor has been handed the shard's records up to
     /// the shard's end. After this call, the consumer sets the lease's checkpoint to the shard's end.
     fn shard_ended(&mut self) -> Result<(), Memory>
-        ensures called { (calls : List Call) → stands_for self.old calls → OnOk result (stands_for self.new (call.ShardEnded ∷ calls)) }
+        ensures called { (calls : List Call) → stands_for self.old calls
+            → OnOk result (stands_for self.new (call.ShardEnded ∷ calls)) }
         ensures kept { (calls : List Call) → stands_for self.old calls → OnErr result (stands_for self.new calls) }
         ensures steady { (batch : List Stored) (a : Ask) → asks self.new batch a → asks self.old batch a };
 }
@@ -62,5 +66,6 @@ pub trait Maker<P: Processor> {
         ensures uncalled { IfOk result (λ p. P.stands_for p []) }
         ensures kept { OnErr result (self.new ≡ self.old) }
         ensures asked { IfOk result (λ p. (batch : List Stored) (a : Ask) → P.asks p batch a → asks self.old batch a) }
-        ensures steady { (batch : List Stored) (a : Ask) → (asks self.new batch a → asks self.old batch a) × (asks self.old batch a → asks self.new batch a) };
+        ensures steady { (batch : List Stored) (a : Ask) → (asks self.new batch a → asks self.old batch a)
+            × (asks self.old batch a → asks self.new batch a) };
 }

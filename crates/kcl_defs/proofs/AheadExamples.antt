@@ -26,28 +26,36 @@ abbrev read : List Stored → ℕ → Event
 read batch place = Answered (Ok (reply.Read batch place false))
 
 -- two full batches wait, and reading goes on
-reading_on : (r : Stored) → phase_after made (read (full r) 5 ∷ read (full r) 3 ∷ started) ≡ Filling 5 (waits (full r) ∷ waits (full r) ∷ [])
+reading_on : (r : Stored) → phase_after made (read (full r) 5 ∷ read (full r) 3 ∷ started)
+    ≡ Filling 5 (waits (full r) ∷ waits (full r) ∷ [])
 reading_on r = refl
 
 -- a batch of fewer records than the limit ends it: the first batch is handed out
 abbrev all_read : Stored → Past
 all_read r = read (r ∷ []) 6 ∷ read (full r) 5 ∷ read (full r) 3 ∷ started
 
-read_enough : (r : Stored) → phase_after made (all_read r) ≡ Holding 6 (waits (full r) ∷ waits (full r) ∷ waits (r ∷ []) ∷ [])
+read_enough : (r : Stored)
+    → phase_after made (all_read r) ≡ Holding 6 (waits (full r) ∷ waits (full r) ∷ waits (r ∷ []) ∷ [])
 read_enough r = refl
 
 -- the next ones follow with no read between them, and then reading goes on
-given_once : (r : Stored) → phase_after made (Answered (Ok reply.Done) ∷ Called ask.None ∷ all_read r) ≡ Holding 6 (waits (full r) ∷ waits (r ∷ []) ∷ [])
+given_once : (r : Stored) → phase_after made (Answered (Ok reply.Done) ∷ Called ask.None ∷ all_read r)
+    ≡ Holding 6 (waits (full r) ∷ waits (r ∷ []) ∷ [])
 given_once r = refl
 
-all_given : (r : Stored) → phase_after made (Answered (Ok reply.Done) ∷ Called ask.None ∷ Answered (Ok reply.Done) ∷ Called ask.None ∷ Answered (Ok reply.Done) ∷ Called ask.None ∷ all_read r) ≡ Filling 6 []
+all_given : (r : Stored)
+    → phase_after made (Answered (Ok reply.Done) ∷ Called ask.None ∷ Answered (Ok reply.Done) ∷ Called ask.None
+    ∷ Answered (Ok reply.Done) ∷ Called ask.None ∷ all_read r) ≡ Filling 6 []
 all_given r = refl
 
 -- the batch that ends the shard is handed out at once
-end_read : (r : Stored) → phase_after made (Answered (Ok (reply.Read (full r) 3 true)) ∷ started) ≡ Holding 3 (record { batch = full r; ended = true } ∷ [])
+end_read : (r : Stored) → phase_after made (Answered (Ok (reply.Read (full r) 3 true)) ∷ started)
+    ≡ Holding 3 (record { batch = full r; ended = true } ∷ [])
 end_read r = refl
 
-end_given : (r : Stored) → phase_after made (Answered (Ok reply.Done) ∷ Called ask.None ∷ Answered (Ok (reply.Read (full r) 3 true)) ∷ started) ≡ Ending
+end_given : (r : Stored)
+    → phase_after made (Answered (Ok reply.Done) ∷ Called ask.None ∷ Answered (Ok (reply.Read (full r) 3 true))
+    ∷ started) ≡ Ending
 end_given r = refl
 
 -- eight batches are the most that wait

@@ -1,5 +1,6 @@
 -- A Give of an actor is refused only where the tenure has no read among the actor's turns that waits.
-use Rattle.std.proofs.Common.{◌≡◌, ℕ, suc, ◌-◌, ◌≤◌, Bool, true, false, List, [], ◌∷◌, length, Option, Some, None, Err, refl, sym, ap, subst, arith}
+use Rattle.std.proofs.Common.{◌≡◌, ℕ, suc, ◌-◌, ◌≤◌, Bool, true, false, List, [], ◌∷◌, length, Option, Some, None, Err}
+use Rattle.std.proofs.Common.{refl, sym, ap, subst, arith}
 use Rattle.std.specs.Prelude.{◌==◌, cond, if◌then◌else◌, not, map, Result}
 use Rattle.std.proofs.lemmas.Bool.Decides.{nat_tests}
 use Rattle.std.proofs.lemmas.Bool.{not-false}
@@ -33,12 +34,14 @@ AreGivesTaken (deal ∷ deals) = IsGiveTaken deal.what deal.answer deals × AreG
 abbrev GiveAnswers : ℕ → List Deal → Result Reply Refusal → Type 0
 GiveAnswers t deals answer = IsGiveTaken (command.Give t) answer deals
 
-if_refused_so : (P : Result Reply Refusal → Type 0) (r : Refusal) (b : Bool) (d : Decision) → (b ≡ true → P (Err r)) → (b ≡ false → P (answer_of d)) → P (answer_of (refuse r if b else d))
+if_refused_so : (P : Result Reply Refusal → Type 0) (r : Refusal) (b : Bool) (d : Decision) → (b ≡ true → P (Err r))
+    → (b ≡ false → P (answer_of d)) → P (answer_of (refuse r if b else d))
 unfolding refuse◌if◌else◌
 if_refused_so P r true d h g = h refl
 if_refused_so P r false d h g = g refl
 
-if_none_so : {A : Type 0} (P : Result Reply Refusal → Type 0) (r : Refusal) (o : Option A) (d : A → Decision) → (o ≡ None → P (Err r)) → ((x : A) → o ≡ Some x → P (answer_of (d x))) → P (answer_of (with o or r then d))
+if_none_so : {A : Type 0} (P : Result Reply Refusal → Type 0) (r : Refusal) (o : Option A) (d : A → Decision)
+    → (o ≡ None → P (Err r)) → ((x : A) → o ≡ Some x → P (answer_of (d x))) → P (answer_of (with o or r then d))
 unfolding with◌or◌then◌
 if_none_so P r None d h g = h refl
 if_none_so P r (Some x) d h g = g x refl
@@ -68,25 +71,31 @@ own_actor a b d h g = grind (arith, nat_tests)
 not_own_actor : (a b d : ℕ) → (a == b) ≡ false → (b == d) ≡ true → (a == d) ≡ false
 not_own_actor a b d h g = grind (arith, nat_tests)
 
-give_taken : (by actor c t : ℕ) (deals : List Deal) (log : Journal) → (actor == by) ≡ true → AllAgree by deals log → GiveAnswers t deals (answer_of (give log c actor t))
+give_taken : (by actor c t : ℕ) (deals : List Deal) (log : Journal) → (actor == by) ≡ true → AllAgree by deals log
+    → GiveAnswers t deals (answer_of (give log c actor t))
 give_taken by actor c t deals log own h =
     if_none_so (GiveAnswers t deals) refusal.NoTenure (tenure log t) _
     (λ e. none_le (reads_in t deals) (gives_in t deals) (subst (λ o. AgreeWith by t deals o) e (h t)).1)
     (λ T e. let a : AgreeWith by t deals (Some T) = subst (λ o. AgreeWith by t deals o) e (h t) in
     if_refused_so (GiveAnswers t deals) refusal.NotYours (not (T.by == actor)) _
-    (λ n. none_le (reads_in t deals) (gives_in t deals) (a.1 (not_own_actor T.by actor by (not_true (T.by == actor) n) own)).0)
+    (λ n. none_le (reads_in t deals) (gives_in t deals)
+    (a.1 (not_own_actor T.by actor by (not_true (T.by == actor) n) own)).0)
     (λ n. let m = a.0 (own_actor T.by actor by (not-false (T.by == actor) n) own) in
     if_refused_so (GiveAnswers t deals) refusal.NothingPending (pending T == 0) _
-    (λ z. all_given (length (reads_in t deals)) (length (map read_done (reads_in t deals))) (length T.reads) T.given (gives_in t deals)
+    (λ z. all_given (length (reads_in t deals)) (length (map read_done (reads_in t deals))) (length T.reads) T.given
+    (gives_in t deals)
     (sym (length_map (reads_in t deals))) m.1 (ap length m.0) z)
     (λ z. tt)))
 
-turn_taken : (by actor c : ℕ) (what : Command) (deals : List Deal) (log : Journal) → (actor == by) ≡ true → AllAgree by deals log → IsGiveTaken what (answer_of (decide log c actor what)) deals
+turn_taken : (by actor c : ℕ) (what : Command) (deals : List Deal) (log : Journal) → (actor == by) ≡ true
+    → AllAgree by deals log → IsGiveTaken what (answer_of (decide log c actor what)) deals
 turn_taken by actor c (command.Give t) deals log own h = give_taken by actor c t deals log own h
 turn_taken by actor c _ deals log own h = tt
 
-turns_taken : (by : ℕ) (turn : Turn) (h : List Turn) (b : Bool) → (turn.by == by) ≡ b → AreGivesTaken (deals_of by h) → AreGivesTaken (cond b (record { what = turn.what; answer = answer h turn } ∷ deals_of by h) (deals_of by h))
-turns_taken by turn h true e taken = (turn_taken by turn.by (clock (turn ∷ h)) turn.what (deals_of by h) (journal h) e (agree by h), taken)
+turns_taken : (by : ℕ) (turn : Turn) (h : List Turn) (b : Bool) → (turn.by == by) ≡ b → AreGivesTaken (deals_of by h)
+    → AreGivesTaken (cond b (record { what = turn.what; answer = answer h turn } ∷ deals_of by h) (deals_of by h))
+turns_taken by turn h true e taken =
+    (turn_taken by turn.by (clock (turn ∷ h)) turn.what (deals_of by h) (journal h) e (agree by h), taken)
 turns_taken by turn h false e taken = taken
 
 pub gives_taken : (by : ℕ) (h : List Turn) → AreGivesTaken (deals_of by h)

@@ -1,5 +1,6 @@
 -- The calls of a processor are the given reads of its tenure, in order.
-use Rattle.std.proofs.Common.{◌≡◌, ℕ, ◌+◌, Bool, true, false, List, [], ◌∷◌, ◌++◌, length, take, drop, Option, Some, None, Ok, Err, refl, sym, ap, subst, ◌∙◌, arith, inl, inr, append_assoc, length-append}
+use Rattle.std.proofs.Common.{◌≡◌, ℕ, ◌+◌, Bool, true, false, List, [], ◌∷◌, ◌++◌, length, take, drop, Option, Some}
+use Rattle.std.proofs.Common.{None, Ok, Err, refl, sym, ap, subst, ◌∙◌, arith, inl, inr, append_assoc, length-append}
 use Rattle.std.specs.Prelude.{cond, if◌then◌else◌, not, reverse, Result}
 use Rattle.std.proofs.lemmas.List.{append-nil, reverse-append}
 use Rattle.std.proofs.Math.Seq.{take-append_seam, drop-append_seam}
@@ -15,8 +16,13 @@ use Rattle.kds_defs.specs.declared.reply.Refusal.{Refusal}
 use Rattle.kds_defs.specs.declared.reply.Refusal.TheVariants as refusal
 use Rattle.kds_defs.specs.declared.reply.Reply.{Reply}
 use Rattle.kds_defs.specs.declared.reply.Reply.TheVariants as reply
-use Rattle.kcl_defs.specs.Consumers.{Past, Event, Called, Answered, Losing, Phase, Opening, Starting, Filling, Holding, Giving, Marking, Ending, MarkingEnd, Leaving, Over, is_empty, is_filled, front, fetched, onward, given, was_handed, first_batch, is_loss, after_event, after_answer, after_read, after_give, after_mark, after_loss, phase_after, calls_with, calls_after}
-use Rattle.kcl_defs.specs.Lives.{reads_at, reads_after, gives_at, gives_after, read_in, give_in, processed, IsWaiting, IsEnding, Goes_on, Ended, Left, Ended_and_left, HasBegun, IsLife}
+use Rattle.kcl_defs.specs.Consumers.{Past, Event, Called, Answered, Losing, Phase, Opening, Starting, Filling, Holding}
+use Rattle.kcl_defs.specs.Consumers.{Giving, Marking, Ending, MarkingEnd, Leaving, Over, is_empty, is_filled, front}
+use Rattle.kcl_defs.specs.Consumers.{fetched, onward, given, was_handed, first_batch, is_loss, after_event}
+use Rattle.kcl_defs.specs.Consumers.{after_answer, after_read, after_give, after_mark, after_loss, phase_after}
+use Rattle.kcl_defs.specs.Consumers.{calls_with, calls_after}
+use Rattle.kcl_defs.specs.Lives.{reads_at, reads_after, gives_at, gives_after, read_in, give_in, processed, IsWaiting}
+use Rattle.kcl_defs.specs.Lives.{IsEnding, Goes_on, Ended, Left, Ended_and_left, HasBegun, IsLife}
 
 -- ---- words of the proof
 
@@ -26,7 +32,8 @@ pub data IsOpenEnding : List Call → Type 0 where
   Open_ended : IsOpenEnding (call.ShardEnded ∷ [])
 
 -- the reads are the given ones and those that wait, and the calls are those of the given ones, these and this end
-pub record Stands (made : Tenancy) (waiting : List Fetched) (handed ending : List Call) (reads : List Fetched) (gives : ℕ) (calls : List Call) : Type 0 where
+pub record Stands (made : Tenancy) (waiting : List Fetched) (handed ending : List Call) (reads : List Fetched)
+    (gives : ℕ) (calls : List Call) : Type 0 where
   pub done : List Fetched
   pub all : reads ≡ done ++ waiting
   pub count : length done ≡ gives
@@ -37,7 +44,8 @@ pub record IsNew (reads : List Fetched) (gives : ℕ) (calls : List Call) : Type
   pub none_given : gives ≡ 0
   pub none_called : calls ≡ []
 
-pub record StandsSomehow (made : Tenancy) (ending : List Call) (reads : List Fetched) (gives : ℕ) (calls : List Call) : Type 0 where
+pub record StandsSomehow (made : Tenancy) (ending : List Call) (reads : List Fetched) (gives : ℕ) (calls : List Call) :
+    Type 0 where
   pub waiting : List Fetched
   pub stands : Stands made waiting [] ending reads gives calls
 
@@ -58,11 +66,13 @@ abbrev pub IsNotNone : List Fetched → Type 0
 IsNotNone [] = ⊥
 IsNotNone (f ∷ waiting) = Unit {0}
 
-pub record StandsGiving (made : Tenancy) (waiting : List Fetched) (reads : List Fetched) (gives : ℕ) (calls : List Call) : Type 0 where
+pub record StandsGiving (made : Tenancy) (waiting : List Fetched) (reads : List Fetched) (gives : ℕ)
+    (calls : List Call) : Type 0 where
   pub some : IsNotNone waiting
   pub stands : Stands made waiting (handed_of waiting) [] reads gives calls
 
-pub record StandsHolding (made : Tenancy) (waiting : List Fetched) (reads : List Fetched) (gives : ℕ) (calls : List Call) : Type 0 where
+pub record StandsHolding (made : Tenancy) (waiting : List Fetched) (reads : List Fetched) (gives : ℕ)
+    (calls : List Call) : Type 0 where
   pub some : was_handed waiting ≡ true
   pub stands : Stands made waiting [] [] reads gives calls
 
@@ -90,13 +100,18 @@ still P reads gives h =
     subst Q (sym (append-nil reads)) (subst R e h)
 
 -- one call more
-more_order : (c first : Call) (calls given handed ending : List Call) → reverse calls ≡ first ∷ (given ++ (handed ++ ending)) → reverse (c ∷ calls) ≡ first ∷ (given ++ (handed ++ (ending ++ (c ∷ []))))
+more_order : (c first : Call) (calls given handed ending : List Call)
+    → reverse calls ≡ first ∷ (given ++ (handed ++ ending))
+    → reverse (c ∷ calls) ≡ first ∷ (given ++ (handed ++ (ending ++ (c ∷ []))))
 more_order c first calls given handed ending h =
     reverse-append (c ∷ []) calls
     ∙ ap (λ xs. xs ++ (c ∷ [])) h
-    ∙ ap (λ xs. first ∷ xs) (append_assoc given (handed ++ ending) (c ∷ []) ∙ ap (λ xs. given ++ xs) (append_assoc handed ending (c ∷ [])))
+    ∙ ap (λ xs. first ∷ xs) (append_assoc given (handed ++ ending) (c ∷ [])
+    ∙ ap (λ xs. given ++ xs) (append_assoc handed ending (c ∷ [])))
 
-pub with_end : (made : Tenancy) (c : Call) (waiting : List Fetched) (handed ending : List Call) (reads : List Fetched) (gives : ℕ) (calls : List Call) → Stands made waiting handed ending reads gives calls → Stands made waiting handed (ending ++ (c ∷ [])) reads gives (c ∷ calls)
+pub with_end : (made : Tenancy) (c : Call) (waiting : List Fetched) (handed ending : List Call) (reads : List Fetched)
+    (gives : ℕ) (calls : List Call) → Stands made waiting handed ending reads gives calls
+    → Stands made waiting handed (ending ++ (c ∷ [])) reads gives (c ∷ calls)
 with_end made c waiting handed ending reads gives calls h = record {
   done = h.done;
   all = h.all;
@@ -105,7 +120,9 @@ with_end made c waiting handed ending reads gives calls h = record {
 }
 
 -- what stands is of the form
-form : (made : Tenancy) (waiting : List Fetched) (handed ending : List Call) (reads : List Fetched) (gives : ℕ) (calls : List Call) → Stands made waiting handed ending reads gives calls → IsWaiting handed waiting → IsEnding ending → HasBegun made reads gives calls
+form : (made : Tenancy) (waiting : List Fetched) (handed ending : List Call) (reads : List Fetched) (gives : ℕ)
+    (calls : List Call) → Stands made waiting handed ending reads gives calls → IsWaiting handed waiting
+    → IsEnding ending → HasBegun made reads gives calls
 form made waiting handed ending reads gives calls h waits ends =
     let taken : take gives reads ≡ h.done =
     ap (λ n. take n reads) (sym h.count) ∙ ap (λ rs. take (length h.done) rs) h.all ∙ take-append_seam h.done waiting in
@@ -114,13 +131,16 @@ form made waiting handed ending reads gives calls h waits ends =
     record {
       handed = handed;
       ending = ending;
-      in_order = h.in_order ∙ ap (λ rs. call.Initialize made.key made.start ∷ (processed rs ++ (handed ++ ending))) (sym taken);
+      in_order = h.in_order
+          ∙ ap (λ rs. call.Initialize made.key made.start ∷ (processed rs ++ (handed ++ ending))) (sym taken);
       waits = subst (λ ws. IsWaiting handed ws) (sym left) waits;
       ends = ends;
     }
 
 -- and nothing waits where nothing is handed
-pub whole : (made : Tenancy) (waiting : List Fetched) (ending : List Call) (reads : List Fetched) (gives : ℕ) (calls : List Call) → Stands made waiting [] ending reads gives calls → IsEnding ending → (begun : HasBegun made reads gives calls) × (begun.handed ≡ [])
+pub whole : (made : Tenancy) (waiting : List Fetched) (ending : List Call) (reads : List Fetched) (gives : ℕ)
+    (calls : List Call) → Stands made waiting [] ending reads gives calls → IsEnding ending
+    → (begun : HasBegun made reads gives calls) × (begun.handed ≡ [])
 unfolding form
 whole made waiting ending reads gives calls h ends = (form made waiting [] ending reads gives calls h tt ends, refl)
 
@@ -135,7 +155,8 @@ open_ending _ Open_ended = Ended
 -- ---- calls
 
 -- the first call
-begins : (made : Tenancy) (asked : Ask) (reads : List Fetched) (gives : ℕ) (calls : List Call) → IsNew reads gives calls → Stands made [] [] [] reads gives (call.Initialize made.key made.start ∷ calls)
+begins : (made : Tenancy) (asked : Ask) (reads : List Fetched) (gives : ℕ) (calls : List Call) → IsNew reads gives calls
+    → Stands made [] [] [] reads gives (call.Initialize made.key made.start ∷ calls)
 begins made asked reads gives calls h = record {
   done = [];
   all = h.none_read;
@@ -144,33 +165,47 @@ begins made asked reads gives calls h = record {
 }
 
 -- a call at the end is a call that is handed
-as_handed : (made : Tenancy) (c : Call) (waiting : List Fetched) (reads : List Fetched) (gives : ℕ) (calls : List Call) → Stands made waiting [] (c ∷ []) reads gives calls → Stands made waiting (c ∷ []) [] reads gives calls
-as_handed made c waiting reads gives calls h = record { done = h.done; all = h.all; count = h.count; in_order = h.in_order }
+as_handed : (made : Tenancy) (c : Call) (waiting : List Fetched) (reads : List Fetched) (gives : ℕ) (calls : List Call)
+    → Stands made waiting [] (c ∷ []) reads gives calls → Stands made waiting (c ∷ []) [] reads gives calls
+as_handed made c waiting reads gives calls h =
+    record { done = h.done; all = h.all; count = h.count; in_order = h.in_order }
 
 -- a batch is handed
-hands : (made : Tenancy) (waiting : List Fetched) (reads : List Fetched) (gives : ℕ) (calls : List Call) → StandsHolding made waiting reads gives calls → StandsGiving made waiting reads gives (call.Process (first_batch waiting) ∷ calls)
+hands : (made : Tenancy) (waiting : List Fetched) (reads : List Fetched) (gives : ℕ) (calls : List Call)
+    → StandsHolding made waiting reads gives calls
+    → StandsGiving made waiting reads gives (call.Process (first_batch waiting) ∷ calls)
 hands made [] reads gives calls h = absurd cc
 hands made (f ∷ waiting) reads gives calls h = hands_first (is_empty f.batch) refl h.some
   where
-    hands_first : (b : Bool) → is_empty f.batch ≡ b → not (is_empty f.batch) ≡ true → StandsGiving made (f ∷ waiting) reads gives (call.Process f.batch ∷ calls)
+    hands_first : (b : Bool) → is_empty f.batch ≡ b → not (is_empty f.batch) ≡ true
+        → StandsGiving made (f ∷ waiting) reads gives (call.Process f.batch ∷ calls)
     hands_first true is some = absurd (let e : not true ≡ true = ap not (sym is) ∙ some in cc)
     hands_first false is some =
-        let g = as_handed made (call.Process f.batch) (f ∷ waiting) reads gives (call.Process f.batch ∷ calls) (with_end made (call.Process f.batch) (f ∷ waiting) [] [] reads gives calls h.stands) in
-        let P : Bool → Type 0 = λ b. Stands made (f ∷ waiting) (cond b [] (call.Process f.batch ∷ [])) [] reads gives (call.Process f.batch ∷ calls) in
+        let g = as_handed made (call.Process f.batch) (f ∷ waiting) reads gives (call.Process f.batch ∷ calls)
+        (with_end made (call.Process f.batch) (f ∷ waiting) [] [] reads gives calls h.stands) in
+        let P : Bool → Type 0 =
+        λ b. Stands made (f ∷ waiting) (cond b [] (call.Process f.batch ∷ [])) [] reads gives
+        (call.Process f.batch ∷ calls) in
         record { some = tt; stands = subst P (sym is) g }
 
-ends_shard : (made : Tenancy) (reads : List Fetched) (gives : ℕ) (calls : List Call) → StandsSomehow made [] reads gives calls → StandsSomehow made (call.ShardEnded ∷ []) reads gives (call.ShardEnded ∷ calls)
+ends_shard : (made : Tenancy) (reads : List Fetched) (gives : ℕ) (calls : List Call)
+    → StandsSomehow made [] reads gives calls
+    → StandsSomehow made (call.ShardEnded ∷ []) reads gives (call.ShardEnded ∷ calls)
 ends_shard made reads gives calls h = record {
   waiting = h.waiting;
   stands = with_end made call.ShardEnded h.waiting [] [] reads gives calls h.stands;
 }
 
-leaves : (made : Tenancy) (reads : List Fetched) (gives : ℕ) (calls : List Call) → StandsLeaving made reads gives calls → IsLife made reads gives (call.LeaseLost ∷ calls)
+leaves : (made : Tenancy) (reads : List Fetched) (gives : ℕ) (calls : List Call) → StandsLeaving made reads gives calls
+    → IsLife made reads gives (call.LeaseLost ∷ calls)
 leaves made reads gives calls h =
     inr (form made h.waiting h.handed (h.ending ++ (call.LeaseLost ∷ [])) reads gives (call.LeaseLost ∷ calls)
-    (with_end made call.LeaseLost h.waiting h.handed h.ending reads gives calls h.stands) h.waits (left_ending h.ending h.opens))
+    (with_end made call.LeaseLost h.waiting h.handed h.ending reads gives calls h.stands) h.waits
+    (left_ending h.ending h.opens))
 
-called : (made : Tenancy) (asked : Ask) (phase : Phase) (reads : List Fetched) (gives : ℕ) (calls : List Call) → Holds made phase reads gives calls → Holds made (after_event made (Called asked) phase) reads gives (calls_with made (Called asked) phase calls)
+called : (made : Tenancy) (asked : Ask) (phase : Phase) (reads : List Fetched) (gives : ℕ) (calls : List Call)
+    → Holds made phase reads gives calls
+    → Holds made (after_event made (Called asked) phase) reads gives (calls_with made (Called asked) phase calls)
 called made asked Starting reads gives calls h = begins made asked reads gives calls h
 called made asked (Holding reach waiting) reads gives calls h = hands made waiting reads gives calls h
 called made asked Ending reads gives calls h = ends_shard made reads gives calls h
@@ -184,11 +219,14 @@ called made asked (Over why) reads gives calls h = h
 
 -- ---- losses
 
-leaving : (made : Tenancy) (waiting : List Fetched) (handed ending : List Call) (reads : List Fetched) (gives : ℕ) (calls : List Call) → Stands made waiting handed ending reads gives calls → IsWaiting handed waiting → IsOpenEnding ending → StandsLeaving made reads gives calls
+leaving : (made : Tenancy) (waiting : List Fetched) (handed ending : List Call) (reads : List Fetched) (gives : ℕ)
+    (calls : List Call) → Stands made waiting handed ending reads gives calls → IsWaiting handed waiting
+    → IsOpenEnding ending → StandsLeaving made reads gives calls
 leaving made waiting handed ending reads gives calls h waits opens =
     record { waiting = waiting; handed = handed; ending = ending; stands = h; waits = waits; opens = opens }
 
-waits_first : (f : Fetched) (waiting : List Fetched) (b : Bool) → is_empty f.batch ≡ b → IsWaiting (cond b [] (call.Process f.batch ∷ [])) (f ∷ waiting)
+waits_first : (f : Fetched) (waiting : List Fetched) (b : Bool) → is_empty f.batch ≡ b
+    → IsWaiting (cond b [] (call.Process f.batch ∷ [])) (f ∷ waiting)
 waits_first f waiting true is = tt
 waits_first f waiting false is = (refl, is)
 
@@ -196,45 +234,59 @@ waits_handed : (waiting : List Fetched) → IsWaiting (handed_of waiting) waitin
 waits_handed [] = tt
 waits_handed (f ∷ waiting) = waits_first f waiting (is_empty f.batch) refl
 
-leaving_given : (made : Tenancy) (waiting : List Fetched) (reads : List Fetched) (gives : ℕ) (calls : List Call) → StandsGiving made waiting reads gives calls → StandsLeaving made reads gives calls
+leaving_given : (made : Tenancy) (waiting : List Fetched) (reads : List Fetched) (gives : ℕ) (calls : List Call)
+    → StandsGiving made waiting reads gives calls → StandsLeaving made reads gives calls
 leaving_given made waiting reads gives calls h =
     leaving made waiting (handed_of waiting) [] reads gives calls h.stands (waits_handed waiting) Open
 
 -- nothing was called: the form with no call
-none_yet : (made : Tenancy) (reads : List Fetched) (gives : ℕ) (calls : List Call) → IsNew reads gives calls → IsLife made reads gives calls
+none_yet : (made : Tenancy) (reads : List Fetched) (gives : ℕ) (calls : List Call) → IsNew reads gives calls
+    → IsLife made reads gives calls
 none_yet made reads gives calls h = inl h.none_called
 
-lost_giving : (made : Tenancy) (reach : ℕ) (waiting : List Fetched) (to : Option Target) (reads : List Fetched) (gives : ℕ) (calls : List Call) (b : Bool) → StandsGiving made waiting reads gives calls → Holds made (if b then Giving reach waiting to true else Leaving why.Lost) reads gives calls
+lost_giving : (made : Tenancy) (reach : ℕ) (waiting : List Fetched) (to : Option Target) (reads : List Fetched)
+    (gives : ℕ) (calls : List Call) (b : Bool) → StandsGiving made waiting reads gives calls
+    → Holds made (if b then Giving reach waiting to true else Leaving why.Lost) reads gives calls
 lost_giving made reach waiting to reads gives calls true h = h
 lost_giving made reach waiting to reads gives calls false h = leaving_given made waiting reads gives calls h
 
-lost : (made : Tenancy) (phase : Phase) (reads : List Fetched) (gives : ℕ) (calls : List Call) → Holds made phase reads gives calls → Holds made (after_loss phase) reads gives calls
+lost : (made : Tenancy) (phase : Phase) (reads : List Fetched) (gives : ℕ) (calls : List Call)
+    → Holds made phase reads gives calls → Holds made (after_loss phase) reads gives calls
 lost made Opening reads gives calls h = none_yet made reads gives calls h
 lost made Starting reads gives calls h = none_yet made reads gives calls h
-lost made (Giving reach waiting to known) reads gives calls h = lost_giving made reach waiting to reads gives calls (was_handed waiting) h
+lost made (Giving reach waiting to known) reads gives calls h =
+    lost_giving made reach waiting to reads gives calls (was_handed waiting) h
 lost made (Over why) reads gives calls h = h
 lost made (Filling reach waiting) reads gives calls h = leaving made waiting [] [] reads gives calls h tt Open
 lost made (Holding reach waiting) reads gives calls h = leaving made waiting [] [] reads gives calls h.stands tt Open
 lost made (Marking reach waiting to) reads gives calls h = leaving made waiting [] [] reads gives calls h tt Open
 lost made Ending reads gives calls h = leaving made h.waiting [] [] reads gives calls h.stands tt Open
-lost made MarkingEnd reads gives calls h = leaving made h.waiting [] (call.ShardEnded ∷ []) reads gives calls h.stands tt Open_ended
+lost made MarkingEnd reads gives calls h =
+    leaving made h.waiting [] (call.ShardEnded ∷ []) reads gives calls h.stands tt Open_ended
 lost made (Leaving why) reads gives calls h = h
 
 -- ---- answers
 
 -- what waits goes to the front
-fronts_first : (made : Tenancy) (reach : ℕ) (f : Fetched) (waiting : List Fetched) (reads : List Fetched) (gives : ℕ) (calls : List Call) (b : Bool) → is_empty f.batch ≡ b → Stands made (f ∷ waiting) [] [] reads gives calls → Holds made (if b then Giving reach (f ∷ waiting) None false else Holding reach (f ∷ waiting)) reads gives calls
+fronts_first : (made : Tenancy) (reach : ℕ) (f : Fetched) (waiting : List Fetched) (reads : List Fetched) (gives : ℕ)
+    (calls : List Call) (b : Bool) → is_empty f.batch ≡ b → Stands made (f ∷ waiting) [] [] reads gives calls
+    → Holds made (if b then Giving reach (f ∷ waiting) None false else Holding reach (f ∷ waiting)) reads gives calls
 fronts_first made reach f waiting reads gives calls true is h =
-    let P : Bool → Type 0 = λ b. Stands made (f ∷ waiting) (cond b [] (call.Process f.batch ∷ [])) [] reads gives calls in
+    let P : Bool → Type 0 =
+    λ b. Stands made (f ∷ waiting) (cond b [] (call.Process f.batch ∷ [])) [] reads gives calls in
     record { some = tt; stands = subst P (sym is) h }
 fronts_first made reach f waiting reads gives calls false is h = record { some = ap not is; stands = h }
 
-fronts : (made : Tenancy) (reach : ℕ) (waiting : List Fetched) (reads : List Fetched) (gives : ℕ) (calls : List Call) → Stands made waiting [] [] reads gives calls → Holds made (front reach waiting) reads gives calls
+fronts : (made : Tenancy) (reach : ℕ) (waiting : List Fetched) (reads : List Fetched) (gives : ℕ) (calls : List Call)
+    → Stands made waiting [] [] reads gives calls → Holds made (front reach waiting) reads gives calls
 fronts made reach [] reads gives calls h = h
-fronts made reach (f ∷ waiting) reads gives calls h = fronts_first made reach f waiting reads gives calls (is_empty f.batch) refl h
+fronts made reach (f ∷ waiting) reads gives calls h =
+    fronts_first made reach f waiting reads gives calls (is_empty f.batch) refl h
 
 -- a batch was read
-more_waiting : (made : Tenancy) (waiting : List Fetched) (f : Fetched) (reads : List Fetched) (gives : ℕ) (calls : List Call) → Stands made waiting [] [] reads gives calls → Stands made (waiting ++ (f ∷ [])) [] [] (reads ++ (f ∷ [])) gives calls
+more_waiting : (made : Tenancy) (waiting : List Fetched) (f : Fetched) (reads : List Fetched) (gives : ℕ)
+    (calls : List Call) → Stands made waiting [] [] reads gives calls
+    → Stands made (waiting ++ (f ∷ [])) [] [] (reads ++ (f ∷ [])) gives calls
 more_waiting made waiting f reads gives calls h = record {
   done = h.done;
   all = ap (λ rs. rs ++ (f ∷ [])) h.all ∙ append_assoc h.done waiting (f ∷ []);
@@ -242,32 +294,44 @@ more_waiting made waiting f reads gives calls h = record {
   in_order = h.in_order;
 }
 
-fetches_if : (made : Tenancy) (reach : ℕ) (waiting : List Fetched) (reads : List Fetched) (gives : ℕ) (calls : List Call) (b : Bool) → Stands made waiting [] [] reads gives calls → Holds made (if b then front reach waiting else Filling reach waiting) reads gives calls
+fetches_if : (made : Tenancy) (reach : ℕ) (waiting : List Fetched) (reads : List Fetched) (gives : ℕ)
+    (calls : List Call) (b : Bool) → Stands made waiting [] [] reads gives calls
+    → Holds made (if b then front reach waiting else Filling reach waiting) reads gives calls
 fetches_if made reach waiting reads gives calls true h = fronts made reach waiting reads gives calls h
 fetches_if made reach waiting reads gives calls false h = h
 
-fetches : (made : Tenancy) (reach : ℕ) (waiting : List Fetched) (f : Fetched) (reads : List Fetched) (gives : ℕ) (calls : List Call) → Stands made waiting [] [] reads gives calls → Holds made (fetched made.limit reach waiting f) (reads ++ (f ∷ [])) (gives + 0) calls
+fetches : (made : Tenancy) (reach : ℕ) (waiting : List Fetched) (f : Fetched) (reads : List Fetched) (gives : ℕ)
+    (calls : List Call) → Stands made waiting [] [] reads gives calls
+    → Holds made (fetched made.limit reach waiting f) (reads ++ (f ∷ [])) (gives + 0) calls
 fetches made reach waiting f reads gives calls h =
     let e : gives ≡ gives + 0 = omega arith in
     let R : ℕ → Type 0 = λ n. Stands made (waiting ++ (f ∷ [])) [] [] (reads ++ (f ∷ [])) n calls in
-    fetches_if made reach (waiting ++ (f ∷ [])) (reads ++ (f ∷ [])) (gives + 0) calls (is_filled made.limit (length waiting + 1) f)
+    fetches_if made reach (waiting ++ (f ∷ [])) (reads ++ (f ∷ [])) (gives + 0) calls
+    (is_filled made.limit (length waiting + 1) f)
     (subst R e (more_waiting made waiting f reads gives calls h))
 
-no_room : (made : Tenancy) (waiting : List Fetched) (reads : List Fetched) (gives : ℕ) (calls : List Call) → Stands made waiting [] [] reads gives calls → StandsLeaving made (reads ++ []) (gives + 0) calls
+no_room : (made : Tenancy) (waiting : List Fetched) (reads : List Fetched) (gives : ℕ) (calls : List Call)
+    → Stands made waiting [] [] reads gives calls → StandsLeaving made (reads ++ []) (gives + 0) calls
 no_room made waiting reads gives calls h =
     still (λ rs n. StandsLeaving made rs n calls) reads gives (leaving made waiting [] [] reads gives calls h tt Open)
 
-stays : (made : Tenancy) (waiting : List Fetched) (reads : List Fetched) (gives : ℕ) (calls : List Call) → Stands made waiting [] [] reads gives calls → Stands made waiting [] [] (reads ++ []) (gives + 0) calls
+stays : (made : Tenancy) (waiting : List Fetched) (reads : List Fetched) (gives : ℕ) (calls : List Call)
+    → Stands made waiting [] [] reads gives calls → Stands made waiting [] [] (reads ++ []) (gives + 0) calls
 stays made waiting reads gives calls h = still (λ rs n. Stands made waiting [] [] rs n calls) reads gives h
 
-read_answered : (made : Tenancy) (reach : ℕ) (waiting : List Fetched) (answer : Result Reply Refusal) (reads : List Fetched) (gives : ℕ) (calls : List Call) → Stands made waiting [] [] reads gives calls → Holds made (after_read made.limit reach waiting answer) (reads ++ read_in answer) (gives + 0) calls
-read_answered made reach waiting (Ok (reply.Read batch place ended)) reads gives calls h = fetches made place waiting (record { batch = batch; ended = ended }) reads gives calls h
+read_answered : (made : Tenancy) (reach : ℕ) (waiting : List Fetched) (answer : Result Reply Refusal)
+    (reads : List Fetched) (gives : ℕ) (calls : List Call) → Stands made waiting [] [] reads gives calls
+    → Holds made (after_read made.limit reach waiting answer) (reads ++ read_in answer) (gives + 0) calls
+read_answered made reach waiting (Ok (reply.Read batch place ended)) reads gives calls h =
+    fetches made place waiting (record { batch = batch; ended = ended }) reads gives calls h
 read_answered made reach waiting (Ok _) reads gives calls h = stays made waiting reads gives calls h
 read_answered made reach waiting (Err refusal.ShardGone) reads gives calls h = no_room made waiting reads gives calls h
 read_answered made reach waiting (Err _) reads gives calls h = no_room made waiting reads gives calls h
 
 -- the first of the batches is given
-pub given_on : (made : Tenancy) (f : Fetched) (waiting : List Fetched) (reads : List Fetched) (gives : ℕ) (calls : List Call) → Stands made (f ∷ waiting) (processed (f ∷ [])) [] reads gives calls → Stands made waiting [] [] (reads ++ []) (gives + 1) calls
+pub given_on : (made : Tenancy) (f : Fetched) (waiting : List Fetched) (reads : List Fetched) (gives : ℕ)
+    (calls : List Call) → Stands made (f ∷ waiting) (processed (f ∷ [])) [] reads gives calls
+    → Stands made waiting [] [] (reads ++ []) (gives + 1) calls
 given_on made f waiting reads gives calls h =
     let count : length (h.done ++ (f ∷ [])) ≡ gives + 1 = length-append h.done (f ∷ []) ∙ ap (λ n. n + 1) h.count in
     record {
@@ -277,73 +341,113 @@ given_on made f waiting reads gives calls h =
       in_order = h.in_order ∙ ap (λ cs. call.Initialize made.key made.start ∷ cs) (processed_on h.done f);
     }
   where
-    processed_on_if : (x f : Fetched) (done : List Fetched) (b : Bool) → processed done ++ (processed (f ∷ []) ++ []) ≡ processed (done ++ (f ∷ [])) ++ [] → (if b then processed done else call.Process x.batch ∷ processed done) ++ (processed (f ∷ []) ++ []) ≡ (if b then processed (done ++ (f ∷ [])) else call.Process x.batch ∷ processed (done ++ (f ∷ []))) ++ []
+    processed_on_if : (x f : Fetched) (done : List Fetched) (b : Bool)
+        → processed done ++ (processed (f ∷ []) ++ []) ≡ processed (done ++ (f ∷ [])) ++ []
+        → (if b then processed done else call.Process x.batch ∷ processed done) ++ (processed (f ∷ []) ++ [])
+        ≡ (if b then processed (done ++ (f ∷ [])) else call.Process x.batch ∷ processed (done ++ (f ∷ []))) ++ []
     processed_on_if x f done true rest = rest
     processed_on_if x f done false rest = ap (λ cs. call.Process x.batch ∷ cs) rest
 
-    processed_on : (done : List Fetched) (f : Fetched) → processed done ++ (processed (f ∷ []) ++ []) ≡ processed (done ++ (f ∷ [])) ++ []
+    processed_on : (done : List Fetched) (f : Fetched)
+        → processed done ++ (processed (f ∷ []) ++ []) ≡ processed (done ++ (f ∷ [])) ++ []
     processed_on [] f = refl
     processed_on (x ∷ done) f = processed_on_if x f done (is_empty x.batch) (processed_on done f)
 
-goes_onward : (made : Tenancy) (reach : ℕ) (waiting : List Fetched) (to : Option Target) (reads : List Fetched) (gives : ℕ) (calls : List Call) → Stands made waiting [] [] reads gives calls → Holds made (onward reach waiting to) reads gives calls
+goes_onward : (made : Tenancy) (reach : ℕ) (waiting : List Fetched) (to : Option Target) (reads : List Fetched)
+    (gives : ℕ) (calls : List Call) → Stands made waiting [] [] reads gives calls
+    → Holds made (onward reach waiting to) reads gives calls
 goes_onward made reach waiting None reads gives calls h = fronts made reach waiting reads gives calls h
 goes_onward made reach waiting (Some to) reads gives calls h = h
 
-ends_if : (made : Tenancy) (reach : ℕ) (waiting : List Fetched) (to : Option Target) (reads : List Fetched) (gives : ℕ) (calls : List Call) (b : Bool) → Stands made waiting [] [] reads gives calls → Holds made (if b then Ending else onward reach waiting to) reads gives calls
+ends_if : (made : Tenancy) (reach : ℕ) (waiting : List Fetched) (to : Option Target) (reads : List Fetched) (gives : ℕ)
+    (calls : List Call) (b : Bool) → Stands made waiting [] [] reads gives calls
+    → Holds made (if b then Ending else onward reach waiting to) reads gives calls
 ends_if made reach waiting to reads gives calls true h = record { waiting = waiting; stands = h }
 ends_if made reach waiting to reads gives calls false h = goes_onward made reach waiting to reads gives calls h
 
-given_answered : (made : Tenancy) (reach : ℕ) (waiting : List Fetched) (to : Option Target) (known : Bool) (answer : Result Reply Refusal) (reads : List Fetched) (gives : ℕ) (calls : List Call) → StandsGiving made waiting reads gives calls → Holds made (after_give reach waiting to known answer) (reads ++ []) (gives + give_in answer) calls
+given_answered : (made : Tenancy) (reach : ℕ) (waiting : List Fetched) (to : Option Target) (known : Bool)
+    (answer : Result Reply Refusal) (reads : List Fetched) (gives : ℕ) (calls : List Call)
+    → StandsGiving made waiting reads gives calls
+    → Holds made (after_give reach waiting to known answer) (reads ++ []) (gives + give_in answer) calls
 given_answered made reach [] to known answer reads gives calls h = absurd h.some
 given_answered made reach (f ∷ waiting) to true (Ok reply) reads gives calls h =
-    leaving made waiting [] [] (reads ++ []) (gives + 1) calls (given_on made f waiting reads gives calls h.stands) tt Open
+    leaving made waiting [] [] (reads ++ []) (gives + 1) calls (given_on made f waiting reads gives calls h.stands)
+    tt Open
 given_answered made reach (f ∷ waiting) to false (Ok reply) reads gives calls h =
-    ends_if made reach waiting to (reads ++ []) (gives + 1) calls f.ended (given_on made f waiting reads gives calls h.stands)
+    ends_if made reach waiting to (reads ++ []) (gives + 1) calls f.ended
+    (given_on made f waiting reads gives calls h.stands)
 given_answered made reach (f ∷ waiting) to known (Err r) reads gives calls h =
     still (λ rs n. StandsLeaving made rs n calls) reads gives (leaving_given made (f ∷ waiting) reads gives calls h)
 
-mark_refused : (made : Tenancy) (reach : ℕ) (waiting : List Fetched) (reads : List Fetched) (gives : ℕ) (calls : List Call) (b : Bool) → Stands made waiting [] [] reads gives calls → Holds made (if b then Leaving why.Lost else front reach waiting) reads gives calls
+mark_refused : (made : Tenancy) (reach : ℕ) (waiting : List Fetched) (reads : List Fetched) (gives : ℕ)
+    (calls : List Call) (b : Bool) → Stands made waiting [] [] reads gives calls
+    → Holds made (if b then Leaving why.Lost else front reach waiting) reads gives calls
 mark_refused made reach waiting reads gives calls true h = leaving made waiting [] [] reads gives calls h tt Open
 mark_refused made reach waiting reads gives calls false h = fronts made reach waiting reads gives calls h
 
-mark_answered : (made : Tenancy) (reach : ℕ) (waiting : List Fetched) (answer : Result Reply Refusal) (reads : List Fetched) (gives : ℕ) (calls : List Call) → Stands made waiting [] [] reads gives calls → Holds made (after_mark reach waiting answer) reads gives calls
+mark_answered : (made : Tenancy) (reach : ℕ) (waiting : List Fetched) (answer : Result Reply Refusal)
+    (reads : List Fetched) (gives : ℕ) (calls : List Call) → Stands made waiting [] [] reads gives calls
+    → Holds made (after_mark reach waiting answer) reads gives calls
 mark_answered made reach waiting (Ok reply) reads gives calls h = fronts made reach waiting reads gives calls h
-mark_answered made reach waiting (Err r) reads gives calls h = mark_refused made reach waiting reads gives calls (is_loss r) h
+mark_answered made reach waiting (Err r) reads gives calls h =
+    mark_refused made reach waiting reads gives calls (is_loss r) h
 
-end_answered : (made : Tenancy) (answer : Result Reply Refusal) (reads : List Fetched) (gives : ℕ) (calls : List Call) → StandsSomehow made (call.ShardEnded ∷ []) reads gives calls → Holds made (after_answer made answer MarkingEnd) reads gives calls
-end_answered made (Ok reply) reads gives calls h = inr (form made h.waiting [] (call.ShardEnded ∷ []) reads gives calls h.stands tt Ended)
-end_answered made (Err r) reads gives calls h = leaving made h.waiting [] (call.ShardEnded ∷ []) reads gives calls h.stands tt Open_ended
+end_answered : (made : Tenancy) (answer : Result Reply Refusal) (reads : List Fetched) (gives : ℕ) (calls : List Call)
+    → StandsSomehow made (call.ShardEnded ∷ []) reads gives calls
+    → Holds made (after_answer made answer MarkingEnd) reads gives calls
+end_answered made (Ok reply) reads gives calls h =
+    inr (form made h.waiting [] (call.ShardEnded ∷ []) reads gives calls h.stands tt Ended)
+end_answered made (Err r) reads gives calls h =
+    leaving made h.waiting [] (call.ShardEnded ∷ []) reads gives calls h.stands tt Open_ended
 
-open_answered : (made : Tenancy) (answer : Result Reply Refusal) (reads : List Fetched) (gives : ℕ) (calls : List Call) → IsNew reads gives calls → Holds made (after_answer made answer Opening) reads gives calls
+open_answered : (made : Tenancy) (answer : Result Reply Refusal) (reads : List Fetched) (gives : ℕ) (calls : List Call)
+    → IsNew reads gives calls → Holds made (after_answer made answer Opening) reads gives calls
 open_answered made (Ok reply) reads gives calls h = h
 open_answered made (Err (refusal.ParentsOpen parent)) reads gives calls h = h
 open_answered made (Err _) reads gives calls h = none_yet made reads gives calls h
 
-answered : (made : Tenancy) (answer : Result Reply Refusal) (phase : Phase) (reads : List Fetched) (gives : ℕ) (calls : List Call) → Holds made phase reads gives calls → Holds made (after_answer made answer phase) (reads ++ reads_at phase (Answered answer)) (gives + gives_at phase (Answered answer)) calls
-answered made answer (Filling reach waiting) reads gives calls h = read_answered made reach waiting answer reads gives calls h
-answered made answer (Giving reach waiting to known) reads gives calls h = given_answered made reach waiting to known answer reads gives calls h
-answered made answer Opening reads gives calls h = still (λ rs n. Holds made (after_answer made answer Opening) rs n calls) reads gives (open_answered made answer reads gives calls h)
-answered made answer (Marking reach waiting to) reads gives calls h = still (λ rs n. Holds made (after_mark reach waiting answer) rs n calls) reads gives (mark_answered made reach waiting answer reads gives calls h)
-answered made answer MarkingEnd reads gives calls h = still (λ rs n. Holds made (after_answer made answer MarkingEnd) rs n calls) reads gives (end_answered made answer reads gives calls h)
+answered : (made : Tenancy) (answer : Result Reply Refusal) (phase : Phase) (reads : List Fetched) (gives : ℕ)
+    (calls : List Call) → Holds made phase reads gives calls
+    → Holds made (after_answer made answer phase) (reads ++ reads_at phase (Answered answer))
+    (gives + gives_at phase (Answered answer)) calls
+answered made answer (Filling reach waiting) reads gives calls h =
+    read_answered made reach waiting answer reads gives calls h
+answered made answer (Giving reach waiting to known) reads gives calls h =
+    given_answered made reach waiting to known answer reads gives calls h
+answered made answer Opening reads gives calls h =
+    still (λ rs n. Holds made (after_answer made answer Opening) rs n calls) reads gives
+    (open_answered made answer reads gives calls h)
+answered made answer (Marking reach waiting to) reads gives calls h =
+    still (λ rs n. Holds made (after_mark reach waiting answer) rs n calls) reads gives
+    (mark_answered made reach waiting answer reads gives calls h)
+answered made answer MarkingEnd reads gives calls h =
+    still (λ rs n. Holds made (after_answer made answer MarkingEnd) rs n calls) reads gives
+    (end_answered made answer reads gives calls h)
 answered made answer Starting reads gives calls h = still (λ rs n. Holds made Starting rs n calls) reads gives h
-answered made answer (Holding reach waiting) reads gives calls h = still (λ rs n. Holds made (Holding reach waiting) rs n calls) reads gives h
+answered made answer (Holding reach waiting) reads gives calls h =
+    still (λ rs n. Holds made (Holding reach waiting) rs n calls) reads gives h
 answered made answer Ending reads gives calls h = still (λ rs n. Holds made Ending rs n calls) reads gives h
-answered made answer (Leaving why) reads gives calls h = still (λ rs n. Holds made (Leaving why) rs n calls) reads gives h
+answered made answer (Leaving why) reads gives calls h =
+    still (λ rs n. Holds made (Leaving why) rs n calls) reads gives h
 answered made answer (Over why) reads gives calls h = still (λ rs n. Holds made (Over why) rs n calls) reads gives h
 
 -- ---- the record
 
 abbrev HoldsAfter : Tenancy → Past → Type 0
-HoldsAfter made past = Holds made (phase_after made past) (reads_after made past) (gives_after made past) (calls_after made past)
+HoldsAfter made past =
+    Holds made (phase_after made past) (reads_after made past) (gives_after made past) (calls_after made past)
 
 -- no read and no give by an event that is no answer
-quiet : (made : Tenancy) (event : Event) (phase before : Phase) (reads : List Fetched) (gives : ℕ) (calls : List Call) → reads_at before event ≡ [] → gives_at before event ≡ 0 → Holds made phase reads gives calls → Holds made phase (reads ++ reads_at before event) (gives + gives_at before event) calls
+quiet : (made : Tenancy) (event : Event) (phase before : Phase) (reads : List Fetched) (gives : ℕ) (calls : List Call)
+    → reads_at before event ≡ [] → gives_at before event ≡ 0 → Holds made phase reads gives calls
+    → Holds made phase (reads ++ reads_at before event) (gives + gives_at before event) calls
 quiet made event phase before reads gives calls r g h =
     let P : List Fetched → Type 0 = λ rs. Holds made phase (reads ++ rs) (gives + gives_at before event) calls in
     let Q : ℕ → Type 0 = λ n. Holds made phase (reads ++ []) (gives + n) calls in
     subst P (sym r) (subst Q (sym g) (still (λ rs n. Holds made phase rs n calls) reads gives h))
 
-no_reads : (phase : Phase) (asked : Ask) → (reads_at phase (Called asked) ≡ []) × (reads_at phase Losing ≡ []) × (gives_at phase (Called asked) ≡ 0) × (gives_at phase Losing ≡ 0)
+no_reads : (phase : Phase) (asked : Ask) → (reads_at phase (Called asked) ≡ []) × (reads_at phase Losing ≡ [])
+    × (gives_at phase (Called asked) ≡ 0) × (gives_at phase Losing ≡ 0)
 no_reads (Filling reach waiting) asked = (refl, refl, refl, refl)
 no_reads (Giving reach waiting to known) asked = (refl, refl, refl, refl)
 no_reads _ asked = (refl, refl, refl, refl)
@@ -351,12 +455,17 @@ no_reads _ asked = (refl, refl, refl, refl)
 happens : (made : Tenancy) (event : Event) (past : Past) → HoldsAfter made past → HoldsAfter made (event ∷ past)
 happens made (Called asked) past h =
     let n = no_reads (phase_after made past) asked in
-    quiet made (Called asked) (after_event made (Called asked) (phase_after made past)) (phase_after made past) (reads_after made past) (gives_after made past) (calls_after made (Called asked ∷ past)) n.0 n.2
-    (called made asked (phase_after made past) (reads_after made past) (gives_after made past) (calls_after made past) h)
-happens made (Answered answer) past h = answered made answer (phase_after made past) (reads_after made past) (gives_after made past) (calls_after made past) h
+    quiet made (Called asked) (after_event made (Called asked) (phase_after made past)) (phase_after made past)
+    (reads_after made past) (gives_after made past) (calls_after made (Called asked ∷ past)) n.0 n.2
+    (called made asked (phase_after made past) (reads_after made past) (gives_after made past) (calls_after made past)
+    h)
+happens made (Answered answer) past h =
+    answered made answer (phase_after made past) (reads_after made past) (gives_after made past) (calls_after made past)
+    h
 happens made Losing past h =
     let n = no_reads (phase_after made past) asked in
-    quiet made Losing (after_loss (phase_after made past)) (phase_after made past) (reads_after made past) (gives_after made past) (calls_after made past) n.1 n.3
+    quiet made Losing (after_loss (phase_after made past)) (phase_after made past) (reads_after made past)
+    (gives_after made past) (calls_after made past) n.1 n.3
     (lost made (phase_after made past) (reads_after made past) (gives_after made past) (calls_after made past) h)
   where
     asked : Ask
@@ -367,18 +476,26 @@ holds made [] = record { none_read = refl; none_given = refl; none_called = refl
 holds made (event ∷ past) = happens made event past (holds made past)
 
 -- each phase is of the form
-formed : (made : Tenancy) (phase : Phase) (reads : List Fetched) (gives : ℕ) (calls : List Call) → Holds made phase reads gives calls → IsLife made reads gives calls
+formed : (made : Tenancy) (phase : Phase) (reads : List Fetched) (gives : ℕ) (calls : List Call)
+    → Holds made phase reads gives calls → IsLife made reads gives calls
 formed made Opening reads gives calls h = none_yet made reads gives calls h
 formed made Starting reads gives calls h = none_yet made reads gives calls h
 formed made (Filling reach waiting) reads gives calls h = inr (form made waiting [] [] reads gives calls h tt Goes_on)
-formed made (Holding reach waiting) reads gives calls h = inr (form made waiting [] [] reads gives calls h.stands tt Goes_on)
-formed made (Giving reach waiting to known) reads gives calls h = inr (form made waiting (handed_of waiting) [] reads gives calls h.stands (waits_handed waiting) Goes_on)
-formed made (Marking reach waiting to) reads gives calls h = inr (form made waiting [] [] reads gives calls h tt Goes_on)
+formed made (Holding reach waiting) reads gives calls h =
+    inr (form made waiting [] [] reads gives calls h.stands tt Goes_on)
+formed made (Giving reach waiting to known) reads gives calls h =
+    inr (form made waiting (handed_of waiting) [] reads gives calls h.stands (waits_handed waiting) Goes_on)
+formed made (Marking reach waiting to) reads gives calls h =
+    inr (form made waiting [] [] reads gives calls h tt Goes_on)
 formed made Ending reads gives calls h = inr (form made h.waiting [] [] reads gives calls h.stands tt Goes_on)
-formed made MarkingEnd reads gives calls h = inr (form made h.waiting [] (call.ShardEnded ∷ []) reads gives calls h.stands tt Ended)
-formed made (Leaving why) reads gives calls h = inr (form made h.waiting h.handed h.ending reads gives calls h.stands h.waits (open_ending h.ending h.opens))
+formed made MarkingEnd reads gives calls h =
+    inr (form made h.waiting [] (call.ShardEnded ∷ []) reads gives calls h.stands tt Ended)
+formed made (Leaving why) reads gives calls h =
+    inr (form made h.waiting h.handed h.ending reads gives calls h.stands h.waits (open_ending h.ending h.opens))
 formed made (Over why) reads gives calls h = h
 
 -- the calls of a processor are the reads that its consumer gave, in order
-pub life : (made : Tenancy) (past : Past) → IsLife made (reads_after made past) (gives_after made past) (calls_after made past)
-life made past = formed made (phase_after made past) (reads_after made past) (gives_after made past) (calls_after made past) (holds made past)
+pub life : (made : Tenancy) (past : Past)
+    → IsLife made (reads_after made past) (gives_after made past) (calls_after made past)
+life made past = formed made (phase_after made past) (reads_after made past) (gives_after made past)
+    (calls_after made past) (holds made past)

@@ -1,5 +1,6 @@
 -- No batch of a retired consumer waits to be given.
-use Rattle.std.proofs.Common.{◌≡◌, ℕ, ◌+◌, ◌≤◌, Bool, true, false, List, [], ◌∷◌, ◌++◌, length, Option, Some, None, Ok, Err, refl, sym, ap, subst, ◌∙◌, arith, inl, inr, length-append}
+use Rattle.std.proofs.Common.{◌≡◌, ℕ, ◌+◌, ◌≤◌, Bool, true, false, List, [], ◌∷◌, ◌++◌, length, Option, Some, None, Ok}
+use Rattle.std.proofs.Common.{Err, refl, sym, ap, subst, ◌∙◌, arith, inl, inr, length-append}
 use Rattle.std.specs.Prelude.{◌⊎◌, is_some, not, cond, if◌then◌else◌, Result}
 use Rattle.std.specs.List.{AllByRecursion, filter}
 use Rattle.std.proofs.lemmas.Bool.{or_from}
@@ -19,20 +20,31 @@ use Rattle.kds_defs.specs.declared.reply.Reply.{Reply}
 use Rattle.kds_defs.specs.declared.reply.Reply.TheVariants as reply
 use Rattle.kcl_defs.specs.Consumers.{Called, Answered, Losing, Phase, Giving, Over, next_command, over_at, calls_after}
 use Rattle.kcl_defs.specs.Lives.{Deal, reads_in, gives_in, reads_after, gives_after, IsWholeLife}
-use Rattle.kcl_defs.specs.Workers.{Known, Pending, Chore, Surveying, Syncing, Taking, Renewing, Consuming, Finishing, Freeing, WorkerState, WorkerEvent, Made_call, Gave_command, Got_answer, Stopped, Released, Release, released, without_release, WorkerPast, worker_after, after_worker_event, deals_after, deals_with, id_of, id_of_held, same_id, with_event, happens_to, happens_to_first, is_due_known, settled, is_over, known_of, consumer_command, phase_of_known, counter_of, after_survey, after_renewal, after_take, after_chore, absorbed, with_deal, consumed, is_of, still_stands, AtTakes, AtRenewals, AtStopping}
+use Rattle.kcl_defs.specs.Workers.{Known, Pending, Chore, Surveying, Syncing, Taking, Renewing, Consuming, Finishing}
+use Rattle.kcl_defs.specs.Workers.{Freeing, WorkerState, WorkerEvent, Made_call, Gave_command, Got_answer, Stopped}
+use Rattle.kcl_defs.specs.Workers.{Released, Release, released, without_release, WorkerPast, worker_after}
+use Rattle.kcl_defs.specs.Workers.{after_worker_event, deals_after, deals_with, id_of, id_of_held, same_id, with_event}
+use Rattle.kcl_defs.specs.Workers.{happens_to, happens_to_first, is_due_known, settled, is_over, known_of}
+use Rattle.kcl_defs.specs.Workers.{consumer_command, phase_of_known, counter_of, after_survey, after_renewal}
+use Rattle.kcl_defs.specs.Workers.{after_take, after_chore, absorbed, with_deal, consumed, is_of, still_stands, AtTakes}
+use Rattle.kcl_defs.specs.Workers.{AtRenewals, AtStopping}
 use Rattle.kcl_defs.specs.WorkerLives.{IsOrderly, IsToldIn, AreServed}
 use Rattle.kcl_defs.proofs.LifeLemmas.{Holds, StandsGiving, holds, whole}
 use Rattle.kcl_defs.proofs.SettledLemmas.{Settles, IsSettled, refused_at, was_refused, settles}
 use Rattle.kcl_defs.proofs.GiveLemmas.{IsGiveTaken, AreGivesTaken, gives_taken}
 use Rattle.kcl_defs.proofs.DealLemmas.{new_tenures}
 use Rattle.kcl_defs.proofs.TenancyLemmas.{all_both, all_tenures, begun_told}
-use Rattle.kcl_defs.proofs.WorkerLemmas.{InStep, AreNewTenures, IsFine, IsOwnCommand, IsWaitingOk, all_append, all_event, all_filter, all_first, all_with_known, all_without, fine, live_served, new_before}
+use Rattle.kcl_defs.proofs.WorkerLemmas.{InStep, AreNewTenures, IsFine, IsOwnCommand, IsWaitingOk, all_append}
+use Rattle.kcl_defs.proofs.WorkerLemmas.{all_event, all_filter, all_first, all_with_known, all_without, fine}
+use Rattle.kcl_defs.proofs.WorkerLemmas.{live_served, new_before}
 
 -- ---- a Give of a consumer that has a batch to give is not refused
 
-more_than : (reads done waiting : List Fetched) (f : Fetched) (gives : ℕ) → reads ≡ done ++ (f ∷ waiting) → length done ≡ gives → length reads ≤ gives → ⊥
+more_than : (reads done waiting : List Fetched) (f : Fetched) (gives : ℕ) → reads ≡ done ++ (f ∷ waiting)
+    → length done ≡ gives → length reads ≤ gives → ⊥
 more_than reads done waiting f gives all count few =
-    more (length reads) (length done) (length waiting) gives (ap length all ∙ length-append done (f ∷ waiting) ∙ on (length done) (length waiting)) count few
+    more (length reads) (length done) (length waiting) gives (ap length all ∙ length-append done (f ∷ waiting)
+    ∙ on (length done) (length waiting)) count few
   where
     on : (a b : ℕ) → a + length (f ∷ waiting) ≡ a + (length waiting + 1)
     on a b = omega arith
@@ -43,14 +55,20 @@ more_than reads done waiting f gives all count few =
 same_command : (a b : Command) → Some a ≡ Some b → a ≡ b
 same_command a b e = cc
 
-giving_waits : (made : Tenancy) (waiting : List Fetched) (reads : List Fetched) (gives : ℕ) (calls : List Call) → StandsGiving made waiting reads gives calls → length reads ≤ gives → ⊥
+giving_waits : (made : Tenancy) (waiting : List Fetched) (reads : List Fetched) (gives : ℕ) (calls : List Call)
+    → StandsGiving made waiting reads gives calls → length reads ≤ gives → ⊥
 giving_waits made [] reads gives calls s few = s.some
-giving_waits made (f ∷ waiting) reads gives calls s few = more_than reads s.stands.done waiting f gives s.stands.all s.stands.count few
+giving_waits made (f ∷ waiting) reads gives calls s few =
+    more_than reads s.stands.done waiting f gives s.stands.all s.stands.count few
 
-give_accepted : (made : Tenancy) (phase : Phase) (counter : ℕ) (what : Command) (answer : Result Reply Refusal) (deals : List Deal) (calls : List Call) → next_command made phase counter ≡ Some what → IsGiveTaken what answer deals → Holds made phase (reads_in made.tenure deals) (gives_in made.tenure deals) calls → refused_at phase (Answered answer) ≡ false
+give_accepted : (made : Tenancy) (phase : Phase) (counter : ℕ) (what : Command) (answer : Result Reply Refusal)
+    (deals : List Deal) (calls : List Call) → next_command made phase counter ≡ Some what
+    → IsGiveTaken what answer deals → Holds made phase (reads_in made.tenure deals) (gives_in made.tenure deals) calls
+    → refused_at phase (Answered answer) ≡ false
 give_accepted made (Giving reach waiting asked lost) counter what (Err r) deals calls next taken h =
     let P : Command → Type 0 = λ w. IsGiveTaken w (Err r) deals in
-    absurd (giving_waits made waiting (reads_in made.tenure deals) (gives_in made.tenure deals) calls h (subst P (sym (same_command _ what next)) taken))
+    absurd (giving_waits made waiting (reads_in made.tenure deals) (gives_in made.tenure deals) calls h
+    (subst P (sym (same_command _ what next)) taken))
 give_accepted made (Giving reach waiting asked lost) counter what (Ok reply) deals calls next taken h = refl
 give_accepted made _ counter what answer deals calls next taken h = refl
 
@@ -72,27 +90,34 @@ no_give (Giving reach waiting to known) asked = (refl, refl)
 no_give _ asked = (refl, refl)
 
 pub called_unrefused : (asked : Ask) (k : Known) → IsUnrefused k → IsUnrefused (with_event (Called asked) k)
-called_unrefused asked k h = or_from (refused_at (phase_of_known k) (Called asked)) (was_refused k.made k.past) (no_give (phase_of_known k) asked).0 h
+called_unrefused asked k h =
+    or_from (refused_at (phase_of_known k) (Called asked)) (was_refused k.made k.past)
+    (no_give (phase_of_known k) asked).0 h
 
 pub lost_unrefused : (k : Known) → IsUnrefused k → IsUnrefused (with_event Losing k)
-lost_unrefused k h = or_from (refused_at (phase_of_known k) Losing) (was_refused k.made k.past) (no_give (phase_of_known k) ask.None).1 h
+lost_unrefused k h = or_from (refused_at (phase_of_known k) Losing) (was_refused k.made k.past)
+    (no_give (phase_of_known k) ask.None).1 h
 
 all_passed : (p : Known → Bool) (xs : List Known) → AllByRecursion (λ k. p k ≡ true) (filter p xs)
 all_passed p [] = tt
 all_passed p (x ∷ xs) = head (p x) refl (all_passed p xs)
   where
-    head : (b : Bool) → p x ≡ b → AllByRecursion (λ k. p k ≡ true) (filter p xs) → AllByRecursion (λ k. p k ≡ true) (cond b (x ∷ filter p xs) (filter p xs))
+    head : (b : Bool) → p x ≡ b → AllByRecursion (λ k. p k ≡ true) (filter p xs)
+        → AllByRecursion (λ k. p k ≡ true) (cond b (x ∷ filter p xs) (filter p xs))
     head true e rest = (e, rest)
     head false e rest = rest
 
-settle_unrefused : (w : WorkerState) → AreUnrefused w.consumers w.retired → AreUnrefused (settled w).consumers (settled w).retired
+settle_unrefused : (w : WorkerState) → AreUnrefused w.consumers w.retired
+    → AreUnrefused (settled w).consumers (settled w).retired
 settle_unrefused w u = record {
   live = all_filter IsUnrefused (λ k. not (is_over k)) w.consumers u.live;
-  over = all_append IsUnrefused w.retired (filter is_over w.consumers) u.over (all_filter IsUnrefused is_over w.consumers u.live);
+  over = all_append IsUnrefused w.retired (filter is_over w.consumers) u.over
+      (all_filter IsUnrefused is_over w.consumers u.live);
   ended = all_append HasEnded w.retired (filter is_over w.consumers) u.ended (all_passed is_over w.consumers);
 }
 
-losing_unrefused : (test : Known → Bool) (consumers retired : List Known) → AreUnrefused consumers retired → AreUnrefused (happens_to test Losing consumers) retired
+losing_unrefused : (test : Known → Bool) (consumers retired : List Known) → AreUnrefused consumers retired
+    → AreUnrefused (happens_to test Losing consumers) retired
 losing_unrefused test consumers retired u = record {
   live = all_event IsUnrefused test Losing consumers lost_unrefused u.live;
   over = u.over;
@@ -100,70 +125,106 @@ losing_unrefused test consumers retired u = record {
 }
 
 -- the consumer's own answer
-step_kept : (deals : List Deal) (k : Known) → InStep deals k → Holds k.made (phase_of_known k) (reads_in k.made.tenure deals) (gives_in k.made.tenure deals) (calls_after k.made k.past)
+step_kept : (deals : List Deal) (k : Known) → InStep deals k
+    → Holds k.made (phase_of_known k) (reads_in k.made.tenure deals) (gives_in k.made.tenure deals)
+    (calls_after k.made k.past)
 step_kept deals k s =
-    let P : List Fetched → Type 0 = λ rs. Holds k.made (phase_of_known k) rs (gives_in k.made.tenure deals) (calls_after k.made k.past) in
-    let Q : ℕ → Type 0 = λ n. Holds k.made (phase_of_known k) (reads_after k.made k.past) n (calls_after k.made k.past) in
+    let P : List Fetched → Type 0 =
+    λ rs. Holds k.made (phase_of_known k) rs (gives_in k.made.tenure deals) (calls_after k.made k.past) in
+    let Q : ℕ → Type 0 = λ n.
+    Holds k.made (phase_of_known k) (reads_after k.made k.past) n (calls_after k.made k.past) in
     subst P (sym s.reads) (subst Q (sym s.gives) (holds k.made k.past))
 
-pub answered_unrefused : (deals : List Deal) (k : Known) (counter : ℕ) (what : Command) (answer : Result Reply Refusal) → next_command k.made (phase_of_known k) counter ≡ Some what → IsGiveTaken what answer deals → InStep deals k → IsUnrefused k → IsUnrefused (with_event (Answered answer) k)
+pub answered_unrefused : (deals : List Deal) (k : Known) (counter : ℕ) (what : Command) (answer : Result Reply Refusal)
+    → next_command k.made (phase_of_known k) counter ≡ Some what → IsGiveTaken what answer deals → InStep deals k
+    → IsUnrefused k → IsUnrefused (with_event (Answered answer) k)
 answered_unrefused deals k counter what answer next taken s h =
     or_from (refused_at (phase_of_known k) (Answered answer)) (was_refused k.made k.past)
-    (give_accepted k.made (phase_of_known k) counter what answer deals (calls_after k.made k.past) next taken (step_kept deals k s)) h
+    (give_accepted k.made (phase_of_known k) counter what answer deals (calls_after k.made k.past) next taken
+    (step_kept deals k s)) h
 
 same_known : (x k : Known) → Some x ≡ Some k → k ≡ x
 same_known x k e = cc
 
-consumed_unrefused : (id : LeaseId) (deals : List Deal) (k : Known) (counter : ℕ) (what : Command) (answer : Result Reply Refusal) (xs : List Known) → next_command k.made (phase_of_known k) counter ≡ Some what → IsGiveTaken what answer deals → known_of id xs ≡ Some k → AllByRecursion (InStep deals) xs → AllByRecursion IsUnrefused xs → AllByRecursion IsUnrefused (consumed id answer xs)
+consumed_unrefused : (id : LeaseId) (deals : List Deal) (k : Known) (counter : ℕ) (what : Command)
+    (answer : Result Reply Refusal) (xs : List Known) → next_command k.made (phase_of_known k) counter ≡ Some what
+    → IsGiveTaken what answer deals → known_of id xs ≡ Some k → AllByRecursion (InStep deals) xs
+    → AllByRecursion IsUnrefused xs → AllByRecursion IsUnrefused (consumed id answer xs)
 consumed_unrefused id deals k counter what answer [] next taken found steps h = tt
 consumed_unrefused id deals k counter what answer (x ∷ xs) next taken found steps h =
-    head (same_id (id_of x) id) found (λ g. consumed_unrefused id deals k counter what answer xs next taken g steps.1 h.1)
+    head (same_id (id_of x) id) found
+    (λ g. consumed_unrefused id deals k counter what answer xs next taken g steps.1 h.1)
   where
-    head : (b : Bool) → cond b (Some x) (known_of id xs) ≡ Some k → (known_of id xs ≡ Some k → AllByRecursion IsUnrefused (consumed id answer xs)) → AllByRecursion IsUnrefused (if b then with_event (Answered answer) x ∷ xs else x ∷ consumed id answer xs)
+    head : (b : Bool) → cond b (Some x) (known_of id xs) ≡ Some k
+        → (known_of id xs ≡ Some k → AllByRecursion IsUnrefused (consumed id answer xs))
+        → AllByRecursion IsUnrefused (if b then with_event (Answered answer) x ∷ xs else x ∷ consumed id answer xs)
     head true g rest =
         let P : Known → Type 0 = λ j. next_command j.made (phase_of_known j) counter ≡ Some what in
         (answered_unrefused deals x counter what answer (subst P (same_known x k g) next) taken steps.0 h.0, h.1)
     head false g rest = (h.0, rest g)
 
-own_unrefused : (id : LeaseId) (deals : List Deal) (what : Command) (answer : Result Reply Refusal) (w : WorkerState) (o : Option Known) → known_of id w.consumers ≡ o → consumer_command w o ≡ Some what → IsGiveTaken what answer deals → AllByRecursion (InStep deals) w.consumers → AreUnrefused w.consumers w.retired → AreUnrefused (consumed id answer w.consumers) w.retired
+own_unrefused : (id : LeaseId) (deals : List Deal) (what : Command) (answer : Result Reply Refusal) (w : WorkerState)
+    (o : Option Known) → known_of id w.consumers ≡ o → consumer_command w o ≡ Some what → IsGiveTaken what answer deals
+    → AllByRecursion (InStep deals) w.consumers → AreUnrefused w.consumers w.retired
+    → AreUnrefused (consumed id answer w.consumers) w.retired
 own_unrefused id deals what answer w None found next taken steps u = absurd cc
 own_unrefused id deals what answer w (Some k) found next taken steps u = record {
-  live = consumed_unrefused id deals k (counter_of (id_of k) w.held) what answer w.consumers next taken found steps u.live;
+  live = consumed_unrefused id deals k (counter_of (id_of k) w.held) what answer w.consumers next taken found steps
+      u.live;
   over = u.over;
   ended = u.ended;
 }
 
 -- ---- answers
 
-survey_unrefused : (made : WorkerMade) (now : ℕ) (answer : Result Reply Refusal) (w : WorkerState) → AreUnrefused w.consumers w.retired → AreUnrefused (after_survey made now answer w).consumers (after_survey made now answer w).retired
-survey_unrefused made now (Ok (reply.Survey shards rows)) w u = losing_unrefused (is_of (filter (λ h. not (still_stands rows h)) w.held)) w.consumers w.retired u
+survey_unrefused : (made : WorkerMade) (now : ℕ) (answer : Result Reply Refusal) (w : WorkerState)
+    → AreUnrefused w.consumers w.retired
+    → AreUnrefused (after_survey made now answer w).consumers (after_survey made now answer w).retired
+survey_unrefused made now (Ok (reply.Survey shards rows)) w u =
+    losing_unrefused (is_of (filter (λ h. not (still_stands rows h)) w.held)) w.consumers w.retired u
 survey_unrefused made now (Ok _) w u = u
 survey_unrefused made now (Err r) w u = u
 
-take_unrefused : (made : WorkerMade) (now : ℕ) (step : TakeStep) (answer : Result Reply Refusal) (w : WorkerState) → AreUnrefused w.consumers w.retired → AreUnrefused (after_take made now step answer w).consumers (after_take made now step answer w).retired
+take_unrefused : (made : WorkerMade) (now : ℕ) (step : TakeStep) (answer : Result Reply Refusal) (w : WorkerState)
+    → AreUnrefused w.consumers w.retired
+    → AreUnrefused (after_take made now step answer w).consumers (after_take made now step answer w).retired
 take_unrefused made now step (Ok (reply.Taken tenure counter start)) w u = record {
-  live = all_with_known IsUnrefused (record { made = record { key = step.key; tenure = tenure; start = start; limit = made.settings.limit }; past = [] }) w.consumers refl u.live;
+  live = all_with_known IsUnrefused
+      (record {
+        made = record { key = step.key; tenure = tenure; start = start; limit = made.settings.limit };
+        past = [];
+      }) w.consumers refl u.live;
   over = u.over;
   ended = u.ended;
 }
 take_unrefused made now step (Ok _) w u = u
 take_unrefused made now step (Err r) w u = u
 
-renewal_unrefused : (now : ℕ) (h : Held) (answer : Result Reply Refusal) (w : WorkerState) → AreUnrefused w.consumers w.retired → AreUnrefused (after_renewal now h answer w).consumers (after_renewal now h answer w).retired
+renewal_unrefused : (now : ℕ) (h : Held) (answer : Result Reply Refusal) (w : WorkerState)
+    → AreUnrefused w.consumers w.retired
+    → AreUnrefused (after_renewal now h answer w).consumers (after_renewal now h answer w).retired
 renewal_unrefused now h (Ok (reply.Counter counter)) w u = u
 renewal_unrefused now h (Ok _) w u = u
 renewal_unrefused now h (Err r) w u = losing_unrefused (λ k. same_id (id_of k) (id_of_held h)) w.consumers w.retired u
 
-chore_unrefused : (made : WorkerMade) (now : ℕ) (answer : Result Reply Refusal) (deals : List Deal) (chore : Chore) (what : Command) (w : WorkerState) → IsOwnCommand chore what w → IsGiveTaken what answer deals → AllByRecursion (InStep deals) w.consumers → AreUnrefused w.consumers w.retired → AreUnrefused (after_chore made now answer chore w).consumers (after_chore made now answer chore w).retired
+chore_unrefused : (made : WorkerMade) (now : ℕ) (answer : Result Reply Refusal) (deals : List Deal) (chore : Chore)
+    (what : Command) (w : WorkerState) → IsOwnCommand chore what w → IsGiveTaken what answer deals
+    → AllByRecursion (InStep deals) w.consumers → AreUnrefused w.consumers w.retired
+    → AreUnrefused (after_chore made now answer chore w).consumers (after_chore made now answer chore w).retired
 chore_unrefused made now answer deals Surveying what w is taken steps u = survey_unrefused made now answer w u
 chore_unrefused made now answer deals (Syncing step syncs takes) what w is taken steps u = u
-chore_unrefused made now answer deals (Taking step takes) what w is taken steps u = take_unrefused made now step answer (record w { round = AtTakes takes }) u
-chore_unrefused made now answer deals (Renewing h) what w is taken steps u = renewal_unrefused now h answer (record w { round = AtRenewals (Some (id_of_held h)) }) u
-chore_unrefused made now answer deals (Consuming id) what w is taken steps u = own_unrefused id deals what answer w (known_of id w.consumers) refl is taken steps u
-chore_unrefused made now answer deals (Finishing id) what w is taken steps u = own_unrefused id deals what answer w (known_of id w.consumers) refl is taken steps u
+chore_unrefused made now answer deals (Taking step takes) what w is taken steps u =
+    take_unrefused made now step answer (record w { round = AtTakes takes }) u
+chore_unrefused made now answer deals (Renewing h) what w is taken steps u =
+    renewal_unrefused now h answer (record w { round = AtRenewals (Some (id_of_held h)) }) u
+chore_unrefused made now answer deals (Consuming id) what w is taken steps u =
+    own_unrefused id deals what answer w (known_of id w.consumers) refl is taken steps u
+chore_unrefused made now answer deals (Finishing id) what w is taken steps u =
+    own_unrefused id deals what answer w (known_of id w.consumers) refl is taken steps u
 chore_unrefused made now answer deals (Freeing h) what w is taken steps u = u
 
-own_kept : (chore : Chore) (what : Command) (w : WorkerState) → IsOwnCommand chore what w → IsOwnCommand chore what (record w { waiting = None })
+own_kept : (chore : Chore) (what : Command) (w : WorkerState) → IsOwnCommand chore what w
+    → IsOwnCommand chore what (record w { waiting = None })
 own_kept (Consuming id) what w h = h
 own_kept (Finishing id) what w h = h
 own_kept Surveying what w h = h
@@ -172,15 +233,20 @@ own_kept (Taking step takes) what w h = h
 own_kept (Renewing g) what w h = h
 own_kept (Freeing g) what w h = h
 
-absorbed_unrefused : (made : WorkerMade) (now : ℕ) (answer : Result Reply Refusal) (deals : List Deal) (w : WorkerState) (o : Option Pending) → IsWaitingOk o w → AreGivesTaken (with_deal o answer deals) → AllByRecursion (InStep deals) w.consumers → AreUnrefused w.consumers w.retired → AreUnrefused (absorbed made now answer w o).consumers (absorbed made now answer w o).retired
+absorbed_unrefused : (made : WorkerMade) (now : ℕ) (answer : Result Reply Refusal) (deals : List Deal) (w : WorkerState)
+    (o : Option Pending) → IsWaitingOk o w → AreGivesTaken (with_deal o answer deals)
+    → AllByRecursion (InStep deals) w.consumers → AreUnrefused w.consumers w.retired
+    → AreUnrefused (absorbed made now answer w o).consumers (absorbed made now answer w o).retired
 absorbed_unrefused made now answer deals w None is taken steps u = u
 absorbed_unrefused made now answer deals w (Some p) is taken steps u =
     settle_unrefused (after_chore made now answer p.chore (record w { waiting = None }))
-    (chore_unrefused made now answer deals p.chore p.what (record w { waiting = None }) (own_kept p.chore p.what w is) taken.0 steps u)
+    (chore_unrefused made now answer deals p.chore p.what (record w { waiting = None }) (own_kept p.chore p.what w is)
+    taken.0 steps u)
 
 -- ---- the record
 
-release_unrefused : (o : Option Release) (w : WorkerState) → AreUnrefused w.consumers w.retired → AreUnrefused (without_release o w).consumers (without_release o w).retired
+release_unrefused : (o : Option Release) (w : WorkerState) → AreUnrefused w.consumers w.retired
+    → AreUnrefused (without_release o w).consumers (without_release o w).retired
 release_unrefused None w u = u
 release_unrefused (Some r) w u = record {
   live = all_without IsUnrefused (id_of_held r.held) w.consumers u.live;
@@ -189,26 +255,36 @@ release_unrefused (Some r) w u = record {
 }
 
 -- by the state before
-pub state_unrefused : (made : WorkerMade) (event : WorkerEvent) (w : WorkerState) (deals : List Deal) → AreGivesTaken (deals_with event w deals) → IsFine deals w → AreUnrefused w.consumers w.retired → AreUnrefused (after_worker_event made event w).consumers (after_worker_event made event w).retired
-state_unrefused made (Made_call asked) w deals taken f u = settle_unrefused (record w { consumers = happens_to_first is_due_known (Called asked) w.consumers }) (record {
-  live = all_first IsUnrefused is_due_known (Called asked) w.consumers (called_unrefused asked) u.live;
-  over = u.over;
-  ended = u.ended;
-})
+pub state_unrefused : (made : WorkerMade) (event : WorkerEvent) (w : WorkerState) (deals : List Deal)
+    → AreGivesTaken (deals_with event w deals) → IsFine deals w → AreUnrefused w.consumers w.retired
+    → AreUnrefused (after_worker_event made event w).consumers (after_worker_event made event w).retired
+state_unrefused made (Made_call asked) w deals taken f u =
+    settle_unrefused (record w { consumers = happens_to_first is_due_known (Called asked) w.consumers }) (record {
+      live = all_first IsUnrefused is_due_known (Called asked) w.consumers (called_unrefused asked) u.live;
+      over = u.over;
+      ended = u.ended;
+    })
 state_unrefused made (Gave_command now) w deals taken f u = u
-state_unrefused made (Got_answer now answer) w deals taken f u = absorbed_unrefused made now answer deals w w.waiting f.waits taken f.good.live u
+state_unrefused made (Got_answer now answer) w deals taken f u =
+    absorbed_unrefused made now answer deals w w.waiting f.waits taken f.good.live u
 state_unrefused made Stopped w deals taken f u =
     settle_unrefused (record w { round = AtStopping; consumers = happens_to (λ k. true) Losing w.consumers })
     (losing_unrefused (λ k. true) w.consumers w.retired u)
 state_unrefused made (Released key) w deals taken f u = release_unrefused (released key w) w u
 
-event_unrefused : (made : WorkerMade) (event : WorkerEvent) (past : WorkerPast) → AreGivesTaken (deals_after made (event ∷ past)) → IsFine (deals_after made past) (worker_after made past) → AreUnrefused (worker_after made past).consumers (worker_after made past).retired → AreUnrefused (worker_after made (event ∷ past)).consumers (worker_after made (event ∷ past)).retired
-event_unrefused made event past taken f u = state_unrefused made event (worker_after made past) (deals_after made past) taken f u
+event_unrefused : (made : WorkerMade) (event : WorkerEvent) (past : WorkerPast)
+    → AreGivesTaken (deals_after made (event ∷ past)) → IsFine (deals_after made past) (worker_after made past)
+    → AreUnrefused (worker_after made past).consumers (worker_after made past).retired
+    → AreUnrefused (worker_after made (event ∷ past)).consumers (worker_after made (event ∷ past)).retired
+event_unrefused made event past taken f u =
+    state_unrefused made event (worker_after made past) (deals_after made past) taken f u
 
-taken_before : (made : WorkerMade) (event : WorkerEvent) (past : WorkerPast) → AreGivesTaken (deals_after made (event ∷ past)) → AreGivesTaken (deals_after made past)
+taken_before : (made : WorkerMade) (event : WorkerEvent) (past : WorkerPast)
+    → AreGivesTaken (deals_after made (event ∷ past)) → AreGivesTaken (deals_after made past)
 taken_before made (Got_answer now answer) past h = before (worker_after made past).waiting h
   where
-    before : (o : Option Pending) → AreGivesTaken (with_deal o answer (deals_after made past)) → AreGivesTaken (deals_after made past)
+    before : (o : Option Pending) → AreGivesTaken (with_deal o answer (deals_after made past))
+        → AreGivesTaken (deals_after made past)
     before None h = h
     before (Some p) h = h.1
 taken_before made (Made_call asked) past h = h
@@ -216,7 +292,9 @@ taken_before made (Gave_command now) past h = h
 taken_before made Stopped past h = h
 taken_before made (Released key) past h = h
 
-unrefused : (made : WorkerMade) (past : WorkerPast) → IsOrderly made past → AreNewTenures (deals_after made past) → AreGivesTaken (deals_after made past) → AreUnrefused (worker_after made past).consumers (worker_after made past).retired
+unrefused : (made : WorkerMade) (past : WorkerPast) → IsOrderly made past → AreNewTenures (deals_after made past)
+    → AreGivesTaken (deals_after made past)
+    → AreUnrefused (worker_after made past).consumers (worker_after made past).retired
 unrefused made [] orderly new taken = record { live = tt; over = tt; ended = tt }
 unrefused made (event ∷ past) orderly new taken =
     let newer = new_before event (worker_after made past) (deals_after made past) new in
@@ -225,40 +303,58 @@ unrefused made (event ∷ past) orderly new taken =
 
 -- ---- what follows
 
-settled_life : (made : Tenancy) (reads : List Fetched) (gives : ℕ) (calls : List Call) → (calls ≡ []) ⊎ IsSettled made reads gives calls → IsWholeLife made reads gives calls
+settled_life : (made : Tenancy) (reads : List Fetched) (gives : ℕ) (calls : List Call)
+    → (calls ≡ []) ⊎ IsSettled made reads gives calls → IsWholeLife made reads gives calls
 settled_life made reads gives calls (inl none) = inl none
 settled_life made reads gives calls (inr s) = inr (whole made s.waiting s.ending reads gives calls s.stands s.ends)
 
-over_life : (made : Tenancy) (phase : Phase) (reads : List Fetched) (gives : ℕ) (calls : List Call) → is_some (over_at phase) ≡ true → Settles made phase reads gives calls → IsWholeLife made reads gives calls
+over_life : (made : Tenancy) (phase : Phase) (reads : List Fetched) (gives : ℕ) (calls : List Call)
+    → is_some (over_at phase) ≡ true → Settles made phase reads gives calls → IsWholeLife made reads gives calls
 over_life made (Over why) reads gives calls over s = settled_life made reads gives calls s
 over_life made _ reads gives calls over s = absurd cc
 
-pub whole_among : (deals : List Deal) (k : Known) → InStep deals k → IsUnrefused k → HasEnded k → IsWholeLife k.made (reads_in k.made.tenure deals) (gives_in k.made.tenure deals) (calls_after k.made k.past)
+pub whole_among : (deals : List Deal) (k : Known) → InStep deals k → IsUnrefused k → HasEnded k
+    → IsWholeLife k.made (reads_in k.made.tenure deals) (gives_in k.made.tenure deals) (calls_after k.made k.past)
 whole_among deals k s unrefused over =
-    let P : List Fetched → Type 0 = λ rs. IsWholeLife k.made rs (gives_in k.made.tenure deals) (calls_after k.made k.past) in
+    let P : List Fetched → Type 0 =
+    λ rs. IsWholeLife k.made rs (gives_in k.made.tenure deals) (calls_after k.made k.past) in
     let Q : ℕ → Type 0 = λ n. IsWholeLife k.made (reads_after k.made k.past) n (calls_after k.made k.past) in
     subst P (sym s.reads) (subst Q (sym s.gives)
-    (over_life k.made (phase_of_known k) (reads_after k.made k.past) (gives_after k.made k.past) (calls_after k.made k.past) over (settles k.made k.past unrefused)))
+    (over_life k.made (phase_of_known k) (reads_after k.made k.past) (gives_after k.made k.past)
+    (calls_after k.made k.past) over (settles k.made k.past unrefused)))
 
-pub all_whole : (deals : List Deal) (xs : List Known) → AllByRecursion (InStep deals) xs → AllByRecursion IsUnrefused xs → AllByRecursion HasEnded xs → AllByRecursion (λ k. IsWholeLife k.made (reads_in k.made.tenure deals) (gives_in k.made.tenure deals) (calls_after k.made k.past)) xs
+pub all_whole : (deals : List Deal) (xs : List Known) → AllByRecursion (InStep deals) xs → AllByRecursion IsUnrefused xs
+    → AllByRecursion HasEnded xs
+    → AllByRecursion (λ k. IsWholeLife k.made (reads_in k.made.tenure deals) (gives_in k.made.tenure deals)
+    (calls_after k.made k.past)) xs
 all_whole deals [] steps u e = tt
 all_whole deals (k ∷ xs) steps u e = (whole_among deals k steps.0 u.0 e.0, all_whole deals xs steps.1 u.1 e.1)
 
-retired_whole : (made : WorkerMade) (past : WorkerPast) → IsOrderly made past → AreNewTenures (deals_after made past) → AreGivesTaken (deals_after made past) → AllByRecursion (λ k. IsWholeLife k.made (reads_in k.made.tenure (deals_after made past)) (gives_in k.made.tenure (deals_after made past)) (calls_after k.made k.past)) (worker_after made past).retired
+retired_whole : (made : WorkerMade) (past : WorkerPast) → IsOrderly made past → AreNewTenures (deals_after made past)
+    → AreGivesTaken (deals_after made past)
+    → AllByRecursion (λ k.
+    IsWholeLife k.made (reads_in k.made.tenure (deals_after made past))
+    (gives_in k.made.tenure (deals_after made past)) (calls_after k.made k.past)) (worker_after made past).retired
 retired_whole made past orderly new taken =
     let u = unrefused made past orderly new taken in
-    all_whole (deals_after made past) (worker_after made past).retired (fine made past orderly new).good.over u.over u.ended
+    all_whole (deals_after made past) (worker_after made past).retired (fine made past orderly new).good.over u.over
+    u.ended
 
 -- the processors of a worker are called for the given reads of its tenures, in each history in which its actor's turns
 -- are the commands of its record with their answers; and no batch of a retired consumer waits
-pub are_served : (by : ℕ) (h : List Turn) (made : WorkerMade) (past : WorkerPast) → IsOrderly made past → IsToldIn by h made past → AreServed by h made past
+pub are_served : (by : ℕ) (h : List Turn) (made : WorkerMade) (past : WorkerPast) → IsOrderly made past
+    → IsToldIn by h made past → AreServed by h made past
 are_served by h made past orderly told =
     let new = subst AreNewTenures told (new_tenures by h) in
     let w = worker_after made past in
     let begun = begun_told by h made past told in
-    let Q : List Deal → Type 0 = λ deals. AllByRecursion (λ k. IsWholeLife k.made (reads_in k.made.tenure deals) (gives_in k.made.tenure deals) (calls_after k.made k.past)) w.retired in
+    let Q : List Deal → Type 0 =
+    λ deals. AllByRecursion
+    (λ k. IsWholeLife k.made (reads_in k.made.tenure deals) (gives_in k.made.tenure deals)
+    (calls_after k.made k.past)) w.retired in
     record {
-      consumers = all_both _ _ w.consumers (all_tenures by h w.consumers begun.live) (live_served by h made past orderly told (new_tenures by h));
+      consumers = all_both _ _ w.consumers (all_tenures by h w.consumers begun.live)
+          (live_served by h made past orderly told (new_tenures by h));
       retired = all_both _ _ w.retired (all_tenures by h w.retired begun.over)
           (subst Q (sym told) (retired_whole made past orderly new (subst AreGivesTaken told (gives_taken by h))));
     }

@@ -1,5 +1,6 @@
 -- A consumer that is over has no batch that waits to be given, if no Give was refused.
-use Rattle.std.proofs.Common.{◌≡◌, ℕ, ◌+◌, Bool, true, false, List, [], ◌∷◌, ◌++◌, length, Option, Some, None, Ok, Err, refl, sym, subst, arith, inl, inr}
+use Rattle.std.proofs.Common.{◌≡◌, ℕ, ◌+◌, Bool, true, false, List, [], ◌∷◌, ◌++◌, length, Option, Some, None, Ok, Err}
+use Rattle.std.proofs.Common.{refl, sym, subst, arith, inl, inr}
 use Rattle.std.specs.Prelude.{◌⊎◌, cond, if◌then◌else◌, ◌||◌, not, Result}
 use Rattle.std.proofs.lemmas.List.{append-nil}
 use Rattle.std.proofs.lemmas.Bool.{or_parts}
@@ -15,9 +16,13 @@ use Rattle.kds_defs.specs.declared.reply.Refusal.{Refusal}
 use Rattle.kds_defs.specs.declared.reply.Refusal.TheVariants as refusal
 use Rattle.kds_defs.specs.declared.reply.Reply.{Reply}
 use Rattle.kds_defs.specs.declared.reply.Reply.TheVariants as reply
-use Rattle.kcl_defs.specs.Consumers.{Past, Event, Called, Answered, Losing, Phase, Opening, Starting, Filling, Holding, Giving, Marking, Ending, MarkingEnd, Leaving, Over, is_empty, is_filled, front, onward, was_handed, is_loss, after_event, after_answer, after_read, after_give, after_mark, after_loss, phase_after, calls_with, calls_after}
+use Rattle.kcl_defs.specs.Consumers.{Past, Event, Called, Answered, Losing, Phase, Opening, Starting, Filling, Holding}
+use Rattle.kcl_defs.specs.Consumers.{Giving, Marking, Ending, MarkingEnd, Leaving, Over, is_empty, is_filled, front}
+use Rattle.kcl_defs.specs.Consumers.{onward, was_handed, is_loss, after_event, after_answer, after_read, after_give}
+use Rattle.kcl_defs.specs.Consumers.{after_mark, after_loss, phase_after, calls_with, calls_after}
 use Rattle.kcl_defs.specs.Lives.{reads_at, reads_after, gives_at, gives_after, read_in, give_in, IsEnding, Ended}
-use Rattle.kcl_defs.proofs.LifeLemmas.{Holds, Stands, StandsGiving, StandsSomehow, IsOpenEnding, Open, Open_ended, with_end, left_ending, given_on, holds}
+use Rattle.kcl_defs.proofs.LifeLemmas.{Holds, Stands, StandsGiving, StandsSomehow, IsOpenEnding, Open, Open_ended}
+use Rattle.kcl_defs.proofs.LifeLemmas.{with_end, left_ending, given_on, holds}
 
 -- a Give was refused
 abbrev pub refused_at : Phase → Event → Bool
@@ -46,19 +51,25 @@ Settles made (Leaving why) reads gives calls = IsLeavingSettled made reads gives
 Settles made (Over why) reads gives calls = (calls ≡ []) ⊎ IsSettled made reads gives calls
 Settles made _ reads gives calls = Unit {0}
 
-leave : (made : Tenancy) (waiting : List Fetched) (ending : List Call) (reads : List Fetched) (gives : ℕ) (calls : List Call) → Stands made waiting [] ending reads gives calls → IsOpenEnding ending → IsLeavingSettled made reads gives calls
+leave : (made : Tenancy) (waiting : List Fetched) (ending : List Call) (reads : List Fetched) (gives : ℕ)
+    (calls : List Call) → Stands made waiting [] ending reads gives calls → IsOpenEnding ending
+    → IsLeavingSettled made reads gives calls
 leave made waiting ending reads gives calls h o = record { waiting = waiting; ending = ending; stands = h; opens = o }
 
-fronts : (made : Tenancy) (reach : ℕ) (waiting : List Fetched) (reads : List Fetched) (gives : ℕ) (calls : List Call) → Settles made (front reach waiting) reads gives calls
+fronts : (made : Tenancy) (reach : ℕ) (waiting : List Fetched) (reads : List Fetched) (gives : ℕ) (calls : List Call)
+    → Settles made (front reach waiting) reads gives calls
 fronts made reach [] reads gives calls = tt
 fronts made reach (f ∷ waiting) reads gives calls = choice (is_empty f.batch)
   where
-    choice : (b : Bool) → Settles made (if b then Giving reach (f ∷ waiting) None false else Holding reach (f ∷ waiting)) reads gives calls
+    choice : (b : Bool) → Settles made
+        (if b then Giving reach (f ∷ waiting) None false else Holding reach (f ∷ waiting)) reads gives calls
     choice true = tt
     choice false = tt
 
 -- calls
-called : (made : Tenancy) (asked : Ask) (phase : Phase) (reads : List Fetched) (gives : ℕ) (calls : List Call) → Settles made phase reads gives calls → Settles made (after_event made (Called asked) phase) reads gives (calls_with made (Called asked) phase calls)
+called : (made : Tenancy) (asked : Ask) (phase : Phase) (reads : List Fetched) (gives : ℕ) (calls : List Call)
+    → Settles made phase reads gives calls
+    → Settles made (after_event made (Called asked) phase) reads gives (calls_with made (Called asked) phase calls)
 called made asked (Leaving why) reads gives calls s = inr (record {
   waiting = s.waiting;
   ending = s.ending ++ (call.LeaseLost ∷ []);
@@ -76,17 +87,23 @@ called made asked Ending reads gives calls s = tt
 called made asked MarkingEnd reads gives calls s = tt
 
 -- losses
-not_handed : (made : Tenancy) (reach : ℕ) (waiting : List Fetched) (to : Option Target) (reads : List Fetched) (gives : ℕ) (calls : List Call) → StandsGiving made waiting reads gives calls → Settles made (if was_handed waiting then Giving reach waiting to true else Leaving why.Lost) reads gives calls
+not_handed : (made : Tenancy) (reach : ℕ) (waiting : List Fetched) (to : Option Target) (reads : List Fetched)
+    (gives : ℕ) (calls : List Call) → StandsGiving made waiting reads gives calls
+    → Settles made (if was_handed waiting then Giving reach waiting to true else Leaving why.Lost) reads gives calls
 not_handed made reach [] to reads gives calls h = absurd h.some
 not_handed made reach (f ∷ waiting) to reads gives calls h = choice (is_empty f.batch) refl
   where
-    choice : (b : Bool) → is_empty f.batch ≡ b → Settles made (if not b then Giving reach (f ∷ waiting) to true else Leaving why.Lost) reads gives calls
+    choice : (b : Bool) → is_empty f.batch ≡ b
+        → Settles made (if not b then Giving reach (f ∷ waiting) to true else Leaving why.Lost) reads gives calls
     choice false e = tt
     choice true e =
         leave made (f ∷ waiting) [] reads gives calls
-        (subst (λ b. Stands made (f ∷ waiting) (cond b [] (call.Process f.batch ∷ [])) [] reads gives calls) e h.stands) Open
+        (subst (λ b. Stands made (f ∷ waiting) (cond b [] (call.Process f.batch ∷ [])) [] reads gives calls) e h.stands)
+        Open
 
-lost : (made : Tenancy) (phase : Phase) (reads : List Fetched) (gives : ℕ) (calls : List Call) → Holds made phase reads gives calls → Settles made phase reads gives calls → Settles made (after_loss phase) reads gives calls
+lost : (made : Tenancy) (phase : Phase) (reads : List Fetched) (gives : ℕ) (calls : List Call)
+    → Holds made phase reads gives calls → Settles made phase reads gives calls
+    → Settles made (after_loss phase) reads gives calls
 lost made Opening reads gives calls h s = inl h.none_called
 lost made Starting reads gives calls h s = inl h.none_called
 lost made (Giving reach waiting to known) reads gives calls h s = not_handed made reach waiting to reads gives calls h
@@ -95,7 +112,8 @@ lost made (Filling reach waiting) reads gives calls h s = leave made waiting [] 
 lost made (Holding reach waiting) reads gives calls h s = leave made waiting [] reads gives calls h.stands Open
 lost made (Marking reach waiting to) reads gives calls h s = leave made waiting [] reads gives calls h Open
 lost made Ending reads gives calls h s = leave made h.waiting [] reads gives calls h.stands Open
-lost made MarkingEnd reads gives calls h s = leave made h.waiting (call.ShardEnded ∷ []) reads gives calls h.stands Open_ended
+lost made MarkingEnd reads gives calls h s =
+    leave made h.waiting (call.ShardEnded ∷ []) reads gives calls h.stands Open_ended
 lost made (Leaving why) reads gives calls h s = s
 
 -- answers
@@ -106,23 +124,37 @@ still P reads gives h =
     let R : ℕ → Type 0 = λ n. P reads n in
     subst Q (sym (append-nil reads)) (subst R e h)
 
-read_answered : (made : Tenancy) (reach : ℕ) (waiting : List Fetched) (answer : Result Reply Refusal) (reads : List Fetched) (gives : ℕ) (calls : List Call) → Stands made waiting [] [] reads gives calls → Settles made (after_read made.limit reach waiting answer) (reads ++ read_in answer) (gives + 0) calls
-read_answered made reach waiting (Ok (reply.Read batch place ended)) reads gives calls h = choice (is_filled made.limit (length waiting + 1) (record { batch = batch; ended = ended }))
+read_answered : (made : Tenancy) (reach : ℕ) (waiting : List Fetched) (answer : Result Reply Refusal)
+    (reads : List Fetched) (gives : ℕ) (calls : List Call) → Stands made waiting [] [] reads gives calls
+    → Settles made (after_read made.limit reach waiting answer) (reads ++ read_in answer) (gives + 0) calls
+read_answered made reach waiting (Ok (reply.Read batch place ended)) reads gives calls h =
+    choice (is_filled made.limit (length waiting + 1) (record { batch = batch; ended = ended }))
   where
-    choice : (b : Bool) → Settles made (if b then front place (waiting ++ (record { batch = batch; ended = ended } ∷ [])) else Filling place (waiting ++ (record { batch = batch; ended = ended } ∷ []))) (reads ++ (record { batch = batch; ended = ended } ∷ [])) (gives + 0) calls
-    choice true = fronts made place (waiting ++ (record { batch = batch; ended = ended } ∷ [])) (reads ++ (record { batch = batch; ended = ended } ∷ [])) (gives + 0) calls
+    choice : (b : Bool) → Settles made
+        (if b then front place (waiting ++ (record { batch = batch; ended = ended } ∷ [])) else Filling place
+        (waiting ++ (record { batch = batch; ended = ended } ∷ [])))
+        (reads ++ (record { batch = batch; ended = ended } ∷ [])) (gives + 0) calls
+    choice true = fronts made place (waiting ++ (record { batch = batch; ended = ended } ∷ []))
+        (reads ++ (record { batch = batch; ended = ended } ∷ [])) (gives + 0) calls
     choice false = tt
 read_answered made reach waiting (Ok _) reads gives calls h = tt
-read_answered made reach waiting (Err refusal.ShardGone) reads gives calls h = still (λ rs n. IsLeavingSettled made rs n calls) reads gives (leave made waiting [] reads gives calls h Open)
-read_answered made reach waiting (Err _) reads gives calls h = still (λ rs n. IsLeavingSettled made rs n calls) reads gives (leave made waiting [] reads gives calls h Open)
+read_answered made reach waiting (Err refusal.ShardGone) reads gives calls h =
+    still (λ rs n. IsLeavingSettled made rs n calls) reads gives (leave made waiting [] reads gives calls h Open)
+read_answered made reach waiting (Err _) reads gives calls h =
+    still (λ rs n. IsLeavingSettled made rs n calls) reads gives (leave made waiting [] reads gives calls h Open)
 
-onwards : (made : Tenancy) (reach : ℕ) (waiting : List Fetched) (to : Option Target) (reads : List Fetched) (gives : ℕ) (calls : List Call) → Settles made (onward reach waiting to) reads gives calls
+onwards : (made : Tenancy) (reach : ℕ) (waiting : List Fetched) (to : Option Target) (reads : List Fetched) (gives : ℕ)
+    (calls : List Call) → Settles made (onward reach waiting to) reads gives calls
 onwards made reach waiting None reads gives calls = fronts made reach waiting reads gives calls
 onwards made reach waiting (Some to) reads gives calls = tt
 
-give_answered : (made : Tenancy) (reach : ℕ) (waiting : List Fetched) (to : Option Target) (known : Bool) (answer : Result Reply Refusal) (reads : List Fetched) (gives : ℕ) (calls : List Call) → refused_at (Giving reach waiting to known) (Answered answer) ≡ false → StandsGiving made waiting reads gives calls → Settles made (after_give reach waiting to known answer) (reads ++ []) (gives + give_in answer) calls
+give_answered : (made : Tenancy) (reach : ℕ) (waiting : List Fetched) (to : Option Target) (known : Bool)
+    (answer : Result Reply Refusal) (reads : List Fetched) (gives : ℕ) (calls : List Call)
+    → refused_at (Giving reach waiting to known) (Answered answer) ≡ false → StandsGiving made waiting reads gives calls
+    → Settles made (after_give reach waiting to known answer) (reads ++ []) (gives + give_in answer) calls
 give_answered made reach [] to known answer reads gives calls r h = absurd h.some
-give_answered made reach (f ∷ waiting) to true (Ok reply) reads gives calls r h = leave made waiting [] (reads ++ []) (gives + 1) calls (given_on made f waiting reads gives calls h.stands) Open
+give_answered made reach (f ∷ waiting) to true (Ok reply) reads gives calls r h =
+    leave made waiting [] (reads ++ []) (gives + 1) calls (given_on made f waiting reads gives calls h.stands) Open
 give_answered made reach (f ∷ waiting) to false (Ok reply) reads gives calls r h = choice f.ended
   where
     choice : (b : Bool) → Settles made (if b then Ending else onward reach waiting to) (reads ++ []) (gives + 1) calls
@@ -130,7 +162,9 @@ give_answered made reach (f ∷ waiting) to false (Ok reply) reads gives calls r
     choice false = onwards made reach waiting to (reads ++ []) (gives + 1) calls
 give_answered made reach (f ∷ waiting) to known (Err e) reads gives calls r h = absurd cc
 
-mark_answered : (made : Tenancy) (reach : ℕ) (waiting : List Fetched) (answer : Result Reply Refusal) (reads : List Fetched) (gives : ℕ) (calls : List Call) → Stands made waiting [] [] reads gives calls → Settles made (after_mark reach waiting answer) reads gives calls
+mark_answered : (made : Tenancy) (reach : ℕ) (waiting : List Fetched) (answer : Result Reply Refusal)
+    (reads : List Fetched) (gives : ℕ) (calls : List Call) → Stands made waiting [] [] reads gives calls
+    → Settles made (after_mark reach waiting answer) reads gives calls
 mark_answered made reach waiting (Ok reply) reads gives calls h = fronts made reach waiting reads gives calls
 mark_answered made reach waiting (Err r) reads gives calls h = choice (is_loss r)
   where
@@ -138,53 +172,82 @@ mark_answered made reach waiting (Err r) reads gives calls h = choice (is_loss r
     choice true = leave made waiting [] reads gives calls h Open
     choice false = fronts made reach waiting reads gives calls
 
-end_answered : (made : Tenancy) (answer : Result Reply Refusal) (reads : List Fetched) (gives : ℕ) (calls : List Call) → StandsSomehow made (call.ShardEnded ∷ []) reads gives calls → Settles made (after_answer made answer MarkingEnd) reads gives calls
-end_answered made (Ok reply) reads gives calls h = inr (record { waiting = h.waiting; ending = call.ShardEnded ∷ []; stands = h.stands; ends = Ended })
-end_answered made (Err r) reads gives calls h = leave made h.waiting (call.ShardEnded ∷ []) reads gives calls h.stands Open_ended
+end_answered : (made : Tenancy) (answer : Result Reply Refusal) (reads : List Fetched) (gives : ℕ) (calls : List Call)
+    → StandsSomehow made (call.ShardEnded ∷ []) reads gives calls
+    → Settles made (after_answer made answer MarkingEnd) reads gives calls
+end_answered made (Ok reply) reads gives calls h =
+    inr (record { waiting = h.waiting; ending = call.ShardEnded ∷ []; stands = h.stands; ends = Ended })
+end_answered made (Err r) reads gives calls h =
+    leave made h.waiting (call.ShardEnded ∷ []) reads gives calls h.stands Open_ended
 
-open_answered : (made : Tenancy) (answer : Result Reply Refusal) (reads : List Fetched) (gives : ℕ) (calls : List Call) → calls ≡ [] → Settles made (after_answer made answer Opening) reads gives calls
+open_answered : (made : Tenancy) (answer : Result Reply Refusal) (reads : List Fetched) (gives : ℕ) (calls : List Call)
+    → calls ≡ [] → Settles made (after_answer made answer Opening) reads gives calls
 open_answered made (Ok reply) reads gives calls h = tt
 open_answered made (Err (refusal.ParentsOpen parent)) reads gives calls h = tt
 open_answered made (Err _) reads gives calls h = inl h
 
-answered : (made : Tenancy) (answer : Result Reply Refusal) (phase : Phase) (reads : List Fetched) (gives : ℕ) (calls : List Call) → refused_at phase (Answered answer) ≡ false → Holds made phase reads gives calls → Settles made phase reads gives calls → Settles made (after_answer made answer phase) (reads ++ reads_at phase (Answered answer)) (gives + gives_at phase (Answered answer)) calls
-answered made answer (Filling reach waiting) reads gives calls r h s = read_answered made reach waiting answer reads gives calls h
-answered made answer (Giving reach waiting to known) reads gives calls r h s = give_answered made reach waiting to known answer reads gives calls r h
-answered made answer Opening reads gives calls r h s = still (λ rs n. Settles made (after_answer made answer Opening) rs n calls) reads gives (open_answered made answer reads gives calls h.none_called)
-answered made answer (Marking reach waiting to) reads gives calls r h s = still (λ rs n. Settles made (after_mark reach waiting answer) rs n calls) reads gives (mark_answered made reach waiting answer reads gives calls h)
-answered made answer MarkingEnd reads gives calls r h s = still (λ rs n. Settles made (after_answer made answer MarkingEnd) rs n calls) reads gives (end_answered made answer reads gives calls h)
+answered : (made : Tenancy) (answer : Result Reply Refusal) (phase : Phase) (reads : List Fetched) (gives : ℕ)
+    (calls : List Call) → refused_at phase (Answered answer) ≡ false → Holds made phase reads gives calls
+    → Settles made phase reads gives calls
+    → Settles made (after_answer made answer phase) (reads ++ reads_at phase (Answered answer))
+    (gives + gives_at phase (Answered answer)) calls
+answered made answer (Filling reach waiting) reads gives calls r h s =
+    read_answered made reach waiting answer reads gives calls h
+answered made answer (Giving reach waiting to known) reads gives calls r h s =
+    give_answered made reach waiting to known answer reads gives calls r h
+answered made answer Opening reads gives calls r h s =
+    still (λ rs n. Settles made (after_answer made answer Opening) rs n calls) reads gives
+    (open_answered made answer reads gives calls h.none_called)
+answered made answer (Marking reach waiting to) reads gives calls r h s =
+    still (λ rs n. Settles made (after_mark reach waiting answer) rs n calls) reads gives
+    (mark_answered made reach waiting answer reads gives calls h)
+answered made answer MarkingEnd reads gives calls r h s =
+    still (λ rs n. Settles made (after_answer made answer MarkingEnd) rs n calls) reads gives
+    (end_answered made answer reads gives calls h)
 answered made answer Starting reads gives calls r h s = tt
 answered made answer (Holding reach waiting) reads gives calls r h s = tt
 answered made answer Ending reads gives calls r h s = tt
-answered made answer (Leaving why) reads gives calls r h s = still (λ rs n. Settles made (Leaving why) rs n calls) reads gives s
-answered made answer (Over why) reads gives calls r h s = still (λ rs n. Settles made (Over why) rs n calls) reads gives s
+answered made answer (Leaving why) reads gives calls r h s =
+    still (λ rs n. Settles made (Leaving why) rs n calls) reads gives s
+answered made answer (Over why) reads gives calls r h s =
+    still (λ rs n. Settles made (Over why) rs n calls) reads gives s
 
 -- the record
 abbrev SettlesAfter : Tenancy → Past → Type 0
-SettlesAfter made past = Settles made (phase_after made past) (reads_after made past) (gives_after made past) (calls_after made past)
+SettlesAfter made past =
+    Settles made (phase_after made past) (reads_after made past) (gives_after made past) (calls_after made past)
 
-no_reads : (phase : Phase) (asked : Ask) → (reads_at phase (Called asked) ≡ []) × (reads_at phase Losing ≡ []) × (gives_at phase (Called asked) ≡ 0) × (gives_at phase Losing ≡ 0)
+no_reads : (phase : Phase) (asked : Ask) → (reads_at phase (Called asked) ≡ []) × (reads_at phase Losing ≡ [])
+    × (gives_at phase (Called asked) ≡ 0) × (gives_at phase Losing ≡ 0)
 no_reads (Filling reach waiting) asked = (refl, refl, refl, refl)
 no_reads (Giving reach waiting to known) asked = (refl, refl, refl, refl)
 no_reads _ asked = (refl, refl, refl, refl)
 
-quiet : (made : Tenancy) (event : Event) (phase before : Phase) (reads : List Fetched) (gives : ℕ) (calls : List Call) → reads_at before event ≡ [] → gives_at before event ≡ 0 → Settles made phase reads gives calls → Settles made phase (reads ++ reads_at before event) (gives + gives_at before event) calls
+quiet : (made : Tenancy) (event : Event) (phase before : Phase) (reads : List Fetched) (gives : ℕ) (calls : List Call)
+    → reads_at before event ≡ [] → gives_at before event ≡ 0 → Settles made phase reads gives calls
+    → Settles made phase (reads ++ reads_at before event) (gives + gives_at before event) calls
 quiet made event phase before reads gives calls r g h =
     let P : List Fetched → Type 0 = λ rs. Settles made phase (reads ++ rs) (gives + gives_at before event) calls in
     let Q : ℕ → Type 0 = λ n. Settles made phase (reads ++ []) (gives + n) calls in
     subst P (sym r) (subst Q (sym g) (still (λ rs n. Settles made phase rs n calls) reads gives h))
 
-happens : (made : Tenancy) (event : Event) (past : Past) → refused_at (phase_after made past) event ≡ false → SettlesAfter made past → SettlesAfter made (event ∷ past)
+happens : (made : Tenancy) (event : Event) (past : Past) → refused_at (phase_after made past) event ≡ false
+    → SettlesAfter made past → SettlesAfter made (event ∷ past)
 happens made (Called asked) past r s =
     let n = no_reads (phase_after made past) asked in
-    quiet made (Called asked) (after_event made (Called asked) (phase_after made past)) (phase_after made past) (reads_after made past) (gives_after made past) (calls_after made (Called asked ∷ past)) n.0 n.2
-    (called made asked (phase_after made past) (reads_after made past) (gives_after made past) (calls_after made past) s)
+    quiet made (Called asked) (after_event made (Called asked) (phase_after made past)) (phase_after made past)
+    (reads_after made past) (gives_after made past) (calls_after made (Called asked ∷ past)) n.0 n.2
+    (called made asked (phase_after made past) (reads_after made past) (gives_after made past) (calls_after made past)
+    s)
 happens made (Answered answer) past r s =
-    answered made answer (phase_after made past) (reads_after made past) (gives_after made past) (calls_after made past) r (holds made past) s
+    answered made answer (phase_after made past) (reads_after made past) (gives_after made past) (calls_after made past)
+    r (holds made past) s
 happens made Losing past r s =
     let n = no_reads (phase_after made past) ask.None in
-    quiet made Losing (after_loss (phase_after made past)) (phase_after made past) (reads_after made past) (gives_after made past) (calls_after made past) n.1 n.3
-    (lost made (phase_after made past) (reads_after made past) (gives_after made past) (calls_after made past) (holds made past) s)
+    quiet made Losing (after_loss (phase_after made past)) (phase_after made past) (reads_after made past)
+    (gives_after made past) (calls_after made past) n.1 n.3
+    (lost made (phase_after made past) (reads_after made past) (gives_after made past) (calls_after made past)
+    (holds made past) s)
 
 -- a consumer that is over, and of which no Give was refused, has no batch that was handed and not given
 pub settles : (made : Tenancy) (past : Past) → was_refused made past ≡ false → SettlesAfter made past

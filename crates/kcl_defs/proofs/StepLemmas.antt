@@ -12,9 +12,11 @@ use Rattle.kcl_defs.specs.declared.consumer.Fetched.{Fetched}
 use Rattle.kcl_defs.specs.declared.consumer.Tenancy.{Tenancy}
 use Rattle.kds_defs.specs.declared.reply.Refusal.{Refusal}
 use Rattle.kds_defs.specs.declared.reply.Reply.{Reply}
-use Rattle.kcl_defs.specs.Consumers.{Past, Event, Called, Answered, Losing, Phase, Opening, Filling, Giving, Marking, MarkingEnd, next_command, phase_after, calls_after}
+use Rattle.kcl_defs.specs.Consumers.{Past, Event, Called, Answered, Losing, Phase, Opening, Filling, Giving, Marking}
+use Rattle.kcl_defs.specs.Consumers.{MarkingEnd, next_command, phase_after, calls_after}
 use Rattle.kds_defs.specs.Histories.{answer}
-use Rattle.kcl_defs.specs.Lives.{Deal, deals_of, reads_of, reads_in, gives_of, gives_in, reads_at, reads_after, gives_at, gives_after, read_in, give_in, IsInStep, IsLife, IsLifeAmong}
+use Rattle.kcl_defs.specs.Lives.{Deal, deals_of, reads_of, reads_in, gives_of, gives_in, reads_at, reads_after}
+use Rattle.kcl_defs.specs.Lives.{gives_at, gives_after, read_in, give_in, IsInStep, IsLife, IsLifeAmong}
 use Rattle.kcl_defs.proofs.LifeLemmas.{life}
 
 -- ---- the reads and gives of a command are those of the phase that gives it
@@ -22,7 +24,8 @@ use Rattle.kcl_defs.proofs.LifeLemmas.{life}
 same_command : (a b : Command) → Some a ≡ Some b → a ≡ b
 same_command a b e = cc
 
-own_read : (t position limit : ℕ) (answer : Result Reply Refusal) → reads_of t (command.Read t position limit) answer ≡ read_in answer
+own_read : (t position limit : ℕ) (answer : Result Reply Refusal) → reads_of t (command.Read t position limit) answer
+    ≡ read_in answer
 own_read t position limit answer = ap (λ b. if b then read_in answer else []) (is_itself t)
 
 own_give : (t : ℕ) (answer : Result Reply Refusal) → gives_of t (command.Give t) answer ≡ give_in answer
@@ -33,23 +36,33 @@ pub record Adds (made : Tenancy) (phase : Phase) (what : Command) (answer : Resu
   pub reads : reads_of made.tenure what answer ≡ reads_at phase (Answered answer)
   pub gives : gives_of made.tenure what answer ≡ gives_at phase (Answered answer)
 
-adds_as : (made : Tenancy) (phase : Phase) (given what : Command) (answer : Result Reply Refusal) → Some given ≡ Some what → Adds made phase given answer → Adds made phase what answer
+adds_as : (made : Tenancy) (phase : Phase) (given what : Command) (answer : Result Reply Refusal)
+    → Some given ≡ Some what → Adds made phase given answer → Adds made phase what answer
 adds_as made phase given what answer e h = subst (λ w. Adds made phase w answer) (same_command given what e) h
 
-pub adds : (made : Tenancy) (phase : Phase) (counter : ℕ) (what : Command) (answer : Result Reply Refusal) → next_command made phase counter ≡ Some what → Adds made phase what answer
+pub adds : (made : Tenancy) (phase : Phase) (counter : ℕ) (what : Command) (answer : Result Reply Refusal)
+    → next_command made phase counter ≡ Some what → Adds made phase what answer
 adds made Opening counter what answer e = adds_as made Opening _ what answer e (record { reads = refl; gives = refl })
 adds made (Filling reach waiting) counter what answer e =
-    adds_as made (Filling reach waiting) _ what answer e (record { reads = own_read made.tenure reach made.limit answer; gives = refl })
+    adds_as made (Filling reach waiting) _ what answer e (record {
+      reads = own_read made.tenure reach made.limit answer;
+      gives = refl;
+    })
 adds made (Giving reach waiting asked lost) counter what answer e =
-    adds_as made (Giving reach waiting asked lost) _ what answer e (record { reads = refl; gives = own_give made.tenure answer })
-adds made (Marking reach waiting to) counter what answer e = adds_as made (Marking reach waiting to) _ what answer e (record { reads = refl; gives = refl })
-adds made MarkingEnd counter what answer e = adds_as made MarkingEnd _ what answer e (record { reads = refl; gives = refl })
+    adds_as made (Giving reach waiting asked lost) _ what answer e
+    (record { reads = refl; gives = own_give made.tenure answer })
+adds made (Marking reach waiting to) counter what answer e =
+    adds_as made (Marking reach waiting to) _ what answer e (record { reads = refl; gives = refl })
+adds made MarkingEnd counter what answer e =
+    adds_as made MarkingEnd _ what answer e (record { reads = refl; gives = refl })
 adds made _ counter what answer e = absurd cc
 
 -- ---- steps
 
 -- a command that neither reads nor gives the tenure changes nothing
-pub others_keep : (deal : Deal) (deals : List Deal) (made : Tenancy) (past : Past) → reads_of made.tenure deal.what deal.answer ≡ [] → gives_of made.tenure deal.what deal.answer ≡ 0 → IsInStep deals made past → IsInStep (deal ∷ deals) made past
+pub others_keep : (deal : Deal) (deals : List Deal) (made : Tenancy) (past : Past)
+    → reads_of made.tenure deal.what deal.answer ≡ [] → gives_of made.tenure deal.what deal.answer ≡ 0
+    → IsInStep deals made past → IsInStep (deal ∷ deals) made past
 others_keep deal deals made past no_read no_give s =
     record {
       reads = ap (λ rs. reads_in made.tenure deals ++ rs) no_read ∙ append-nil (reads_in made.tenure deals) ∙ s.reads;
@@ -57,39 +70,49 @@ others_keep deal deals made past no_read no_give s =
     }
 
 -- the consumer's own command, whose answer is absorbed
-pub own_keeps : (deal : Deal) (deals : List Deal) (counter : ℕ) (made : Tenancy) (past : Past) → next_command made (phase_after made past) counter ≡ Some deal.what → IsInStep deals made past → IsInStep (deal ∷ deals) made (Answered deal.answer ∷ past)
+pub own_keeps : (deal : Deal) (deals : List Deal) (counter : ℕ) (made : Tenancy) (past : Past)
+    → next_command made (phase_after made past) counter ≡ Some deal.what → IsInStep deals made past
+    → IsInStep (deal ∷ deals) made (Answered deal.answer ∷ past)
 own_keeps deal deals counter made past next s =
     let a = adds made (phase_after made past) counter deal.what deal.answer next in
     record {
-      reads = ap (λ rs. rs ++ reads_of made.tenure deal.what deal.answer) s.reads ∙ ap (λ rs. reads_after made past ++ rs) a.reads;
-      gives = ap (λ n. n + gives_of made.tenure deal.what deal.answer) s.gives ∙ ap (λ n. gives_after made past + n) a.gives;
+      reads = ap (λ rs. rs ++ reads_of made.tenure deal.what deal.answer) s.reads
+          ∙ ap (λ rs. reads_after made past ++ rs) a.reads;
+      gives = ap (λ n. n + gives_of made.tenure deal.what deal.answer) s.gives
+          ∙ ap (λ n. gives_after made past + n) a.gives;
     }
 
 -- a call or a loss is no command
-called_reads : (phase : Phase) (asked : Ask) → (reads_at phase (Called asked) ≡ []) × (gives_at phase (Called asked) ≡ 0) × (reads_at phase Losing ≡ []) × (gives_at phase Losing ≡ 0)
+called_reads : (phase : Phase) (asked : Ask) → (reads_at phase (Called asked) ≡ [])
+    × (gives_at phase (Called asked) ≡ 0) × (reads_at phase Losing ≡ []) × (gives_at phase Losing ≡ 0)
 called_reads (Filling reach waiting) asked = (refl, refl, refl, refl)
 called_reads (Giving reach waiting to lost) asked = (refl, refl, refl, refl)
 called_reads _ asked = (refl, refl, refl, refl)
 
-silent : (deals : List Deal) (made : Tenancy) (event : Event) (past : Past) → reads_at (phase_after made past) event ≡ [] → gives_at (phase_after made past) event ≡ 0 → IsInStep deals made past → IsInStep deals made (event ∷ past)
+silent : (deals : List Deal) (made : Tenancy) (event : Event) (past : Past)
+    → reads_at (phase_after made past) event ≡ [] → gives_at (phase_after made past) event ≡ 0
+    → IsInStep deals made past → IsInStep deals made (event ∷ past)
 silent deals made event past no_read no_give s =
     record {
       reads = s.reads ∙ sym (ap (λ rs. reads_after made past ++ rs) no_read ∙ append-nil (reads_after made past));
       gives = s.gives ∙ sym (ap (λ n. gives_after made past + n) no_give ∙ plus_none (gives_after made past));
     }
 
-pub called_keeps : (deals : List Deal) (made : Tenancy) (asked : Ask) (past : Past) → IsInStep deals made past → IsInStep deals made (Called asked ∷ past)
+pub called_keeps : (deals : List Deal) (made : Tenancy) (asked : Ask) (past : Past) → IsInStep deals made past
+    → IsInStep deals made (Called asked ∷ past)
 called_keeps deals made asked past s =
     let n = called_reads (phase_after made past) asked in silent deals made (Called asked) past n.0 n.1 s
 
-pub lost_keeps : (deals : List Deal) (made : Tenancy) (past : Past) → IsInStep deals made past → IsInStep deals made (Losing ∷ past)
+pub lost_keeps : (deals : List Deal) (made : Tenancy) (past : Past) → IsInStep deals made past
+    → IsInStep deals made (Losing ∷ past)
 lost_keeps deals made past s =
     let n = called_reads (phase_after made past) ask.None in silent deals made Losing past n.2 n.3 s
 
 -- ---- what follows
 
 -- the calls are the given reads of the tenure
-pub life_among : (deals : List Deal) (made : Tenancy) (past : Past) → IsInStep deals made past → IsLifeAmong deals made (calls_after made past)
+pub life_among : (deals : List Deal) (made : Tenancy) (past : Past) → IsInStep deals made past
+    → IsLifeAmong deals made (calls_after made past)
 life_among deals made past s =
     let P : List Fetched → Type 0 = λ rs. IsLife made rs (gives_in made.tenure deals) (calls_after made past) in
     let Q : ℕ → Type 0 = λ n. IsLife made (reads_after made past) n (calls_after made past) in
@@ -98,5 +121,7 @@ life_among deals made past s =
 -- ---- a history
 
 -- a turn of another actor is none of these commands
-pub others_turn : (by : ℕ) (turn : Turn) (h : List Turn) → (turn.by == by) ≡ false → deals_of by (turn ∷ h) ≡ deals_of by h
-others_turn by turn h other = ap (λ b. cond b (record { what = turn.what; answer = answer h turn } ∷ deals_of by h) (deals_of by h)) other
+pub others_turn : (by : ℕ) (turn : Turn) (h : List Turn) → (turn.by == by) ≡ false
+    → deals_of by (turn ∷ h) ≡ deals_of by h
+others_turn by turn h other =
+    ap (λ b. cond b (record { what = turn.what; answer = answer h turn } ∷ deals_of by h) (deals_of by h)) other

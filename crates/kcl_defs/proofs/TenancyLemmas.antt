@@ -1,5 +1,6 @@
 -- What a consumer of a worker is made with is a tenure of the journal.
-use Rattle.std.proofs.Common.{◌≡◌, ℕ, ◌+◌, ◌<◌, Bool, true, false, List, [], ◌∷◌, Option, Some, None, Ok, Err, refl, sym, ap, subst, ◌∙◌, arith, inl, inr}
+use Rattle.std.proofs.Common.{◌≡◌, ℕ, ◌+◌, ◌<◌, Bool, true, false, List, [], ◌∷◌, Option, Some, None, Ok, Err, refl}
+use Rattle.std.proofs.Common.{sym, ap, subst, ◌∙◌, arith, inl, inr}
 use Rattle.std.specs.Prelude.{◌==◌, ◌⊎◌, not, cond, Result}
 use Rattle.std.specs.List.{AllByRecursion, filter}
 use Rattle.std.specs.Option.{option_map}
@@ -18,18 +19,27 @@ use Rattle.kds_defs.specs.declared.reply.Reply.TheVariants as reply
 use Rattle.kds_defs.specs.Histories.{decide, lines_of, answer_of, journal, clock, answer}
 use Rattle.kds_defs.specs.Journal.{Line, Journal, with_lines}
 use Rattle.kds_defs.specs.LeaseCommands.{take_lease}
-use Rattle.kds_defs.specs.Leases.{TenureState, tenure, tenure_after, taken_count, new_tenure, with_opened, with_read, with_given, row, checkpoint_in}
+use Rattle.kds_defs.specs.Leases.{TenureState, tenure, tenure_after, taken_count, new_tenure, with_opened, with_read}
+use Rattle.kds_defs.specs.Leases.{with_given, row, checkpoint_in}
 use Rattle.kcl_defs.specs.declared.consumer.Tenancy.{Tenancy}
 use Rattle.kcl_defs.specs.declared.consumer.WorkerMade.{WorkerMade}
 use Rattle.kcl_defs.specs.declared.plans.Held.{Held}
 use Rattle.kcl_defs.specs.declared.plans.TakeStep.{TakeStep}
 use Rattle.kcl_defs.specs.Consumers.{Called, Answered, Losing}
 use Rattle.kcl_defs.specs.Lives.{Deal, deals_of}
-use Rattle.kcl_defs.specs.Workers.{Known, Pending, Chore, Surveying, Syncing, Taking, Renewing, Consuming, Finishing, Freeing, WorkerState, WorkerEvent, Made_call, Gave_command, Got_answer, Stopped, Released, Release, released, without_release, WorkerPast, worker_after, after_worker_event, deals_after, deals_with, id_of, id_of_held, same_id, is_due_known, settled, is_over, consumer_command, known_of, pending_of, pending_chore, chore_at, after_survey, after_renewal, after_take, after_chore, absorbed, with_deal, consumed, is_of, still_stands, AtTakes, AtRenewals, AtStopping, happens_to, happens_to_first}
+use Rattle.kcl_defs.specs.Workers.{Known, Pending, Chore, Surveying, Syncing, Taking, Renewing, Consuming, Finishing}
+use Rattle.kcl_defs.specs.Workers.{Freeing, WorkerState, WorkerEvent, Made_call, Gave_command, Got_answer, Stopped}
+use Rattle.kcl_defs.specs.Workers.{Released, Release, released, without_release, WorkerPast, worker_after}
+use Rattle.kcl_defs.specs.Workers.{after_worker_event, deals_after, deals_with, id_of, id_of_held, same_id}
+use Rattle.kcl_defs.specs.Workers.{is_due_known, settled, is_over, consumer_command, known_of, pending_of}
+use Rattle.kcl_defs.specs.Workers.{pending_chore, chore_at, after_survey, after_renewal, after_take, after_chore}
+use Rattle.kcl_defs.specs.Workers.{absorbed, with_deal, consumed, is_of, still_stands, AtTakes, AtRenewals, AtStopping}
+use Rattle.kcl_defs.specs.Workers.{happens_to, happens_to_first}
 use Rattle.kcl_defs.specs.WorkerLives.{IsOfTenure, IsToldIn}
 use Rattle.kds_defs.proofs.Leads.{Leads, leads_so, past_none, past_test}
 use Rattle.kcl_defs.proofs.DealLemmas.{unborn}
-use Rattle.kcl_defs.proofs.WorkerLemmas.{all_append, all_event, all_filter, all_first, all_map, all_with_known, all_without}
+use Rattle.kcl_defs.proofs.WorkerLemmas.{all_append, all_event, all_filter, all_first, all_map, all_with_known}
+use Rattle.kcl_defs.proofs.WorkerLemmas.{all_without}
 
 -- ---- a tenure of the journal keeps its actor, its key and its start
 
@@ -38,19 +48,23 @@ abbrev pub TenureIs : ℕ → Tenancy → Option TenureState → Type 0
 TenureIs by made None = ⊥
 TenureIs by made (Some T) = (T.by ≡ by) × (T.key ≡ made.key) × (T.start ≡ made.start)
 
-kept_map : (f : TenureState → TenureState) → ((T : TenureState) → (f T).by ≡ T.by) → ((T : TenureState) → (f T).key ≡ T.key)
-    → ((T : TenureState) → (f T).start ≡ T.start) → (by : ℕ) (made : Tenancy) (o : Option TenureState) (b : Bool) → TenureIs by made o
+kept_map : (f : TenureState → TenureState) → ((T : TenureState) → (f T).by ≡ T.by)
+    → ((T : TenureState) → (f T).key ≡ T.key)
+    → ((T : TenureState) → (f T).start ≡ T.start) → (by : ℕ) (made : Tenancy) (o : Option TenureState) (b : Bool)
+    → TenureIs by made o
     → TenureIs by made (cond b (option_map f o) o)
 kept_map f by_same key_same start_same by made o false h = h
 kept_map f by_same key_same start_same by made None true h = h
 kept_map f by_same key_same start_same by made (Some T) true h = (by_same T ∙ h.0, key_same T ∙ h.1, start_same T ∙ h.2)
 
 -- a tenure that is there isn't begun again
-taken_again : (log : Journal) (by t : ℕ) (made : Tenancy) (o : Option TenureState) (b : Bool) → (t == taken_count log + 1) ≡ b → TenureIs by made (tenure log t)
+taken_again : (log : Journal) (by t : ℕ) (made : Tenancy) (o : Option TenureState) (b : Bool)
+    → (t == taken_count log + 1) ≡ b → TenureIs by made (tenure log t)
     → TenureIs by made (cond b o (tenure log t))
 taken_again log by t made o false e h = h
 taken_again log by t made o true e h =
-    let none : tenure log t ≡ None = ap (tenure log) (equal_so t (taken_count log + 1) e) ∙ unborn log (taken_count log + 1) (above (taken_count log)) in
+    let none : tenure log t ≡ None = ap (tenure log) (equal_so t (taken_count log + 1) e)
+    ∙ unborn log (taken_count log + 1) (above (taken_count log)) in
     absurd (subst (TenureIs by made) none h)
   where
     above : (n : ℕ) → n < n + 1
@@ -59,17 +73,21 @@ taken_again log by t made o true e h =
 kept_at : (log : Journal) (line : Line) (what : Entry) (by t : ℕ) (made : Tenancy) → TenureIs by made (tenure log t)
     → TenureIs by made (tenure_after log line what t (tenure log t))
 kept_at log line (entry.Taken key which counter owner) by t made h =
-    taken_again log by t made (Some (new_tenure line.by key (checkpoint_in (row log key)))) (t == taken_count log + 1) refl h
-kept_at log line (entry.Opened which) by t made h = kept_map with_opened (λ T. refl) (λ T. refl) (λ T. refl) by made (tenure log t) (which == t) h
+    taken_again log by t made (Some (new_tenure line.by key (checkpoint_in (row log key)))) (t == taken_count log + 1)
+    refl h
+kept_at log line (entry.Opened which) by t made h =
+    kept_map with_opened (λ T. refl) (λ T. refl) (λ T. refl) by made (tenure log t) (which == t) h
 kept_at log line (entry.Read which limit ended numbers) by t made h =
     kept_map (with_read numbers ended) (λ T. refl) (λ T. refl) (λ T. refl) by made (tenure log t) (which == t) h
-kept_at log line (entry.Given which) by t made h = kept_map with_given (λ T. refl) (λ T. refl) (λ T. refl) by made (tenure log t) (which == t) h
+kept_at log line (entry.Given which) by t made h =
+    kept_map with_given (λ T. refl) (λ T. refl) (λ T. refl) by made (tenure log t) (which == t) h
 kept_at log line _ by t made h = h
 
 kept_lines : (lines : List Line) (log : Journal) (by t : ℕ) (made : Tenancy) → TenureIs by made (tenure log t)
     → TenureIs by made (tenure (with_lines lines log) t)
 kept_lines [] log by t made h = h
-kept_lines (line ∷ lines) log by t made h = kept_lines lines (line ∷ log) by t made (kept_at log line line.what by t made h)
+kept_lines (line ∷ lines) log by t made h =
+    kept_lines lines (line ∷ log) by t made (kept_at log line line.what by t made h)
 
 -- ---- an accepted Take begins it
 
@@ -88,37 +106,47 @@ IsBegunIn (deal ∷ deals) made = IsTaken made deal.what deal.answer ⊎ IsBegun
 
 abbrev TakesSo : ℕ → ShardRef → Journal → List Line → Result Reply Refusal → Type 0
 TakesSo by key log lines answer =
-    (made : Tenancy) (now : ℕ) → made.key ≡ key → answer ≡ Ok (reply.Taken made.tenure now made.start) → TenureIs by made
+    (made : Tenancy) (now : ℕ) → made.key ≡ key → answer ≡ Ok (reply.Taken made.tenure now made.start)
+    → TenureIs by made
     (tenure (with_lines lines log) made.tenure)
 
-same_taken : (t u n m : ℕ) (s r : Checkpoint) (a : Result Reply Refusal) → a ≡ Ok (reply.Taken t n s) → a ≡ Ok (reply.Taken u m r) → (t ≡ u) × (s ≡ r)
+same_taken : (t u n m : ℕ) (s r : Checkpoint) (a : Result Reply Refusal) → a ≡ Ok (reply.Taken t n s)
+    → a ≡ Ok (reply.Taken u m r) → (t ≡ u) × (s ≡ r)
 same_taken t u n m s r a e g = (cc, cc)
 
 no_taken : (r : Refusal) (given : Reply) (a : Result Reply Refusal) → a ≡ Err r → a ≡ Ok given → ⊥
 no_taken r given a e g = cc
 
-new_is : (log : Journal) (by t : ℕ) (key : ShardRef) (made : Tenancy) (start : Checkpoint) → made.key ≡ key → made.start ≡ start → t ≡ taken_count log + 1
+new_is : (log : Journal) (by t : ℕ) (key : ShardRef) (made : Tenancy) (start : Checkpoint) → made.key ≡ key
+    → made.start ≡ start → t ≡ taken_count log + 1
     → TenureIs by made (cond (t == taken_count log + 1) (Some (new_tenure by key start)) (tenure log t))
 new_is log by t key made start k s e =
-    subst (λ b. TenureIs by made (cond b (Some (new_tenure by key start)) (tenure log t))) (sym (equal t (taken_count log + 1) e)) (refl, sym k, sym s)
+    subst (λ b. TenureIs by made (cond b (Some (new_tenure by key start)) (tenure log t)))
+    (sym (equal t (taken_count log + 1) e)) (refl, sym k, sym s)
   where
     equal : (a b : ℕ) → a ≡ b → (a == b) ≡ true
     equal a b h = grind (arith, nat_tests)
 
-take_begins : (log : Journal) (c by : ℕ) (key : ShardRef) (counter owner : ℕ) → Leads (TakesSo by key log) (take_lease log c by key counter owner)
+take_begins : (log : Journal) (c by : ℕ) (key : ShardRef) (counter owner : ℕ)
+    → Leads (TakesSo by key log) (take_lease log c by key counter owner)
 take_begins log c by key counter owner =
     let P : List Line → Result Reply Refusal → Type 0 = TakesSo by key log in
-    let refused : (r : Refusal) → P [] (Err r) = λ r made now k e. absurd (no_taken r (reply.Taken made.tenure now made.start) (Err r) refl e) in
-    past_none P refused _ _ _ (λ r is. past_test P refused _ _ _ (λ a. past_test P refused _ _ _ (λ b. past_test P refused _ _ _ (λ d.
+    let refused : (r : Refusal) → P [] (Err r) =
+    λ r made now k e. absurd (no_taken r (reply.Taken made.tenure now made.start) (Err r) refl e) in
+    past_none P refused _ _ _
+    (λ r is. past_test P refused _ _ _ (λ a. past_test P refused _ _ _ (λ b. past_test P refused _ _ _ (λ d.
     λ made now k e.
     let same = same_taken (taken_count log + 1) made.tenure (r.counter + 1) now r.checkpoint made.start
     (Ok (reply.Taken (taken_count log + 1) (r.counter + 1) r.checkpoint)) refl e in
-    new_is log by made.tenure key made (checkpoint_in (row log key)) k (sym same.1 ∙ sym (ap checkpoint_in is)) (sym same.0)))))
+    new_is log by made.tenure key made (checkpoint_in (row log key)) k (sym same.1 ∙ sym (ap checkpoint_in is))
+    (sym same.0)))))
 
-begun_now : (by c : ℕ) (what : Command) (log : Journal) (made : Tenancy) → IsTaken made what (answer_of (decide log c by what))
+begun_now : (by c : ℕ) (what : Command) (log : Journal) (made : Tenancy)
+    → IsTaken made what (answer_of (decide log c by what))
     → TenureIs by made (tenure (with_lines (lines_of (decide log c by what)) log) made.tenure)
 begun_now by c what log made t =
-    let P : Command → Type 0 = λ w. answer_of (decide log c by w) ≡ Ok (reply.Taken made.tenure t.now made.start) → TenureIs by made
+    let P : Command → Type 0 = λ w. answer_of (decide log c by w) ≡ Ok (reply.Taken made.tenure t.now made.start)
+    → TenureIs by made
     (tenure (with_lines (lines_of (decide log c by w)) log) made.tenure) in
     subst P (sym t.asked)
     (λ e. leads_so (TakesSo by made.key log) (take_lease log c by made.key t.counter t.owner)
@@ -129,14 +157,17 @@ begun_turn : (by : ℕ) (turn : Turn) (h : List Turn) (made : Tenancy) (b : Bool
     → IsBegunIn (cond b (record { what = turn.what; answer = answer h turn } ∷ deals_of by h) (deals_of by h)) made
     → TenureIs by made (tenure (journal (turn ∷ h)) made.tenure)
 begun_turn by turn h made false e before is =
-    kept_lines (lines_of (decide (journal h) (clock (turn ∷ h)) turn.by turn.what)) (journal h) by made.tenure made (before is)
+    kept_lines (lines_of (decide (journal h) (clock (turn ∷ h)) turn.by turn.what)) (journal h) by made.tenure made
+    (before is)
 begun_turn by turn h made true e before (inr is) =
-    kept_lines (lines_of (decide (journal h) (clock (turn ∷ h)) turn.by turn.what)) (journal h) by made.tenure made (before is)
+    kept_lines (lines_of (decide (journal h) (clock (turn ∷ h)) turn.by turn.what)) (journal h) by made.tenure made
+    (before is)
 begun_turn by turn h made true e before (inl is) =
     subst (λ n. TenureIs n made (tenure (journal (turn ∷ h)) made.tenure)) (equal_so turn.by by e)
     (begun_now turn.by (clock (turn ∷ h)) turn.what (journal h) made is)
 
-tenure_is : (by : ℕ) (h : List Turn) (made : Tenancy) → IsBegunIn (deals_of by h) made → TenureIs by made (tenure (journal h) made.tenure)
+tenure_is : (by : ℕ) (h : List Turn) (made : Tenancy) → IsBegunIn (deals_of by h) made
+    → TenureIs by made (tenure (journal h) made.tenure)
 tenure_is by [] made is = is
 tenure_is by (turn ∷ h) made is = begun_turn by turn h made (turn.by == by) refl (tenure_is by h made) is
 
@@ -168,20 +199,24 @@ pub record AreBegun (deals : List Deal) (w : WorkerState) : Type 0 where
   pub over : AllByRecursion (IsBegun deals) w.retired
   pub waits : IsTakeWaiting w.waiting
 
-one_more : (deal : Deal) (deals : List Deal) (xs : List Known) → AllByRecursion (IsBegun deals) xs → AllByRecursion (IsBegun (deal ∷ deals)) xs
+one_more : (deal : Deal) (deals : List Deal) (xs : List Known) → AllByRecursion (IsBegun deals) xs
+    → AllByRecursion (IsBegun (deal ∷ deals)) xs
 one_more deal deals xs h = all_map (IsBegun deals) (IsBegun (deal ∷ deals)) xs (λ k b. inr b) h
 
-settle_begun : (deals : List Deal) (w : WorkerState) → AllByRecursion (IsBegun deals) w.consumers → AllByRecursion (IsBegun deals) w.retired
+settle_begun : (deals : List Deal) (w : WorkerState) → AllByRecursion (IsBegun deals) w.consumers
+    → AllByRecursion (IsBegun deals) w.retired
     → IsTakeWaiting w.waiting → AreBegun deals (settled w)
 settle_begun deals w live over waits = record {
   live = all_filter (IsBegun deals) (λ k. not (is_over k)) w.consumers live;
-  over = all_append (IsBegun deals) w.retired (filter is_over w.consumers) over (all_filter (IsBegun deals) is_over w.consumers live);
+  over = all_append (IsBegun deals) w.retired (filter is_over w.consumers) over
+      (all_filter (IsBegun deals) is_over w.consumers live);
   waits = waits;
 }
 
 -- ---- the command that is given
 
-consumer_waits : (id : _) (finishing : Bool) (o : Option Command) → IsTakeWaiting (pending_of (cond finishing (Finishing id) (Consuming id)) o)
+consumer_waits : (id : _) (finishing : Bool) (o : Option Command)
+    → IsTakeWaiting (pending_of (cond finishing (Finishing id) (Consuming id)) o)
 consumer_waits id finishing None = tt
 consumer_waits id true (Some what) = tt
 consumer_waits id false (Some what) = tt
@@ -198,51 +233,78 @@ chore_waits made w (Some (Freeing h)) = tt
 
 -- ---- answers
 
-survey_begun : (made : WorkerMade) (now : ℕ) (answer : Result Reply Refusal) (deals : List Deal) (w : WorkerState) → w.waiting ≡ None
-    → AllByRecursion (IsBegun deals) w.consumers → AllByRecursion (IsBegun deals) w.retired → AreBegun deals (settled (after_survey made now answer w))
+survey_begun : (made : WorkerMade) (now : ℕ) (answer : Result Reply Refusal) (deals : List Deal) (w : WorkerState)
+    → w.waiting ≡ None
+    → AllByRecursion (IsBegun deals) w.consumers → AllByRecursion (IsBegun deals) w.retired
+    → AreBegun deals (settled (after_survey made now answer w))
 survey_begun made now (Ok (reply.Survey shards rows)) deals w none live over =
     settle_begun deals (after_survey made now (Ok (reply.Survey shards rows)) w)
-    (all_event (IsBegun deals) (is_of (filter (λ h. not (still_stands rows h)) w.held)) Losing w.consumers (λ k b. b) live) over
+    (all_event (IsBegun deals) (is_of (filter (λ h. not (still_stands rows h)) w.held)) Losing w.consumers (λ k b. b)
+    live) over
     (subst IsTakeWaiting (sym none) tt)
 survey_begun made now (Ok _) deals w none live over = settle_begun deals w live over (subst IsTakeWaiting (sym none) tt)
-survey_begun made now (Err r) deals w none live over = settle_begun deals w live over (subst IsTakeWaiting (sym none) tt)
+survey_begun made now (Err r) deals w none live over =
+    settle_begun deals w live over (subst IsTakeWaiting (sym none) tt)
 
-take_begun : (made : WorkerMade) (now : ℕ) (step : TakeStep) (what : Command) (answer : Result Reply Refusal) (deals : List Deal) (w : WorkerState)
-    → w.waiting ≡ None → ((counter : ℕ) × (owner : ℕ) × (what ≡ command.Take step.key counter owner)) → AllByRecursion (IsBegun deals) w.consumers
-    → AllByRecursion (IsBegun deals) w.retired → AreBegun (record { what = what; answer = answer } ∷ deals) (settled (after_take made now step answer w))
+take_begun : (made : WorkerMade) (now : ℕ) (step : TakeStep) (what : Command) (answer : Result Reply Refusal)
+    (deals : List Deal) (w : WorkerState)
+    → w.waiting ≡ None → ((counter : ℕ) × (owner : ℕ) × (what ≡ command.Take step.key counter owner))
+    → AllByRecursion (IsBegun deals) w.consumers
+    → AllByRecursion (IsBegun deals) w.retired
+    → AreBegun (record { what = what; answer = answer } ∷ deals) (settled (after_take made now step answer w))
 take_begun made now step what (Ok (reply.Taken tenure counter start)) deals w none is live over =
     let deal : Deal = record { what = what; answer = Ok (reply.Taken tenure counter start) } in
-    let k : Known = record { made = record { key = step.key; tenure = tenure; start = start; limit = made.settings.limit }; past = [] } in
+    let k : Known = record {
+      made = record {
+        key = step.key;
+        tenure = tenure;
+        start = start;
+        limit = made.settings.limit;
+      };
+      past = [];
+    } in
     settle_begun (deal ∷ deals) (after_take made now step (Ok (reply.Taken tenure counter start)) w)
-    (all_with_known (IsBegun (deal ∷ deals)) k w.consumers (inl (record { counter = is.0; owner = is.1; now = counter; asked = is.2; taken = refl }))
+    (all_with_known (IsBegun (deal ∷ deals)) k w.consumers
+    (inl (record { counter = is.0; owner = is.1; now = counter; asked = is.2; taken = refl }))
     (one_more deal deals w.consumers live))
     (one_more deal deals w.retired over) (subst IsTakeWaiting (sym none) tt)
 take_begun made now step what (Ok _) deals w none is live over =
     let deal : Deal = record { what = what; answer = _ } in
-    settle_begun (deal ∷ deals) w (one_more deal deals w.consumers live) (one_more deal deals w.retired over) (subst IsTakeWaiting (sym none) tt)
+    settle_begun (deal ∷ deals) w (one_more deal deals w.consumers live) (one_more deal deals w.retired over)
+    (subst IsTakeWaiting (sym none) tt)
 take_begun made now step what (Err r) deals w none is live over =
     let deal : Deal = record { what = what; answer = Err r } in
-    settle_begun (deal ∷ deals) w (one_more deal deals w.consumers live) (one_more deal deals w.retired over) (subst IsTakeWaiting (sym none) tt)
+    settle_begun (deal ∷ deals) w (one_more deal deals w.consumers live) (one_more deal deals w.retired over)
+    (subst IsTakeWaiting (sym none) tt)
 
-renewal_begun : (now : ℕ) (h : Held) (answer : Result Reply Refusal) (deals : List Deal) (w : WorkerState) → w.waiting ≡ None
-    → AllByRecursion (IsBegun deals) w.consumers → AllByRecursion (IsBegun deals) w.retired → AreBegun deals (settled (after_renewal now h answer w))
+renewal_begun : (now : ℕ) (h : Held) (answer : Result Reply Refusal) (deals : List Deal) (w : WorkerState)
+    → w.waiting ≡ None
+    → AllByRecursion (IsBegun deals) w.consumers → AllByRecursion (IsBegun deals) w.retired
+    → AreBegun deals (settled (after_renewal now h answer w))
 renewal_begun now h (Ok (reply.Counter counter)) deals w none live over =
-    settle_begun deals (after_renewal now h (Ok (reply.Counter counter)) w) live over (subst IsTakeWaiting (sym none) tt)
+    settle_begun deals (after_renewal now h (Ok (reply.Counter counter)) w) live over
+    (subst IsTakeWaiting (sym none) tt)
 renewal_begun now h (Ok _) deals w none live over = settle_begun deals w live over (subst IsTakeWaiting (sym none) tt)
 renewal_begun now h (Err r) deals w none live over =
     settle_begun deals (after_renewal now h (Err r) w)
-    (all_event (IsBegun deals) (λ k. same_id (id_of k) (id_of_held h)) Losing w.consumers (λ k b. b) live) over (subst IsTakeWaiting (sym none) tt)
+    (all_event (IsBegun deals) (λ k. same_id (id_of k) (id_of_held h)) Losing w.consumers (λ k b. b) live) over
+    (subst IsTakeWaiting (sym none) tt)
 
-consumed_begun : (id : _) (answer : Result Reply Refusal) (deals : List Deal) (xs : List Known) → AllByRecursion (IsBegun deals) xs
+consumed_begun : (id : _) (answer : Result Reply Refusal) (deals : List Deal) (xs : List Known)
+    → AllByRecursion (IsBegun deals) xs
     → AllByRecursion (IsBegun deals) (consumed id answer xs)
-consumed_begun id answer deals xs h = all_first (IsBegun deals) (λ k. same_id (id_of k) id) (Answered answer) xs (λ k b. b) h
+consumed_begun id answer deals xs h =
+    all_first (IsBegun deals) (λ k. same_id (id_of k) id) (Answered answer) xs (λ k b. b) h
 
-chore_begun : (made : WorkerMade) (now : ℕ) (answer : Result Reply Refusal) (deals : List Deal) (chore : Chore) (what : Command) (w : WorkerState)
-    → w.waiting ≡ None → IsTakeOf chore what → AllByRecursion (IsBegun deals) w.consumers → AllByRecursion (IsBegun deals) w.retired
+chore_begun : (made : WorkerMade) (now : ℕ) (answer : Result Reply Refusal) (deals : List Deal) (chore : Chore)
+    (what : Command) (w : WorkerState)
+    → w.waiting ≡ None → IsTakeOf chore what → AllByRecursion (IsBegun deals) w.consumers
+    → AllByRecursion (IsBegun deals) w.retired
     → AreBegun (record { what = what; answer = answer } ∷ deals) (settled (after_chore made now answer chore w))
 chore_begun made now answer deals Surveying what w none is live over =
     let deal : Deal = record { what = what; answer = answer } in
-    survey_begun made now answer (deal ∷ deals) w none (one_more deal deals w.consumers live) (one_more deal deals w.retired over)
+    survey_begun made now answer (deal ∷ deals) w none (one_more deal deals w.consumers live)
+    (one_more deal deals w.retired over)
 chore_begun made now answer deals (Syncing step syncs takes) what w none is live over =
     let deal : Deal = record { what = what; answer = answer } in
     settle_begun (deal ∷ deals) (after_chore made now answer (Syncing step syncs takes) w)
@@ -256,26 +318,32 @@ chore_begun made now answer deals (Renewing h) what w none is live over =
 chore_begun made now answer deals (Consuming id) what w none is live over =
     let deal : Deal = record { what = what; answer = answer } in
     settle_begun (deal ∷ deals) (after_chore made now answer (Consuming id) w)
-    (consumed_begun id answer (deal ∷ deals) w.consumers (one_more deal deals w.consumers live)) (one_more deal deals w.retired over)
+    (consumed_begun id answer (deal ∷ deals) w.consumers (one_more deal deals w.consumers live))
+    (one_more deal deals w.retired over)
     (subst IsTakeWaiting (sym none) tt)
 chore_begun made now answer deals (Finishing id) what w none is live over =
     let deal : Deal = record { what = what; answer = answer } in
     settle_begun (deal ∷ deals) (after_chore made now answer (Finishing id) w)
-    (consumed_begun id answer (deal ∷ deals) w.consumers (one_more deal deals w.consumers live)) (one_more deal deals w.retired over)
+    (consumed_begun id answer (deal ∷ deals) w.consumers (one_more deal deals w.consumers live))
+    (one_more deal deals w.retired over)
     (subst IsTakeWaiting (sym none) tt)
 chore_begun made now answer deals (Freeing h) what w none is live over =
     let deal : Deal = record { what = what; answer = answer } in
     settle_begun (deal ∷ deals) (after_chore made now answer (Freeing h) w)
     (one_more deal deals w.consumers live) (one_more deal deals w.retired over) (subst IsTakeWaiting (sym none) tt)
 
-absorbed_begun : (made : WorkerMade) (now : ℕ) (answer : Result Reply Refusal) (deals : List Deal) (w : WorkerState) (o : Option Pending) → IsTakeWaiting o
+absorbed_begun : (made : WorkerMade) (now : ℕ) (answer : Result Reply Refusal) (deals : List Deal) (w : WorkerState)
+    (o : Option Pending) → IsTakeWaiting o
     → AreBegun deals w → AreBegun (with_deal o answer deals) (absorbed made now answer w o)
 absorbed_begun made now answer deals w None is b = b
-absorbed_begun made now answer deals w (Some p) is b = chore_begun made now answer deals p.chore p.what (record w { waiting = None }) refl is b.live b.over
+absorbed_begun made now answer deals w (Some p) is b =
+    chore_begun made now answer deals p.chore p.what (record w { waiting = None }) refl is b.live b.over
 
-release_begun : (deals : List Deal) (o : Option Release) (w : WorkerState) → AreBegun deals w → AreBegun deals (without_release o w)
+release_begun : (deals : List Deal) (o : Option Release) (w : WorkerState) → AreBegun deals w
+    → AreBegun deals (without_release o w)
 release_begun deals None w b = b
-release_begun deals (Some r) w b = record { live = all_without (IsBegun deals) (id_of_held r.held) w.consumers b.live; over = b.over; waits = b.waits }
+release_begun deals (Some r) w b =
+    record { live = all_without (IsBegun deals) (id_of_held r.held) w.consumers b.live; over = b.over; waits = b.waits }
 
 -- ---- the record
 
@@ -285,7 +353,8 @@ pub state_begun : (made : WorkerMade) (event : WorkerEvent) (w : WorkerState) (d
 state_begun made (Made_call asked) w deals b =
     settle_begun deals (record w { consumers = happens_to_first is_due_known (Called asked) w.consumers })
     (all_first (IsBegun deals) is_due_known (Called asked) w.consumers (λ k g. g) b.live) b.over b.waits
-state_begun made (Gave_command now) w deals b = record { live = b.live; over = b.over; waits = chore_waits made w (chore_at made now w) }
+state_begun made (Gave_command now) w deals b =
+    record { live = b.live; over = b.over; waits = chore_waits made w (chore_at made now w) }
 state_begun made (Got_answer now answer) w deals b = absorbed_begun made now answer deals w w.waiting b.waits b
 state_begun made Stopped w deals b =
     settle_begun deals (record w { round = AtStopping; consumers = happens_to (λ k. true) Losing w.consumers })
@@ -294,16 +363,22 @@ state_begun made (Released key) w deals b = release_begun deals (released key w)
 
 pub are_begun : (made : WorkerMade) (past : WorkerPast) → AreBegun (deals_after made past) (worker_after made past)
 are_begun made [] = record { live = tt; over = tt; waits = tt }
-are_begun made (event ∷ past) = state_begun made event (worker_after made past) (deals_after made past) (are_begun made past)
+are_begun made (event ∷ past) =
+    state_begun made event (worker_after made past) (deals_after made past) (are_begun made past)
 
 -- so each consumer of a worker is of a tenure of the history that its record tells
-pub all_tenures : (by : ℕ) (h : List Turn) (xs : List Known) → AllByRecursion (IsBegun (deals_of by h)) xs → AllByRecursion (λ k. IsOfTenure by h k.made) xs
-all_tenures by h xs b = all_map (IsBegun (deals_of by h)) (λ k. IsOfTenure by h k.made) xs (λ k g. of_tenancy by h k.made g) b
+pub all_tenures : (by : ℕ) (h : List Turn) (xs : List Known) → AllByRecursion (IsBegun (deals_of by h)) xs
+    → AllByRecursion (λ k. IsOfTenure by h k.made) xs
+all_tenures by h xs b =
+    all_map (IsBegun (deals_of by h)) (λ k. IsOfTenure by h k.made) xs (λ k g. of_tenancy by h k.made g) b
 
-pub begun_told : (by : ℕ) (h : List Turn) (made : WorkerMade) (past : WorkerPast) → IsToldIn by h made past → AreBegun (deals_of by h) (worker_after made past)
-begun_told by h made past told = subst (λ deals. AreBegun deals (worker_after made past)) (sym told) (are_begun made past)
+pub begun_told : (by : ℕ) (h : List Turn) (made : WorkerMade) (past : WorkerPast) → IsToldIn by h made past
+    → AreBegun (deals_of by h) (worker_after made past)
+begun_told by h made past told =
+    subst (λ deals. AreBegun deals (worker_after made past)) (sym told) (are_begun made past)
 
 -- two facts of all
-pub all_both : (P Q : Known → Type 0) (xs : List Known) → AllByRecursion P xs → AllByRecursion Q xs → AllByRecursion (λ k. P k × Q k) xs
+pub all_both : (P Q : Known → Type 0) (xs : List Known) → AllByRecursion P xs → AllByRecursion Q xs
+    → AllByRecursion (λ k. P k × Q k) xs
 all_both P Q [] h g = tt
 all_both P Q (x ∷ xs) h g = ((h.0, g.0), all_both P Q xs h.1 g.1)

@@ -1,5 +1,6 @@
 -- Worked examples of plans and of workers, computed from the definitions.
-use Rattle.std.specs.Prelude.{ℕ, zero, suc, ◌≡◌, Bool, true, false, List, [], ◌∷◌, map, reverse, Option, Some, None, Result, Ok, Err}
+use Rattle.std.specs.Prelude.{ℕ, zero, suc, ◌≡◌, Bool, true, false, List, [], ◌∷◌, map, reverse, Option, Some, None}
+use Rattle.std.specs.Prelude.{Result, Ok, Err}
 use Rattle.std.proofs.Common.{refl}
 use Rattle.kds_base.specs.declared.lease_key.ShardRef.{ShardRef}
 use Rattle.kds_base.specs.declared.lease_key.Checkpoint.TheVariants.{TrimHorizon}
@@ -27,18 +28,31 @@ use Rattle.kcl_defs.specs.Consumers.{Phase, Holding, first_batch}
 use Rattle.kds_defs.specs.Decision.{refuse◌if◌else◌, with◌or◌then◌}
 use Rattle.kds_defs.specs.Histories.{answer}
 use Rattle.kcl_defs.specs.Plans.{sync_plan, is_due, take_plan, is_expired_since}
-use Rattle.kcl_defs.specs.Workers.{usual_settings, Known, Pending, WorkerState, new_state, after_called, after_asked, after_absorbed, after_stop, due_known, phase_of_known, is_idle}
+use Rattle.kcl_defs.specs.Workers.{usual_settings, Known, Pending, WorkerState, new_state, after_called, after_asked}
+use Rattle.kcl_defs.specs.Workers.{after_absorbed, after_stop, due_known, phase_of_known, is_idle}
 
 key : ℕ → ShardRef
 key sh = record { stream = 1; shard = sh }
 
 row : ℕ → Option ℕ → ℕ → ℕ → Row
-row sh owner counter tenure = record { key = key sh; owner = owner; counter = counter; checkpoint = TrimHorizon; switches = 0; tenure = tenure; floor = 1; parent = None; adjacent = None }
+row sh owner counter tenure =
+    record {
+      key = key sh;
+      owner = owner;
+      counter = counter;
+      checkpoint = TrimHorizon;
+      switches = 0;
+      tenure = tenure;
+      floor = 1;
+      parent = None;
+      adjacent = None;
+    }
 
 -- ---- plans
 
 -- a row is missing, and another one's shard is not listed
-sync_example : (from : Origin) → sync_plan (key 0 ∷ key 2 ∷ []) (row 0 None 2 0 ∷ row 1 None 4 0 ∷ []) from ≡ (Make (key 2) from ∷ Cut (key 1) 4 ∷ [])
+sync_example : (from : Origin) → sync_plan (key 0 ∷ key 2 ∷ []) (row 0 None 2 0 ∷ row 1 None 4 0 ∷ []) from
+    ≡ (Make (key 2) from ∷ Cut (key 1) 4 ∷ [])
 unfolding key row
 sync_example from = refl
 
@@ -58,10 +72,12 @@ of_two : List Row
 of_two = row 0 (Some 2) 1 1 ∷ row 1 (Some 2) 1 2 ∷ row 2 (Some 2) 1 3 ∷ row 3 (Some 2) 1 4 ∷ row 4 (Some 2) 1 5 ∷ []
 
 taken_from_two : List Row
-taken_from_two = row 0 (Some 1) 1 6 ∷ row 1 (Some 2) 1 2 ∷ row 2 (Some 2) 1 3 ∷ row 3 (Some 2) 1 4 ∷ row 4 (Some 2) 1 5 ∷ []
+taken_from_two = row 0 (Some 1) 1 6 ∷ row 1 (Some 2) 1 2 ∷ row 2 (Some 2) 1 3 ∷ row 3 (Some 2) 1 4 ∷ row 4 (Some 2) 1 5
+    ∷ []
 
 twice_from_two : List Row
-twice_from_two = row 0 (Some 1) 1 6 ∷ row 1 (Some 1) 1 7 ∷ row 2 (Some 2) 1 3 ∷ row 3 (Some 2) 1 4 ∷ row 4 (Some 2) 1 5 ∷ []
+twice_from_two = row 0 (Some 1) 1 6 ∷ row 1 (Some 1) 1 7 ∷ row 2 (Some 2) 1 3 ∷ row 3 (Some 2) 1 4 ∷ row 4 (Some 2) 1 5
+    ∷ []
 
 held : ℕ → ℕ → Held
 held sh tenure = record { key = key sh; tenure = tenure; counter = 1; since = 0 }
@@ -83,7 +99,8 @@ unfolding nothing_expired twice_from_two row key held
 steal_no_more = refl
 
 of_two_and_three : List Row
-of_two_and_three = row 0 (Some 3) 1 1 ∷ row 1 (Some 2) 1 2 ∷ row 2 (Some 3) 1 3 ∷ row 3 (Some 2) 1 4 ∷ row 4 (Some 2) 1 5 ∷ row 5 (Some 3) 1 6 ∷ []
+of_two_and_three = row 0 (Some 3) 1 1 ∷ row 1 (Some 2) 1 2 ∷ row 2 (Some 3) 1 3 ∷ row 3 (Some 2) 1 4
+    ∷ row 4 (Some 2) 1 5 ∷ row 5 (Some 3) 1 6 ∷ []
 
 -- of two equals the least number
 steal_from_least : take_plan nothing_expired 1 [] of_two_and_three ≡ (step 1 ∷ [])
@@ -170,7 +187,8 @@ item hash = record { key = 97 ∷ []; hash = hash; payload = 104 ∷ 105 ∷ [] 
 -- one shard with two records
 shard_of_two : List Turn
 shard_of_two =
-    turn_of 0 3000 (command.Put (115 ∷ []) (item 0)) ∷ turn_of 0 3000 (command.Put (115 ∷ []) (item 0)) ∷ turn_of 0 3000 (command.Create (115 ∷ []) 1) ∷ []
+    turn_of 0 3000 (command.Put (115 ∷ []) (item 0)) ∷ turn_of 0 3000 (command.Put (115 ∷ []) (item 0))
+    ∷ turn_of 0 3000 (command.Create (115 ∷ []) 1) ∷ []
 
 w1 : WorkerMade
 w1 = record { name = 1; settings = usual_settings }
@@ -189,7 +207,8 @@ first_round : commands_of (steps 10 w1 1000 true 3000 opening_scene) ≡ (
     ∷ command.Survey ∷ command.Read 1 0 1000
     ∷ command.Survey ∷ command.Give 1
     ∷ command.Survey ∷ [])
-unfolding refuse◌if◌else◌ with◌or◌then◌ commands_of steps stepped turned with_calls call_if asked_at asked_by first_number turn_of w1 opening_scene shard_of_two item key
+unfolding refuse◌if◌else◌ with◌or◌then◌ commands_of steps stepped turned with_calls call_if asked_at asked_by
+    first_number turn_of w1 opening_scene shard_of_two item key
 first_round = refl
 
 -- a worker whose rows begin after the records that are there reads none of them, and gives an empty batch
@@ -202,7 +221,8 @@ latest_round : commands_of (steps 10 from_latest 1000 true 3000 opening_scene) �
     ∷ command.Survey ∷ command.Read 1 3 1000
     ∷ command.Survey ∷ command.Give 1
     ∷ command.Survey ∷ [])
-unfolding refuse◌if◌else◌ with◌or◌then◌ commands_of steps stepped turned with_calls call_if asked_at asked_by first_number turn_of from_latest opening_scene shard_of_two item key
+unfolding refuse◌if◌else◌ with◌or◌then◌ commands_of steps stepped turned with_calls call_if asked_at asked_by
+    first_number turn_of from_latest opening_scene shard_of_two item key
 latest_round = refl
 
 newest : List Told → Option Told
@@ -210,26 +230,38 @@ newest [] = None
 newest (t ∷ ts) = Some t
 
 -- a processor that asks for its batch's first number gets its mark
-first_number_marked : newest (steps 11 w1 1000 false 3000 opening_scene).told ≡ Some (record { what = command.Mark 1 1 (target.At 1); answer = Ok (reply.Counter 2) })
-unfolding refuse◌if◌else◌ with◌or◌then◌ newest steps stepped turned with_calls call_if asked_at asked_by first_number turn_of w1 opening_scene shard_of_two item key
+first_number_marked : newest (steps 11 w1 1000 false 3000 opening_scene).told
+    ≡ Some (record { what = command.Mark 1 1 (target.At 1); answer = Ok (reply.Counter 2) })
+unfolding refuse◌if◌else◌ with◌or◌then◌ newest steps stepped turned with_calls call_if asked_at asked_by first_number
+    turn_of w1 opening_scene shard_of_two item key
 first_number_marked = refl
 
 -- a second worker of the same name takes the row again, and the first one's mark is refused
 restarted : Scene → Scene
-restarted s = record { history = (steps 2 w1 1001 true 3000 (record { history = s.history; worker = new_state; told = [] })).history; worker = s.worker; told = s.told }
+restarted s = record {
+  history = (steps 2 w1 1001 true 3000 (record { history = s.history; worker = new_state; told = [] })).history;
+  worker = s.worker;
+  told = s.told;
+}
 
-robbed : newest (steps 1 w1 1000 true 3000 (restarted (steps 10 w1 1000 true 3000 opening_scene))).told ≡ Some (record { what = command.Mark 1 1 (target.At 2); answer = Err (refusal.Lost 2) })
-unfolding refuse◌if◌else◌ with◌or◌then◌ newest restarted steps stepped turned with_calls call_if asked_at asked_by first_number turn_of w1 opening_scene shard_of_two item key
+robbed : newest (steps 1 w1 1000 true 3000 (restarted (steps 10 w1 1000 true 3000 opening_scene))).told
+    ≡ Some (record { what = command.Mark 1 1 (target.At 2); answer = Err (refusal.Lost 2) })
+unfolding refuse◌if◌else◌ with◌or◌then◌ newest restarted steps stepped turned with_calls call_if asked_at asked_by
+    first_number turn_of w1 opening_scene shard_of_two item key
 robbed = refl
 
 -- after a stop the lease is freed, and then the worker is idle
 stopped : Scene → Scene
 stopped s = record s { worker = after_stop s.worker }
 
-freed : newest (steps 1 w1 1000 true 3000 (stopped (steps 10 w1 1000 true 3000 opening_scene))).told ≡ Some (record { what = command.Free 1 1; answer = Ok (reply.Counter 2) })
-unfolding refuse◌if◌else◌ with◌or◌then◌ newest stopped steps stepped turned with_calls call_if asked_at asked_by first_number turn_of w1 opening_scene shard_of_two item key
+freed : newest (steps 1 w1 1000 true 3000 (stopped (steps 10 w1 1000 true 3000 opening_scene))).told
+    ≡ Some (record { what = command.Free 1 1; answer = Ok (reply.Counter 2) })
+unfolding refuse◌if◌else◌ with◌or◌then◌ newest stopped steps stepped turned with_calls call_if asked_at asked_by
+    first_number turn_of w1 opening_scene shard_of_two item key
 freed = refl
 
-idle_then : is_idle (with_calls 2 w1 true (steps 1 w1 1000 true 3000 (stopped (steps 10 w1 1000 true 3000 opening_scene))).worker) ≡ true
-unfolding refuse◌if◌else◌ with◌or◌then◌ stopped steps stepped turned with_calls call_if asked_at asked_by first_number turn_of w1 opening_scene shard_of_two item key
+idle_then : is_idle (with_calls 2 w1 true
+    (steps 1 w1 1000 true 3000 (stopped (steps 10 w1 1000 true 3000 opening_scene))).worker) ≡ true
+unfolding refuse◌if◌else◌ with◌or◌then◌ stopped steps stepped turned with_calls call_if asked_at asked_by first_number
+    turn_of w1 opening_scene shard_of_two item key
 idle_then = refl

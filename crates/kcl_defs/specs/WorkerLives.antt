@@ -9,7 +9,8 @@ use Rattle.kcl_defs.specs.declared.consumer.Fetched.{Fetched}
 use Rattle.kds_defs.specs.Histories.{journal}
 use Rattle.kds_defs.specs.Leases.{TenureState, ReadDone, tenure}
 use Rattle.kcl_defs.specs.Lives.{reads_in, gives_in, deals_of, IsLifeIn, IsWholeLifeIn}
-use Rattle.kcl_defs.specs.Workers.{Known, WorkerState, WorkerEvent, Made_call, Gave_command, Got_answer, Stopped, Released, WorkerPast, worker_after, deals_after}
+use Rattle.kcl_defs.specs.Workers.{Known, WorkerState, WorkerEvent, Made_call, Gave_command, Got_answer, Stopped}
+use Rattle.kcl_defs.specs.Workers.{Released, WorkerPast, worker_after, deals_after}
 
 -- what may happen where: while a command waits, nothing but its answer
 abbrev pub MayHappen : WorkerMade → WorkerEvent → WorkerState → Type 0

@@ -1,5 +1,6 @@
 -- The lines that a command of the stream service adds depend on the stream lines alone, clocks aside.
-use Rattle.std.proofs.Common.{◌≡◌, ℕ, ◌+◌, ◌<◌, ◌≤◌, max, Bool, true, false, List, [], ◌∷◌, length, Option, Some, None, refl, sym, ap, subst, ◌∙◌, arith}
+use Rattle.std.proofs.Common.{◌≡◌, ℕ, ◌+◌, ◌<◌, ◌≤◌, max, Bool, true, false, List, [], ◌∷◌, length, Option, Some, None}
+use Rattle.std.proofs.Common.{refl, sym, ap, subst, ◌∙◌, arith}
 use Rattle.std.specs.Prelude.{◌==◌, ◌&&◌, ◌||◌, not, nat_le, nat_lt, map, cond, is_some, if◌then◌else◌}
 use Rattle.std.specs.List.{filter, AllByRecursion}
 use Rattle.std.proofs.lemmas.List.{length-map}
@@ -31,21 +32,25 @@ use Rattle.kds_defs.specs.Streams.{made_count, live_streams, stream_named}
 use Rattle.kds_defs.proofs.Walk.{IsAdded, Alone, Creates, Enforces, each_line, query_idle}
 use Rattle.kcl_drill.specs.Apart.{AreBasic, LEAST_RETENTION, is_basic, is_stream_entry, stream_lines, service_turns}
 use Rattle.kcl_drill.proofs.Inner.{lease_basic}
-use Rattle.kcl_drill.proofs.Readings.{enforced_same, forget, kept, made_count_same, hours_same, next_number_same, home_same, length_same, range_same, open_same, live_same, named_same, open_count_same, IsYoung, young_if_legal, listed_same}
+use Rattle.kcl_drill.proofs.Readings.{enforced_same, forget, kept, made_count_same, hours_same, next_number_same}
+use Rattle.kcl_drill.proofs.Readings.{home_same, length_same, range_same, open_same, live_same, named_same}
+use Rattle.kcl_drill.proofs.Readings.{open_count_same, IsYoung, young_if_legal, listed_same}
 
 -- ---- two decisions that add the same lines, clocks aside
 
 pub AddsSame : (ℕ → ℕ) → Decision → Decision → Type 0
 AddsSame f d d' = map (forget f) (lines_of d) ≡ map (forget f) (lines_of d')
 
-if_same : (f : ℕ → ℕ) (r r' : Refusal) (b b' : Bool) (d d' : Decision) → b ≡ b' → AddsSame f d d' → AddsSame f (refuse r if b else d) (refuse r' if b' else d')
+if_same : (f : ℕ → ℕ) (r r' : Refusal) (b b' : Bool) (d d' : Decision) → b ≡ b' → AddsSame f d d'
+    → AddsSame f (refuse r if b else d) (refuse r' if b' else d')
 unfolding refuse◌if◌else◌ AddsSame
 if_same f r r' true true d d' is so = refl
 if_same f r r' true false d d' is so = absurd cc
 if_same f r r' false true d d' is so = absurd cc
 if_same f r r' false false d d' is so = so
 
-with_same : {A : Type 0} (f : ℕ → ℕ) (o o' : Option A) (r : Refusal) (d d' : A → Decision) → o ≡ o' → ((x : A) → AddsSame f (d x) (d' x))
+with_same : {A : Type 0} (f : ℕ → ℕ) (o o' : Option A) (r : Refusal) (d d' : A → Decision) → o ≡ o'
+    → ((x : A) → AddsSame f (d x) (d' x))
     → AddsSame f (with o or r then d) (with o' or r then d')
 unfolding with◌or◌then◌ AddsSame
 with_same f None None r d d' is so = refl
@@ -53,7 +58,8 @@ with_same f None (Some x) r d d' is so = absurd cc
 with_same f (Some x) None r d d' is so = absurd cc
 with_same f (Some x) (Some y) r d d' is so = let e : x ≡ y = cc in so x ∙ ap (λ z. map (forget f) (lines_of (d' z))) e
 
-lines_same : (f : ℕ → ℕ) (ls ls' : List Line) (r r' : Reply) → map (forget f) ls ≡ map (forget f) ls' → AddsSame f (Accepted ls r) (Accepted ls' r')
+lines_same : (f : ℕ → ℕ) (ls ls' : List Line) (r r' : Reply) → map (forget f) ls ≡ map (forget f) ls'
+    → AddsSame f (Accepted ls r) (Accepted ls' r')
 unfolding AddsSame
 lines_same f ls ls' r r' is = is
 
@@ -70,7 +76,8 @@ abbrev pub IsCalm : Journal → Type 0
 IsCalm log = (s : ℕ) → is_enforced log s ≡ false
 
 not_held : (log : Journal) (c s : ℕ) (item : NewItem) → IsCalm log → is_held_back log c s item ≡ false
-not_held log c s item calm = ap (λ b. b && is_throttled (puts log s (home log s item.hash)) c (item_bytes item)) (calm s)
+not_held log c s item calm =
+    ap (λ b. b && is_throttled (puts log s (home log s item.hash)) c (item_bytes item)) (calm s)
 
 calm_kept : (f : ℕ → ℕ) (log : Journal) → IsCalm log → IsCalm (kept f log)
 calm_kept f log calm = λ s. sym (enforced_same f log s) ∙ calm s
@@ -92,24 +99,29 @@ bare_put by s sh n item = record {
 
 -- the lines of an item that isn't held back, and of those that follow
 taken : (log : Journal) (c by s : ℕ) (item : NewItem) (items : List NewItem) → IsCalm log
-    → put_lines log c by s (item ∷ items) ≡ put_next log c by s item ∷ put_lines (put_next log c by s item ∷ log) c by s items
+    → put_lines log c by s (item ∷ items) ≡ put_next log c by s item
+    ∷ put_lines (put_next log c by s item ∷ log) c by s items
 taken log c by s item items calm =
-    ap (λ b. if b then put_lines log c by s items else put_next log c by s item ∷ put_lines (put_next log c by s item ∷ log) c by s items)
+    ap (λ b. if b then put_lines log c by s items else put_next log c by s item
+    ∷ put_lines (put_next log c by s item ∷ log) c by s items)
     (not_held log c s item calm)
 
 module _ (f : ℕ → ℕ) (c by by' : ℕ) (alike : f by ≡ by') (again : f by ≡ f by') where
   -- the line that a put adds, with what is kept of its actor
   line_by : (log : Journal) (s n : ℕ) (item : NewItem) → f by ≡ n
-      → forget f (put_next log c by s item) ≡ bare_put n s (home (kept f log) s item.hash) (next_number (kept f log) s) item
+      → forget f (put_next log c by s item)
+      ≡ bare_put n s (home (kept f log) s item.hash) (next_number (kept f log) s) item
   line_by log s n item is =
       ap (λ sh. bare_put (f by) s sh (next_number log s) item) (home_same f log s item.hash)
       ∙ ap (λ m. bare_put (f by) s (home (kept f log) s item.hash) m item) (next_number_same f log s)
       ∙ ap (λ k. bare_put k s (home (kept f log) s item.hash) (next_number (kept f log) s) item) is
 
-  line_same : (log : Journal) (s : ℕ) (item : NewItem) → forget f (put_next log c by s item) ≡ put_next (kept f log) 0 by' s item
+  line_same : (log : Journal) (s : ℕ) (item : NewItem)
+      → forget f (put_next log c by s item) ≡ put_next (kept f log) 0 by' s item
   line_same log s item = line_by log s by' item alike
 
-  line_same_twice : (log : Journal) (s : ℕ) (item : NewItem) → forget f (put_next log c by s item) ≡ forget f (put_next (kept f log) 0 by' s item)
+  line_same_twice : (log : Journal) (s : ℕ) (item : NewItem)
+      → forget f (put_next log c by s item) ≡ forget f (put_next (kept f log) 0 by' s item)
   line_same_twice log s item = line_by log s (f by') item again
 
   pub put_lines_same : (items : List NewItem) (log : Journal) (s : ℕ) → IsCalm log
@@ -132,14 +144,17 @@ same_length f ls ls' is = sym (length-map ls (forget f)) ∙ ap length is ∙ le
 abbrev line_of : ℕ → Entry → Journal
 line_of by e = plain_line 0 by e ∷ []
 
-module _ (f : ℕ → ℕ) (log : Journal) (c by by' : ℕ) (young : IsYoung log) (calm : IsCalm log) (below : c < LEAST_RETENTION) (kept_by : f by ≡ by')
+module _ (f : ℕ → ℕ) (log : Journal) (c by by' : ℕ) (young : IsYoung log) (calm : IsCalm log)
+    (below : c < LEAST_RETENTION) (kept_by : f by ≡ by')
     (alike : f by ≡ f by') where
-  create_same : (name : List ℕ) (count : ℕ) → AddsSame f (create log c by name count) (create (kept f log) 0 by' name count)
+  create_same : (name : List ℕ) (count : ℕ)
+      → AddsSame f (create log c by name count) (create (kept f log) 0 by' name count)
   create_same name count =
       if_same _ _ _ _ _ _ _ (ap is_some (named_same f log name))
       (if_same _ _ _ _ _ _ _
       (ap (λ ss. nat_le LIVE_STREAMS (length ss) || nat_lt OPEN_SHARDS (open_count log + count)) (live_same f log)
-      ∙ ap (λ n. nat_le LIVE_STREAMS (length (live_streams (kept f log))) || nat_lt OPEN_SHARDS (n + count)) (open_count_same f log))
+      ∙ ap (λ n. nat_le LIVE_STREAMS (length (live_streams (kept f log))) || nat_lt OPEN_SHARDS (n + count))
+      (open_count_same f log))
       (if_same _ _ _ _ _ _ _ (ap (λ n. n == last_number) (made_count_same f log))
       (lines_same _ _ _ _ _
       (ap (λ n. line_of (f by) (entry.Made (n + 1) name count)) (made_count_same f log)
@@ -151,10 +166,12 @@ module _ (f : ℕ → ℕ) (log : Journal) (c by by' : ℕ) (young : IsYoung log
       (if_same _ _ _ _ _ _ _ (ap (λ n. n == last_number) (next_number_same f log s))
       (lines_same _ _ _ _ _ (ap (λ l. l ∷ []) (line_same_twice f c by by' kept_by alike log s item))))
 
-  put_many_same : (s : ℕ) (items : List NewItem) → AddsSame f (put_many log c by s items) (put_many (kept f log) 0 by' s items)
+  put_many_same : (s : ℕ) (items : List NewItem)
+      → AddsSame f (put_many log c by s items) (put_many (kept f log) 0 by' s items)
   put_many_same s items =
       let same = put_lines_same f c by by' kept_by alike items log s calm in
-      if_same _ _ _ _ _ _ _ (ap (λ n. nat_lt last_number (n + length (put_lines log c by s items))) (next_number_same f log s)
+      if_same _ _ _ _ _ _ _
+      (ap (λ n. nat_lt last_number (n + length (put_lines log c by s items))) (next_number_same f log s)
       ∙ ap (λ n. nat_lt last_number (next_number (kept f log) s + n)) (same_length f _ _ same))
       (lines_same _ _ _ _ _ same)
 
@@ -173,16 +190,19 @@ module _ (f : ℕ → ℕ) (log : Journal) (c by by' : ℕ) (young : IsYoung log
       (if_same _ _ _ _ _ _ _
       (ap (λ n. nat_lt last_number (n + 1) || next_number log s == last_number) count
       ∙ ap (λ n. nat_lt last_number (length (shards S s) + 1) || n == last_number) number)
-      (lines_same _ _ _ _ _ (ap (λ n. line_of (f by) (entry.Split s sh at n (length (shards log s)) (length (shards log s) + 1))) number
+      (lines_same _ _ _ _ _
+      (ap (λ n. line_of (f by) (entry.Split s sh at n (length (shards log s)) (length (shards log s) + 1))) number
       ∙ ap (λ n. line_of (f by) (entry.Split s sh at (next_number S s) n (n + 1))) count
-      ∙ ap (λ n. line_of n (entry.Split s sh at (next_number S s) (length (shards S s)) (length (shards S s) + 1))) alike))))))
+      ∙ ap (λ n. line_of n (entry.Split s sh at (next_number S s) (length (shards S s)) (length (shards S s) + 1)))
+      alike))))))
 
   merge_same : (s sh other : ℕ) → AddsSame f (merge log c by s sh other) (merge (kept f log) 0 by' s sh other)
   merge_same s sh other =
       let S = kept f log in
       let count = length_same f log s in
       let number = next_number_same f log s in
-      if_same _ _ _ _ _ _ _ (ap (λ b. not (b && is_listed log c s other)) (listed s sh) ∙ ap (λ b. not (is_listed S 0 s sh && b)) (listed s other))
+      if_same _ _ _ _ _ _ _ (ap (λ b. not (b && is_listed log c s other)) (listed s sh)
+      ∙ ap (λ b. not (is_listed S 0 s sh && b)) (listed s other))
       (if_same _ _ _ _ _ _ _
       (ap (λ b. not (b && is_open_at (shard_at log s other))) (open_same f log s sh)
       ∙ ap (λ b. not (is_open_at (shard_at S s sh) && b)) (open_same f log s other))
@@ -190,12 +210,14 @@ module _ (f : ℕ → ℕ) (log : Journal) (c by by' : ℕ) (young : IsYoung log
       (ap (λ r. not (are_adjacent r (range_of (shard_at log s other)))) (range_same f log s sh)
       ∙ ap (λ r. not (are_adjacent (range_of (shard_at S s sh)) r)) (range_same f log s other))
       (if_same _ _ _ _ _ _ _
-      (ap (λ n. nat_lt last_number n || next_number log s == last_number) count ∙ ap (λ n. nat_lt last_number (length (shards S s)) || n == last_number) number)
+      (ap (λ n. nat_lt last_number n || next_number log s == last_number) count
+      ∙ ap (λ n. nat_lt last_number (length (shards S s)) || n == last_number) number)
       (lines_same _ _ _ _ _ (ap (λ n. line_of (f by) (entry.Merged s sh other n (length (shards log s)))) number
       ∙ ap (λ n. line_of (f by) (entry.Merged s sh other (next_number S s) n)) count
       ∙ ap (λ n. line_of n (entry.Merged s sh other (next_number S s) (length (shards S s)))) alike)))))
 
-  keep_same : (s wanted : ℕ) (raise : Bool) → AddsSame f (keep log c by s wanted raise) (keep (kept f log) 0 by' s wanted raise)
+  keep_same : (s wanted : ℕ) (raise : Bool)
+      → AddsSame f (keep log c by s wanted raise) (keep (kept f log) 0 by' s wanted raise)
   keep_same s wanted raise =
       if_same _ _ _ _ _ _ _ (ap (λ n. if raise then nat_lt wanted n else nat_lt n wanted) (hours_same f log s))
       (lines_same _ _ _ _ _ (ap (λ n. line_of n (entry.Kept s wanted)) alike))
@@ -204,9 +226,11 @@ module _ (f : ℕ → ℕ) (log : Journal) (c by by' : ℕ) (young : IsYoung log
       → AddsSame f (with_stream log name d) (with_stream (kept f log) name d')
   in_stream_same name d d' so = with_same _ (stream_named log name) _ _ d d' (named_same f log name) so
 
-  pub decide_same : (what : Command) → is_service what ≡ true → is_basic what ≡ true → AddsSame f (decide log c by what) (decide (kept f log) 0 by' what)
+  pub decide_same : (what : Command) → is_service what ≡ true → is_basic what ≡ true
+      → AddsSame f (decide log c by what) (decide (kept f log) 0 by' what)
   decide_same (command.Create name count) is basic = create_same name count
-  decide_same (command.Delete name) is basic = in_stream_same name _ _ (λ s. lines_same _ _ _ _ _ (ap (λ n. line_of n (entry.Gone s)) alike))
+  decide_same (command.Delete name) is basic =
+      in_stream_same name _ _ (λ s. lines_same _ _ _ _ _ (ap (λ n. line_of n (entry.Gone s)) alike))
   decide_same (command.Put name item) is basic = in_stream_same name _ _ (λ s. put_same s item)
   decide_same (command.PutMany name items) is basic = in_stream_same name _ _ (λ s. put_many_same s items)
   decide_same (command.Split name sh at) is basic = in_stream_same name _ _ (λ s. split_same s sh at)
@@ -223,27 +247,36 @@ IsOf b l = (is_stream_entry l.what ≡ b) × ((s : ℕ) (on : Bool) → enforced
 abbrev AreOf : Bool → List Line → Type 0
 AreOf b ls = AllByRecursion (IsOf b) ls
 
-kind : (log : Journal) (c by : ℕ) (what : Command) (line : Line) → IsAdded log c by what line → is_basic what ≡ true → IsOf (is_service what) line
+kind : (log : Journal) (c by : ℕ) (what : Command) (line : Line) → IsAdded log c by what line → is_basic what ≡ true
+    → IsOf (is_service what) line
 kind log c by _ _ (Alone _ _ _ (Creates name count fits)) basic = (refl, λ s on. refl)
 kind log c by _ _ (Alone _ _ _ (Enforces name is s named)) basic = absurd cc
 kind log c by _ _ _ basic = (refl, λ s on. refl)
 
 -- a basic command adds lines of its own kind
-adds_kind : (log : Journal) (c by : ℕ) (what : Command) → is_basic what ≡ true → AreOf (is_service what) (lines_of (decide log c by what))
-adds_kind log c by what basic = each_line (IsOf (is_service what)) log c by what (λ line added. kind log c by what line added basic)
+adds_kind : (log : Journal) (c by : ℕ) (what : Command) → is_basic what ≡ true
+    → AreOf (is_service what) (lines_of (decide log c by what))
+adds_kind log c by what basic =
+    each_line (IsOf (is_service what)) log c by what (λ line added. kind log c by what line added basic)
 
-service_adds : (log : Journal) (c by : ℕ) (what : Command) → is_service what ≡ true → is_basic what ≡ true → AreOf true (lines_of (decide log c by what))
-service_adds log c by what is basic = subst (λ b. AreOf b (lines_of (decide log c by what))) is (adds_kind log c by what basic)
+service_adds : (log : Journal) (c by : ℕ) (what : Command) → is_service what ≡ true → is_basic what ≡ true
+    → AreOf true (lines_of (decide log c by what))
+service_adds log c by what is basic =
+    subst (λ b. AreOf b (lines_of (decide log c by what))) is (adds_kind log c by what basic)
 
-lease_adds : (log : Journal) (c by : ℕ) (what : Command) → is_service what ≡ false → AreOf false (lines_of (decide log c by what))
-lease_adds log c by what is = subst (λ b. AreOf b (lines_of (decide log c by what))) is (adds_kind log c by what (lease_basic what is))
+lease_adds : (log : Journal) (c by : ℕ) (what : Command) → is_service what ≡ false
+    → AreOf false (lines_of (decide log c by what))
+lease_adds log c by what is =
+    subst (λ b. AreOf b (lines_of (decide log c by what))) is (adds_kind log c by what (lease_basic what is))
 
 -- lines of streams are added to the stream lines, and others are not
-adds_lines : (f : ℕ → ℕ) (ls : List Line) (log : Journal) → AreOf true ls → kept f (with_lines ls log) ≡ with_lines (map (forget f) ls) (kept f log)
+adds_lines : (f : ℕ → ℕ) (ls : List Line) (log : Journal) → AreOf true ls
+    → kept f (with_lines ls log) ≡ with_lines (map (forget f) ls) (kept f log)
 adds_lines f [] log are = refl
 adds_lines f (line ∷ ls) log are =
     let rest = filter (λ l. is_stream_entry l.what) log in
-    adds_lines f ls (line ∷ log) are.1 ∙ ap (λ b. with_lines (map (forget f) ls) (map (forget f) (cond b (line ∷ rest) rest))) are.0.0
+    adds_lines f ls (line ∷ log) are.1
+    ∙ ap (λ b. with_lines (map (forget f) ls) (map (forget f) (cond b (line ∷ rest) rest))) are.0.0
 
 adds_none : (f : ℕ → ℕ) (ls : List Line) (log : Journal) → AreOf false ls → kept f (with_lines ls log) ≡ kept f log
 adds_none f [] log are = refl
@@ -298,35 +331,47 @@ module _ (reaches : Reaches) (f : ℕ → ℕ) (once : (n : ℕ) → f n ≡ f (
       young_if_legal (journal h) reached.legal (omega (arith, reached.order, below))
 
   -- a turn of the service adds what its command adds to the stream lines alone, and one of the leases nothing
-  service_turn : (turn : Turn) (h : List Turn) → IsHistory h → AreBasic (turn ∷ h) → clock (turn ∷ h) < LEAST_RETENTION → is_service turn.what ≡ true
-      → kept f (journal (turn ∷ h)) ≡ with_lines (map (forget f) (lines_of (decide (kept f (journal h)) 0 (f turn.by) turn.what))) (kept f (journal h))
+  service_turn : (turn : Turn) (h : List Turn) → IsHistory h → AreBasic (turn ∷ h) → clock (turn ∷ h) < LEAST_RETENTION
+      → is_service turn.what ≡ true
+      → kept f (journal (turn ∷ h))
+      ≡ with_lines (map (forget f) (lines_of (decide (kept f (journal h)) 0 (f turn.by) turn.what)))
+      (kept f (journal h))
   unfolding AddsSame
   service_turn turn h lawful basic below is =
       adds_lines f (lines_of (decision (journal h) (clock (turn ∷ h)) turn)) (journal h)
       (service_adds (journal h) (clock (turn ∷ h)) turn.by turn.what is basic.0)
       ∙ ap (λ ls. with_lines ls (kept f (journal h)))
-      (decide_same f (journal h) (clock (turn ∷ h)) turn.by (f turn.by) (young h lawful (omega (arith, below))) (calm_history h basic.1) below refl
+      (decide_same f (journal h) (clock (turn ∷ h)) turn.by (f turn.by) (young h lawful (omega (arith, below)))
+      (calm_history h basic.1) below refl
       (once turn.by) turn.what is basic.0)
 
-  lease_turn : (turn : Turn) (h : List Turn) → is_service turn.what ≡ false → kept f (journal (turn ∷ h)) ≡ kept f (journal h)
+  lease_turn : (turn : Turn) (h : List Turn) → is_service turn.what ≡ false
+      → kept f (journal (turn ∷ h)) ≡ kept f (journal h)
   lease_turn turn h is =
-      adds_none f (lines_of (decision (journal h) (clock (turn ∷ h)) turn)) (journal h) (lease_adds (journal h) (clock (turn ∷ h)) turn.by turn.what is)
+      adds_none f (lines_of (decision (journal h) (clock (turn ∷ h)) turn)) (journal h)
+      (lease_adds (journal h) (clock (turn ∷ h)) turn.by turn.what is)
 
-  pub left : (h : List Turn) → IsHistory h → AreBasic h → clock h < LEAST_RETENTION → kept f (journal h) ≡ left_by f (asked f h)
+  pub left : (h : List Turn) → IsHistory h → AreBasic h → clock h < LEAST_RETENTION
+      → kept f (journal h) ≡ left_by f (asked f h)
   left [] lawful basic below = refl
-  left (turn ∷ h) lawful basic below = either (is_service turn.what) refl (left h lawful.1 basic.1 (omega (arith, below)))
+  left (turn ∷ h) lawful basic below =
+      either (is_service turn.what) refl (left h lawful.1 basic.1 (omega (arith, below)))
     where
       either : (b : Bool) → is_service turn.what ≡ b → kept f (journal h) ≡ left_by f (asked f h)
-          → kept f (journal (turn ∷ h)) ≡ left_by f (map (λ t. record { by = f t.by; what = t.what }) (cond b (turn ∷ service_turns h) (service_turns h)))
+          → kept f (journal (turn ∷ h))
+          ≡ left_by f (map (λ t. record { by = f t.by; what = t.what })
+          (cond b (turn ∷ service_turns h) (service_turns h)))
       either true is so =
           service_turn turn h lawful.1 basic below is
           ∙ ap (λ S. with_lines (map (forget f) (lines_of (decide S 0 (f turn.by) turn.what))) S) so
       either false is so = lease_turn turn h is ∙ so
 
   -- two histories that ask the service the same leave the same stream lines
-  pub same_left : (h h' : List Turn) → IsHistory h → IsHistory h' → AreBasic h → AreBasic h' → clock h < LEAST_RETENTION → clock h' < LEAST_RETENTION
+  pub same_left : (h h' : List Turn) → IsHistory h → IsHistory h' → AreBasic h → AreBasic h' → clock h < LEAST_RETENTION
+      → clock h' < LEAST_RETENTION
       → asked f h ≡ asked f h' → kept f (journal h) ≡ kept f (journal h')
-  same_left h h' lawful lawful' basic basic' below below' is = left h lawful basic below ∙ ap (left_by f) is ∙ sym (left h' lawful' basic' below')
+  same_left h h' lawful lawful' basic basic' below below' is =
+      left h lawful basic below ∙ ap (left_by f) is ∙ sym (left h' lawful' basic' below')
 
 -- ---- the turns of the service alone
 
@@ -348,13 +393,16 @@ services_twice [] = refl
 services_twice (turn ∷ h) = either (is_service turn.what) refl (services_twice h)
   where
     either : (b : Bool) → is_service turn.what ≡ b → service_turns h ≡ service_turns (service_turns h)
-        → cond b (turn ∷ service_turns h) (service_turns h) ≡ service_turns (cond b (turn ∷ service_turns h) (service_turns h))
-    either true is so = ap (λ ts. turn ∷ ts) so ∙ ap (λ b. cond b (turn ∷ service_turns (service_turns h)) (service_turns (service_turns h))) (sym is)
+        → cond b (turn ∷ service_turns h) (service_turns h)
+        ≡ service_turns (cond b (turn ∷ service_turns h) (service_turns h))
+    either true is so = ap (λ ts. turn ∷ ts) so
+        ∙ ap (λ b. cond b (turn ∷ service_turns (service_turns h)) (service_turns (service_turns h))) (sym is)
     either false is so = so
 
 pub alone : Reaches → (h : List Turn) → IsHistory h → AreBasic h → clock h < LEAST_RETENTION
     → stream_lines (journal h) ≡ stream_lines (journal (service_turns h))
 alone reaches h lawful basic below =
-    same_left reaches (λ n. n) (λ n. refl) h (service_turns h) lawful (lawful_service h lawful) basic (basic_service h basic) below
+    same_left reaches (λ n. n) (λ n. refl) h (service_turns h) lawful (lawful_service h lawful) basic
+    (basic_service h basic) below
     (omega (arith, below, not_later h))
     (ap (map (λ turn. record { by = turn.by; what = turn.what })) (services_twice h))

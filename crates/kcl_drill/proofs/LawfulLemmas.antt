@@ -16,7 +16,8 @@ short_key x fits = let d = length-decimal-le 20 x (omega arith) (omega (arith, f
 
 key_lawful : (x : ℕ) → x < 2 ^ 64 → IsPartitionKey (key_of x)
 key_lawful x fits =
-    let same : length (chars (key_of x)) ≡ length (key_of x) = ap length (chars-IsAscii (key_of x) (ascii_key x fits)) in
+    let same : length (chars (key_of x)) ≡ length (key_of x) =
+    ap length (chars-IsAscii (key_of x) (ascii_key x fits)) in
     record {
       text = IsUtf8-from_ascii (key_of x) (ascii_key x fits);
       some = omega (arith, same);

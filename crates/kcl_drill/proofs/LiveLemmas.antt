@@ -1,5 +1,6 @@
 -- The stream of a drill is live after its generator's commands.
-use Rattle.std.proofs.Common.{◌≡◌, ℕ, ◌<◌, Bool, true, false, List, [], ◌∷◌, ◌++◌, Some, None, refl, sym, ap, subst, ◌∙◌}
+use Rattle.std.proofs.Common.{◌≡◌, ℕ, ◌<◌, Bool, true, false, List, [], ◌∷◌, ◌++◌, Some, None, refl, sym, ap, subst}
+use Rattle.std.proofs.Common.{◌∙◌}
 use Rattle.std.specs.Prelude.{map, cond, reverse, if◌then◌else◌}
 use Rattle.std.specs.List.{filter, find, AllByRecursion}
 use Rattle.std.proofs.lemmas.List.{reverse-append}
@@ -11,7 +12,8 @@ use Rattle.kds_defs.specs.declared.entry.Entry.TheVariants as entry
 use Rattle.kds_defs.specs.Decision.{refuse◌if◌else◌, with◌or◌then◌}
 use Rattle.kds_defs.specs.Histories.{clock, decide, lines_of, journal}
 use Rattle.kds_defs.specs.Journal.{Line, Journal, with_lines}
-use Rattle.kds_defs.specs.Streams.{made_count, made_count_after, is_live, is_live_after, name_of, name_of_after, numbers_from, same_name, stream_named}
+use Rattle.kds_defs.specs.Streams.{made_count, made_count_after, is_live, is_live_after, name_of, name_of_after}
+use Rattle.kds_defs.specs.Streams.{numbers_from, same_name, stream_named}
 use Rattle.kds_defs.proofs.Walk.{IsAdded, Alone, Merges, Puts, Splits, each_line}
 use Rattle.kcl_drill.specs.declared.limits.TheConstants.{FIRST_SHARDS}
 use Rattle.kcl_drill.specs.Generated.{drill_name, first_open, generated, from_record}
@@ -35,14 +37,16 @@ is_inner _ = false
 abbrev AreInner : List Line → Type 0
 AreInner ls = AllByRecursion (λ l. is_inner l.what ≡ true) ls
 
-inner_line : (log : Journal) (c by : ℕ) (what : Command) (line : Line) → IsAdded log c by what line → IsInner what → is_inner line.what ≡ true
+inner_line : (log : Journal) (c by : ℕ) (what : Command) (line : Line) → IsAdded log c by what line → IsInner what
+    → is_inner line.what ≡ true
 inner_line log c by _ _ (Alone _ _ _ (Puts name item s named fits)) is = refl
 inner_line log c by _ _ (Alone _ _ _ (Splits name sh at s named listed fits)) is = refl
 inner_line log c by _ _ (Alone _ _ _ (Merges name sh other s named listed fits)) is = refl
 inner_line log c by _ _ _ is = absurd is
 
 adds_inner : (log : Journal) (c by : ℕ) (what : Command) → IsInner what → AreInner (lines_of (decide log c by what))
-adds_inner log c by what is = each_line (λ l. is_inner l.what ≡ true) log c by what (λ line added. inner_line log c by what line added is)
+adds_inner log c by what is =
+    each_line (λ l. is_inner l.what ≡ true) log c by what (λ line added. inner_line log c by what line added is)
 
 -- ---- the one stream stays
 
@@ -52,7 +56,8 @@ record HasDrill (log : Journal) : Type 0 where
   pub named : name_of log 1 ≡ drill_name
 
 stays_by : (line : Line) (log : Journal) (e : Entry) → line.what ≡ e → is_inner e ≡ true → HasDrill log
-    → (made_count_after e (made_count log) ≡ 1) × (is_live_after e 1 (is_live log 1) ≡ true) × (name_of_after e 1 (name_of log 1) ≡ drill_name)
+    → (made_count_after e (made_count log) ≡ 1) × (is_live_after e 1 (is_live log 1) ≡ true)
+    × (name_of_after e 1 (name_of log 1) ≡ drill_name)
 stays_by line log (entry.Put stream shard seq hash bytes key_bytes) is are has = (has.made, has.live, has.named)
 stays_by line log (entry.Split stream shard at seq low high) is are has = (has.made, has.live, has.named)
 stays_by line log (entry.Merged stream shard other seq child) is are has = (has.made, has.live, has.named)
@@ -76,24 +81,29 @@ all_stay : (commands : List Command) → AllByRecursion IsInner commands
 all_stay [] are = first_drill
 all_stay (what ∷ commands) are =
     let ts = map nobodys (commands ++ command.Create drill_name FIRST_SHARDS ∷ []) in
-    stays (lines_of (decide (journal ts) _ 0 what)) (journal ts) (adds_inner (journal ts) _ 0 what are.0) (all_stay commands are.1)
+    stays (lines_of (decide (journal ts) _ 0 what)) (journal ts) (adds_inner (journal ts) _ 0 what are.0)
+    (all_stay commands are.1)
 
 -- ---- after the generator's commands
 
 named_in : (log : Journal) → HasDrill log → stream_named log drill_name ≡ Some 1
-named_in log has = ap (λ n. find (λ s. same_name (name_of log s) drill_name) (filter (is_live log) (numbers_from 1 n))) has.made
+named_in log has = ap (λ n. find (λ s. same_name (name_of log s) drill_name) (filter (is_live log) (numbers_from 1 n)))
+    has.made
     ∙ ap (λ b. find (λ s. same_name (name_of log s) drill_name) (cond b (1 ∷ []) [])) has.live
     ∙ ap (λ name. cond (same_name name drill_name) (Some 1) None) has.named
 
-pub drill_named : (number records : ℕ) → stream_named (journal (turns_of (generated number records))) drill_name ≡ Some 1
+pub drill_named : (number records : ℕ) → stream_named (journal (turns_of (generated number records))) drill_name
+    ≡ Some 1
 drill_named number records =
     let rest = from_record 0 records number first_open in
     named_in (journal (turns_of (generated number records)))
-    (subst (λ commands. HasDrill (journal (map nobodys commands))) (sym (reverse-append (command.Create drill_name FIRST_SHARDS ∷ []) rest))
+    (subst (λ commands. HasDrill (journal (map nobodys commands)))
+    (sym (reverse-append (command.Create drill_name FIRST_SHARDS ∷ []) rest))
     (all_stay (reverse rest) (all_reverse rest (generated_inner 0 records number first_open))))
 
 pub live_alone : Reaches → (h : List Turn) (number count : ℕ) → IsHistory h → clock h < LEAST_RETENTION
-    → map (λ turn. turn.what) (service_turns h) ≡ reverse (generated number count) → stream_named (journal h) drill_name ≡ Some 1
+    → map (λ turn. turn.what) (service_turns h) ≡ reverse (generated number count)
+    → stream_named (journal h) drill_name ≡ Some 1
 live_alone reaches h number count lawful below are =
     named_same nobody (journal h) drill_name
     ∙ ap (λ S. stream_named S drill_name) (asked_alone reaches h number count lawful below are)

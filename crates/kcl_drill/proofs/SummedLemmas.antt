@@ -1,5 +1,6 @@
 -- The summary of a drill depends on what the stream service was asked.
-use Rattle.std.proofs.Common.{◌≡◌, ℕ, ◌+◌, ◌<◌, Bool, true, false, List, [], ◌∷◌, length, Option, Some, None, refl, sym, ap, ◌∙◌, arith}
+use Rattle.std.proofs.Common.{◌≡◌, ℕ, ◌+◌, ◌<◌, Bool, true, false, List, [], ◌∷◌, length, Option, Some, None, refl, sym}
+use Rattle.std.proofs.Common.{ap, ◌∙◌, arith}
 use Rattle.std.specs.Prelude.{◌==◌, ◌&&◌, not, map, reverse, cond, if◌then◌else◌}
 use Rattle.std.specs.List.{AllByRecursion}
 use Rattle.std.specs.Option.{option_map}
@@ -24,11 +25,14 @@ use Rattle.kds_defs.specs.Streams.{is_live, stream_named, trim_floor}
 use Rattle.kcl_laws.proofs.LegalLemmas.{live_named}
 use Rattle.kcl_drill.specs.Apart.{AreBasic, LEAST_RETENTION, service_turns}
 use Rattle.kcl_drill.specs.Generated.{drill_name, generated}
-use Rattle.kcl_drill.specs.Summed.{Summed, summed, summed_at, summary_of, summary_text, bytes_of, last_checkpoint, final_checkpoint, final_at}
+use Rattle.kcl_drill.specs.Summed.{Summed, summed, summed_at, summary_of, summary_text, bytes_of, last_checkpoint}
+use Rattle.kcl_drill.specs.Summed.{final_checkpoint, final_at}
 use Rattle.kcl_drill.specs.Summed.{final_of, turns_of, drill_text, text_of, IsDrained, AreDrained}
-use Rattle.kcl_drill.proofs.ApartLemmas.{Reaches, Asked, asked, same_left, basic_service, lawful_service, services_twice}
+use Rattle.kcl_drill.proofs.ApartLemmas.{Reaches, Asked, asked, same_left, basic_service, lawful_service}
+use Rattle.kcl_drill.proofs.ApartLemmas.{services_twice}
 use Rattle.kcl_drill.proofs.Inner.{basic_if_generated}
-use Rattle.kcl_drill.proofs.Readings.{both_none, forget, kept, no_stream, reads_same, named_same, shards_same, untrimmed, young_if_legal}
+use Rattle.kcl_drill.proofs.Readings.{both_none, forget, kept, no_stream, reads_same, named_same, shards_same}
+use Rattle.kcl_drill.proofs.Readings.{untrimmed, young_if_legal}
 use Rattle.kcl_drill.proofs.Undated.{undated_shard, undated_all, open_undated}
 
 -- ---- records, of which the moments of their arrivals are left aside
@@ -48,13 +52,21 @@ records_undated : (f : ℕ → ℕ) (line : Line) (e : Entry) (s sh : ℕ) (rs :
     → undated_records (records_after line e s sh rs) ≡ records_after (forget f line) e s sh (undated_records rs)
 records_undated f line (entry.Put stream shard seq hash bytes key_bytes) s sh rs =
     chosen_records ((stream == s) && (shard == sh)) _ rs _ (undated_records rs)
-    (map-append undated_record rs (record { seq = seq; arrival = line.clock; bytes = bytes + key_bytes; key = line.key; payload = line.payload } ∷ [])) refl
+    (map-append undated_record rs (record {
+      seq = seq;
+      arrival = line.clock;
+      bytes = bytes + key_bytes;
+      key = line.key;
+      payload = line.payload;
+    } ∷ [])) refl
 records_undated f line _ s sh rs = refl
 
 records_same : (f : ℕ → ℕ) (log : Journal) (s sh : ℕ) → undated_records (records log s sh) ≡ records (kept f log) s sh
 records_same f log s sh =
-    reads_same f (λ l. records l s sh) (λ line rs. records_after line line.what s sh rs) undated_records (λ line log. refl) refl
-    (λ line rs is. elsewhere.records_same line line.what s sh rs (no_stream line.what s is)) (λ line rs. records_undated f line line.what s sh rs) log
+    reads_same f (λ l. records l s sh) (λ line rs. records_after line line.what s sh rs) undated_records
+    (λ line log. refl) refl
+    (λ line rs is. elsewhere.records_same line line.what s sh rs (no_stream line.what s is))
+    (λ line rs. records_undated f line line.what s sh rs) log
 
 bytes_records : (rs : List Logged) → bytes_of (undated_records rs) ≡ bytes_of rs
 bytes_records [] = refl
@@ -73,44 +85,72 @@ final x rs = summed x.no rs (final_checkpoint x rs)
 final_undated : (x : ShardState) (rs : List Logged) → final (undated_shard x) (undated_records rs) ≡ final x rs
 unfolding final
 final_undated x rs =
-    ap (λ n. record { no = x.no; count = n; bytes = bytes_of (undated_records rs); checkpoint = final_checkpoint (undated_shard x) (undated_records rs) })
+    ap (λ n. record {
+      no = x.no;
+      count = n;
+      bytes = bytes_of (undated_records rs);
+      checkpoint = final_checkpoint (undated_shard x) (undated_records rs);
+    })
     (length-map rs undated_record)
-    ∙ ap (λ n. record { no = x.no; count = length rs; bytes = n; checkpoint = final_checkpoint (undated_shard x) (undated_records rs) }) (bytes_records rs)
-    ∙ ap (λ at. record { no = x.no; count = length rs; bytes = bytes_of rs; checkpoint = if is_open (undated_shard x) then at else checkpoint.ShardEnd })
+    ∙ ap (λ n. record {
+      no = x.no;
+      count = length rs;
+      bytes = n;
+      checkpoint = final_checkpoint (undated_shard x) (undated_records rs);
+    }) (bytes_records rs)
+    ∙ ap (λ at. record {
+      no = x.no;
+      count = length rs;
+      bytes = bytes_of rs;
+      checkpoint = if is_open (undated_shard x) then at else checkpoint.ShardEnd;
+    })
     (last_records rs)
-    ∙ ap (λ b. record { no = x.no; count = length rs; bytes = bytes_of rs; checkpoint = if b then last_checkpoint rs else checkpoint.ShardEnd })
+    ∙ ap (λ b. record {
+      no = x.no;
+      count = length rs;
+      bytes = bytes_of rs;
+      checkpoint = if b then last_checkpoint rs else checkpoint.ShardEnd;
+    })
     (open_undated (Some x))
 
-final_kept_at : (f : ℕ → ℕ) (log : Journal) (s : ℕ) (x : ShardState) → final_at (kept f log) s (undated_shard x) ≡ final_at log s x
+final_kept_at : (f : ℕ → ℕ) (log : Journal) (s : ℕ) (x : ShardState)
+    → final_at (kept f log) s (undated_shard x) ≡ final_at log s x
 unfolding final
-final_kept_at f log s x = ap (final (undated_shard x)) (sym (records_same f log s x.no)) ∙ final_undated x (records log s x.no)
+final_kept_at f log s x = ap (final (undated_shard x)) (sym (records_same f log s x.no))
+    ∙ final_undated x (records log s x.no)
 
-final_kept_all : (f : ℕ → ℕ) (log : Journal) (s : ℕ) (xs : List ShardState) → map (final_at (kept f log) s) (undated_all xs) ≡ map (final_at log s) xs
+final_kept_all : (f : ℕ → ℕ) (log : Journal) (s : ℕ) (xs : List ShardState)
+    → map (final_at (kept f log) s) (undated_all xs) ≡ map (final_at log s) xs
 final_kept_all f log s [] = refl
 final_kept_all f log s (x ∷ xs) =
-    ap (λ y. y ∷ map (final_at (kept f log) s) (undated_all xs)) (final_kept_at f log s x) ∙ ap (λ ys. final_at log s x ∷ ys) (final_kept_all f log s xs)
+    ap (λ y. y ∷ map (final_at (kept f log) s) (undated_all xs)) (final_kept_at f log s x)
+    ∙ ap (λ ys. final_at log s x ∷ ys) (final_kept_all f log s xs)
 
 final_kept_of : (f : ℕ → ℕ) (log : Journal) (o : Option ℕ) → final_of (kept f log) o ≡ final_of log o
 final_kept_of f log None = refl
-final_kept_of f log (Some s) = ap text_of (ap (map (final_at (kept f log) s)) (sym (shards_same f log s)) ∙ final_kept_all f log s (shards log s))
+final_kept_of f log (Some s) =
+    ap text_of (ap (map (final_at (kept f log) s)) (sym (shards_same f log s)) ∙ final_kept_all f log s (shards log s))
 
 abbrev final_text : Journal → List ℕ
 final_text log = final_of log (stream_named log drill_name)
 
 final_kept : (f : ℕ → ℕ) (log : Journal) → final_text (kept f log) ≡ final_text log
-final_kept f log = ap (final_of (kept f log)) (sym (named_same f log drill_name)) ∙ final_kept_of f log (stream_named log drill_name)
+final_kept f log = ap (final_of (kept f log)) (sym (named_same f log drill_name))
+    ∙ final_kept_of f log (stream_named log drill_name)
 
 -- ---- the summary, where each shard was read to its end
 
 all_listed : (xs : List ShardState) → listed_among 0 xs ≡ xs
 all_listed [] = refl
-all_listed (x ∷ xs) = ap (λ b. cond (not b) (x ∷ listed_among 0 xs) (listed_among 0 xs)) (never x.closing) ∙ ap (λ ys. x ∷ ys) (all_listed xs)
+all_listed (x ∷ xs) = ap (λ b. cond (not b) (x ∷ listed_among 0 xs) (listed_among 0 xs)) (never x.closing)
+    ∙ ap (λ ys. x ∷ ys) (all_listed xs)
   where
     never : (c : Option Closing) → was_closed_below 0 c ≡ false
     never None = refl
     never (Some c) = grind (arith, nat_tests)
 
-listed_all : (log : Journal) (c s : ℕ) → is_live log s ≡ true → trim_floor log c s ≡ 0 → listed_shards log c s ≡ shards log s
+listed_all : (log : Journal) (c s : ℕ) → is_live log s ≡ true → trim_floor log c s ≡ 0
+    → listed_shards log c s ≡ shards log s
 listed_all log c s live none =
     ap (λ b. if b then listed_among (trim_floor log c s) (shards log s) else []) live
     ∙ ap (λ n. listed_among n (shards log s)) none
@@ -120,18 +160,22 @@ checkpoint_is : (o : Option Row) (at : Checkpoint) → option_map (λ r. r.check
 checkpoint_is None at is = absurd cc
 checkpoint_is (Some r) at is = cc (is)
 
-drained_all : (log : Journal) (s : ℕ) (xs : List ShardState) → AllByRecursion (IsDrained log s) xs → map (summed_at log s) xs ≡ map (final_at log s) xs
+drained_all : (log : Journal) (s : ℕ) (xs : List ShardState) → AllByRecursion (IsDrained log s) xs
+    → map (summed_at log s) xs ≡ map (final_at log s) xs
 drained_all log s [] are = refl
 drained_all log s (x ∷ xs) are =
-    ap (λ at. summed x.no (records log s x.no) at ∷ map (summed_at log s) xs) (checkpoint_is (row log (ref s x.no)) _ are.0)
+    ap (λ at. summed x.no (records log s x.no) at ∷ map (summed_at log s) xs)
+    (checkpoint_is (row log (ref s x.no)) _ are.0)
     ∙ ap (λ ys. final_at log s x ∷ ys) (drained_all log s xs are.1)
 
-summary_final : (log : Journal) (c : ℕ) (o : Option ℕ) → stream_named log drill_name ≡ o → AreDrained log c → ((s : ℕ) → trim_floor log c s ≡ 0)
+summary_final : (log : Journal) (c : ℕ) (o : Option ℕ) → stream_named log drill_name ≡ o → AreDrained log c
+    → ((s : ℕ) → trim_floor log c s ≡ 0)
     → summary_of log c o ≡ final_of log o
 summary_final log c None is drained none = refl
 summary_final log c (Some s) is drained none =
     ap text_of
-    (drained_all log s (listed_shards log c s) (drained s) ∙ ap (map (final_at log s)) (listed_all log c s (live_named log drill_name s is) (none s)))
+    (drained_all log s (listed_shards log c s) (drained s)
+    ∙ ap (map (final_at log s)) (listed_all log c s (live_named log drill_name s is) (none s)))
 
 -- ---- the commands alone, by nobody at the beginning of time
 
@@ -155,7 +199,8 @@ bare_services [] = refl
 bare_services (turn ∷ h) = either (is_service turn.what) (bare_services h)
   where
     either : (b : Bool) → service_turns (map bare h) ≡ map bare (service_turns h)
-        → cond b (bare turn ∷ service_turns (map bare h)) (service_turns (map bare h)) ≡ map bare (cond b (turn ∷ service_turns h) (service_turns h))
+        → cond b (bare turn ∷ service_turns (map bare h)) (service_turns (map bare h))
+        ≡ map bare (cond b (turn ∷ service_turns h) (service_turns h))
     either true so = ap (λ ts. bare turn ∷ ts) so
     either false so = so
 
@@ -175,7 +220,8 @@ asks_same h =
     ∙ sym (bare_asked (service_turns (service_turns h)))
     ∙ ap (map by_nobody) (sym (bare_services (service_turns h)))
 
-bare_turns : (ts : List Turn) → map bare ts ≡ map (λ what. record { by = 0; at = 0; what = what }) (map (λ turn. turn.what) ts)
+bare_turns : (ts : List Turn)
+    → map bare ts ≡ map (λ what. record { by = 0; at = 0; what = what }) (map (λ turn. turn.what) ts)
 bare_turns [] = refl
 bare_turns (turn ∷ ts) = ap (λ xs. bare turn ∷ xs) (bare_turns ts)
 
@@ -190,7 +236,8 @@ asked_alone reaches h number count lawful below are =
     let basic = basic_if_generated h number count are in
     let basic' = bare_basic (service_turns h) (basic_service h basic) in
     let same = same_left reaches nobody (λ n. refl) h alone lawful lawful' basic basic' below below' (asks_same h) in
-    let commands : alone ≡ turns_of (generated number count) = bare_turns (service_turns h) ∙ ap (map (λ what. record { by = 0; at = 0; what = what })) are in
+    let commands : alone ≡ turns_of (generated number count) =
+    bare_turns (service_turns h) ∙ ap (map (λ what. record { by = 0; at = 0; what = what })) are in
     same ∙ ap (λ ts. kept nobody (journal ts)) commands
 
 pub text_alone : Reaches → (h : List Turn) (number count : ℕ) → IsHistory h → clock h < LEAST_RETENTION
@@ -199,7 +246,8 @@ pub text_alone : Reaches → (h : List Turn) (number count : ℕ) → IsHistory 
 text_alone reaches h number count lawful below are drained =
     let reached = reaches h lawful in
     let young = young_if_legal (journal h) reached.legal (omega (arith, reached.order, below)) in
-    summary_final (journal h) (clock h) (stream_named (journal h) drill_name) refl drained (λ s. untrimmed (journal h) (clock h) s young below)
+    summary_final (journal h) (clock h) (stream_named (journal h) drill_name) refl drained
+    (λ s. untrimmed (journal h) (clock h) s young below)
     ∙ sym (final_kept nobody (journal h))
     ∙ ap final_text (asked_alone reaches h number count lawful below are)
     ∙ final_kept nobody (journal (turns_of (generated number count)))

@@ -32,7 +32,8 @@ pub record IsFed (number records root feeder : ℕ) (h : List Turn) : Type 0 whe
   pub made : commands_in (turns_by root h) ≡ command.Create drill_name FIRST_SHARDS ∷ []
   pub fed : commands_in (turns_by feeder h) ≡ reverse (from_record 0 records number first_open)
   pub after : turns_by feeder older ≡ []
-  pub others : AllByRecursion (λ turn. (turn.by == root) ≡ false → (turn.by == feeder) ≡ false → is_service turn.what ≡ false) h
+  pub others : AllByRecursion (λ turn. (turn.by == root) ≡ false → (turn.by == feeder) ≡ false
+      → is_service turn.what ≡ false) h
 
 -- a history below 24 hours in which the service is asked the generator's commands, in their order
 pub record IsDrill (h : List Turn) (number records : ℕ) : Type 0 where

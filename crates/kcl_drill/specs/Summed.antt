@@ -1,5 +1,6 @@
 -- The summary of a drill, and the text that it is to print.
-use Rattle.std.specs.Prelude.{ℕ, ◌≡◌, ◌+◌, List, [], ◌∷◌, ◌++◌, length, map, flat_map, reverse, codes, decimal, if◌then◌else◌, Option, Some, None}
+use Rattle.std.specs.Prelude.{ℕ, ◌≡◌, ◌+◌, List, [], ◌∷◌, ◌++◌, length, map, flat_map, reverse, codes, decimal}
+use Rattle.std.specs.Prelude.{if◌then◌else◌, Option, Some, None}
 use Rattle.std.specs.List.{AllByRecursion}
 use Rattle.std.specs.Option.{option_map}
 use Rattle.kds_base.specs.declared.lease_key.Checkpoint.{Checkpoint}
@@ -86,13 +87,16 @@ turns_of commands = map (λ what. record { by = 0; at = 0; what = what }) (rever
 
 -- the text of a drill: the summary of its generator's commands, where each shard was read to its end
 abbrev pub drill_text : ℕ → ℕ → List ℕ
-drill_text number records = final_of (journal (turns_of (generated number records))) (stream_named (journal (turns_of (generated number records))) drill_name)
+drill_text number records =
+    final_of (journal (turns_of (generated number records)))
+    (stream_named (journal (turns_of (generated number records))) drill_name)
 
 -- ---- what draining leaves
 
 -- the shard has a row, which reads its final checkpoint
 abbrev pub IsDrained : Journal → ℕ → ShardState → Type 0
-IsDrained log s x = option_map (λ r. r.checkpoint) (row log (ref s x.no)) ≡ Some (final_checkpoint x (records log s x.no))
+IsDrained log s x = option_map (λ r. r.checkpoint) (row log (ref s x.no))
+    ≡ Some (final_checkpoint x (records log s x.no))
 
 -- so has each listed shard
 abbrev pub AreDrained : Journal → ℕ → Type 0

@@ -29,7 +29,8 @@ pub fn apart()
 /// were closed before this time have expired. While the clock is below 24 hours, the trim floor of each stream is 0. So
 /// no record is trimmed, and no shard has expired.
 pub fn untrimmed()
-    ensures { (h : List Turn) (c s : ℕ) → IsHistory h → clock h ≤ c → c < LEAST_RETENTION → trim_floor (journal h) c s ≡ 0 }
+    ensures { (h : List Turn) (c s : ℕ) → IsHistory h → clock h ≤ c → c < LEAST_RETENTION
+        → trim_floor (journal h) c s ≡ 0 }
 {
     step()
 }
@@ -54,6 +55,7 @@ pub fn one_text()
 /// The actor `feeder` then sent the generator's other commands in their order. All commands of other actors are on
 /// leases.
 pub fn one_order()
-    ensures { (number records root feeder : ℕ) (h : List Turn) → (root == feeder) ≡ false → IsFed number records root feeder h
+    ensures { (number records root feeder : ℕ) (h : List Turn) → (root == feeder) ≡ false
+        → IsFed number records root feeder h
         → commands_in (service_turns h) ≡ reverse (generated number records) }
 {}

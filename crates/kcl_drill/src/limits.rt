@@ -1,6 +1,7 @@
 //! The constants of a drill. A drill is a self-test whose input is generated from a number.
 ghost use Rattle.std.specs.Prelude.{◌≡◌};
-ghost use Rattle.kcl_drill.specs.declared.limits.TheConstants.{FIRST_SHARDS, MEMBER_TURNS, MOST_OPEN, MOST_RECORDS, MOST_WORKERS, RECORDS_A_TURN, RESHARD_EVERY, TICK};
+ghost use Rattle.kcl_drill.specs.declared.limits.TheConstants.{FIRST_SHARDS, MEMBER_TURNS, MOST_OPEN, MOST_RECORDS};
+ghost use Rattle.kcl_drill.specs.declared.limits.TheConstants.{MOST_WORKERS, RECORDS_A_TURN, RESHARD_EVERY, TICK};
 
 /// The number of shards with which the drill's stream is created.
 pub const FIRST_SHARDS: u32 = 4;

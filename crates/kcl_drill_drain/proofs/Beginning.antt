@@ -1,5 +1,6 @@
 -- A row is taken, and its shard opened.
-use Rattle.std.proofs.Common.{◌≡◌, ℕ, ◌+◌, ◌-◌, ◌<◌, ◌≤◌, ◌^◌, max, true, false, List, [], ◌∷◌, ◌++◌, length, Some, refl, sym, ap, subst, ◌∙◌, arith, inl, inr}
+use Rattle.std.proofs.Common.{◌≡◌, ℕ, ◌+◌, ◌-◌, ◌<◌, ◌≤◌, ◌^◌, max, true, false, List, [], ◌∷◌, ◌++◌, length, Some}
+use Rattle.std.proofs.Common.{refl, sym, ap, subst, ◌∙◌, arith, inl, inr}
 use Rattle.std.specs.Prelude.{◌==◌, min, slice_get, if◌then◌else◌, Result, Ok}
 use Rattle.std.specs.Option.{option_map}
 use Rattle.std.proofs.lemmas.Bool.Decides.{nat_tests}
@@ -30,7 +31,8 @@ use Rattle.kcl_laws.specs.Recorded.{HasFrom, RiseBetween}
 use Rattle.kcl_drill_summary.specs.Counting.{row_in}
 use Rattle.kcl_drill_summary.proofs.BatchLemmas.{IsUp, from, left_all}
 use Rattle.kcl_drill_summary.proofs.CountLemmas.{up_rising}
-use Rattle.kcl_drill_laws.specs.Holding.{Holding, Holds, IsOpenedSo, IsTakenSo, MayOpen, MayTake, begun_from, opened_line, taken_line}
+use Rattle.kcl_drill_laws.specs.Holding.{Holding, Holds, IsOpenedSo, IsTakenSo, MayOpen, MayTake, begun_from}
+use Rattle.kcl_drill_laws.specs.Holding.{opened_line, taken_line}
 use Rattle.kcl_drill_drain.specs.declared.held.DrainTenure.{DrainTenure}
 use Rattle.kcl_drill_drain.specs.Draining.{IsDone, IsFresh, IsStart, final_of, left_of, records_of, shard_of}
 use Rattle.kcl_drill_drain.specs.Keys.{AreDrainedTo}
@@ -44,13 +46,16 @@ use Rattle.kds_defs.specs.Streams.{trim_floor}
 use Rattle.kds_defs.specs.Records.{left_among}
 
 abbrev pub TakeLaw : Type 0
-TakeLaw = (log : Journal) (c by owner : ℕ) (key : ShardRef) (r : Row) → row log key ≡ Some r → MayTake log r → IsTakenSo log c by owner key r
+TakeLaw = (log : Journal) (c by owner : ℕ) (key : ShardRef) (r : Row) → row log key ≡ Some r → MayTake log r
+    → IsTakenSo log c by owner key r
 
 abbrev pub OpenLaw : Type 0
-OpenLaw = (log : Journal) (c d by owner : ℕ) (key : ShardRef) (r : Row) → row log key ≡ Some r → MayOpen (taken_line log d by key r owner ∷ log) c key → IsOpenedSo log c d by owner key r
+OpenLaw = (log : Journal) (c d by owner : ℕ) (key : ShardRef) (r : Row) → row log key ≡ Some r
+    → MayOpen (taken_line log d by key r owner ∷ log) c key → IsOpenedSo log c d by owner key r
 
 abbrev pub BegunLaw : Type 0
-BegunLaw = (log : Journal) (c d by owner : ℕ) (key : ShardRef) (r : Row) → row log key ≡ Some r → Holds (opened_line log d by ∷ taken_line log c by key r owner ∷ log) (begun_from log by key r)
+BegunLaw = (log : Journal) (c d by owner : ℕ) (key : ShardRef) (r : Row) → row log key ≡ Some r
+    → Holds (opened_line log d by ∷ taken_line log c by key r owner ∷ log) (begun_from log by key r)
 
 pub not_last : (n : ℕ) → n < 2 ^ 64 - 1 → (n == last_number) ≡ false
 not_last n below = grind (arith, nat_tests)
@@ -63,68 +68,115 @@ end_same ShardEnd = refl
 
 module _ (w : Spot) (at : ℕ) (spot : IsSpot w at) (laws : HasLaws w.history (clock_at w at)) where
   -- what is left from a place on
-  pub left_is : (p : ℕ) → left_of (journal w.history) (clock_at w at) w.key p ≡ from p (records_of (journal w.history) w.key)
+  pub left_is : (p : ℕ) → left_of (journal w.history) (clock_at w at) w.key p
+      ≡ from p (records_of (journal w.history) w.key)
   left_is p =
-      ap (λ b. if b then left_among (trim_floor (journal w.history) (clock_at w at) w.key.stream) p (records_of (journal w.history) w.key) else []) (key_is w at spot laws).live
-      ∙ left_all (trim_floor (journal w.history) (clock_at w at) w.key.stream) p (records_of (journal w.history) w.key) ((whole_is w at spot laws).above w.key.shard)
+      ap (λ b. if b then left_among (trim_floor (journal w.history) (clock_at w at) w.key.stream) p
+      (records_of (journal w.history) w.key) else []) (key_is w at spot laws).live
+      ∙ left_all (trim_floor (journal w.history) (clock_at w at) w.key.stream) p (records_of (journal w.history) w.key)
+      ((whole_is w at spot laws).above w.key.shard)
 
   pub up : IsUp (start_of (shard_of (journal w.history) w.key)) (records_of (journal w.history) w.key)
   up = up_rising _ _ _ (laws.drawn w.key.stream w.key.shard)
 
   -- ---- taken
 
-  seen_row : (now : Journal) (r : Row) → AreDrainedTo w.history w.keys w.among w.index now → row_in w.among w.key ≡ Some r → (row now w.key ≡ Some r) × IsFresh w.history w.key r
+  seen_row : (now : Journal) (r : Row) → AreDrainedTo w.history w.keys w.among w.index now
+      → row_in w.among w.key ≡ Some r → (row now w.key ≡ Some r) × IsFresh w.history w.key r
   seen_row now r drained seen =
       let f = drained.waits w.index w.key (omega arith) spot.here in
       let e : f.now ≡ r = same_some f.now r (sym f.seen ∙ seen) in
       (f.there ∙ ap Some e, subst (IsFresh w.history w.key) e f.fresh)
 
-  pub taken : (stands stands' : List Turn → Type 0) (by counter : ℕ) (key : ShardRef) (r : Row) (a : Result Reply Refusal) → TakeLaw → at < 2 ^ 62 → w.key ≡ key → r.counter ≡ counter → row_in w.among w.key ≡ Some r → is_end r.checkpoint ≡ false
+  pub taken : (stands stands' : List Turn → Type 0) (by counter : ℕ) (key : ShardRef) (r : Row)
+      (a : Result Reply Refusal) → TakeLaw → at < 2 ^ 62 → w.key ≡ key → r.counter ≡ counter
+      → row_in w.among w.key ≡ Some r → is_end r.checkpoint ≡ false
       → (l : Leads stands by at w.history (AreDrainedTo w.history w.keys w.among w.index))
       → Answered stands stands' (turn_of by at (command.Take key counter 1)) a
-      → (t n : ℕ) × (a ≡ Ok (reply.Taken t n r.checkpoint)) × Leads stands' by at w.history (IsTaken w by r (record { tenure = t; place = first_place r.checkpoint; counter = n }))
+      → (t n : ℕ) × (a ≡ Ok (reply.Taken t n r.checkpoint))
+      × Leads stands' by at w.history
+      (IsTaken w by r (record { tenure = t; place = first_place r.checkpoint; counter = n }))
   taken stands stands' by counter key r a law below same_k same_n seen going l answers =
       let now = journal (l.more ++ w.history) in
       let f = seen_row now r l.so seen in
-      let may : MayTake now r = (going, not_last r.counter (omega (arith, f.1.few, spot.can.few)), not_last (taken_count now) (omega (arith, l.so.few, spot.can.few, spot.few))) in
+      let may : MayTake now r = (
+        going,
+        not_last r.counter (omega (arith, f.1.few, spot.can.few)),
+        not_last (taken_count now) (omega (arith, l.so.few, spot.can.few, spot.few)),
+      ) in
       let asked = subst (λ n. Answered stands stands' (turn_of by at (command.Take key n 1)) a) (sym same_n) answers in
-      let asked' = subst (λ k. Answered stands stands' (turn_of by at (command.Take k r.counter 1)) a) (sym same_k) asked in
-      let held : DrainTenure = record { tenure = taken_count now + 1; place = first_place r.checkpoint; counter = r.counter + 1 } in
-      let one = led stands stands' by at w.history (command.Take w.key r.counter 1) a (AreDrainedTo w.history w.keys w.among w.index) (IsTaken w by r held) (Accepted (taken_line now (clock_at w at) by w.key r 1 ∷ []) (reply.Taken (taken_count now + 1) (r.counter + 1) r.checkpoint)) refl (below, omega arith) asked' l
+      let asked' = subst (λ k. Answered stands stands' (turn_of by at (command.Take k r.counter 1)) a) (sym same_k)
+      asked in
+      let held : DrainTenure =
+      record { tenure = taken_count now + 1; place = first_place r.checkpoint; counter = r.counter + 1 } in
+      let one = led stands stands' by at w.history (command.Take w.key r.counter 1) a
+      (AreDrainedTo w.history w.keys w.among w.index) (IsTaken w by r held)
+      (Accepted (taken_line now (clock_at w at) by w.key r 1 ∷ [])
+      (reply.Taken (taken_count now + 1) (r.counter + 1) r.checkpoint)) refl (below, omega arith) asked' l
       (law now (clock_at w at) by 1 w.key r f.0 may)
-      (record { before = now; clock = clock_at w at; is = refl; there = f.0; drained = l.so; number = refl; counter = refl; place = refl; fresh = f.1 }) in
+      (record {
+        before = now;
+        clock = clock_at w at;
+        is = refl;
+        there = f.0;
+        drained = l.so;
+        number = refl;
+        counter = refl;
+        place = refl;
+        fresh = f.1;
+      }) in
       (taken_count now + 1, r.counter + 1, one.0, one.1)
 
   -- a row at the end of its shard is drained
-  ends_so : (floor : ℕ) (cp : Checkpoint) → is_end cp ≡ true → IsStart (shard_of (journal w.history) w.key) (records_of (journal w.history) w.key) floor cp → final_of (journal w.history) w.key ≡ cp
+  ends_so : (floor : ℕ) (cp : Checkpoint) → is_end cp ≡ true
+      → IsStart (shard_of (journal w.history) w.key) (records_of (journal w.history) w.key) floor cp
+      → final_of (journal w.history) w.key ≡ cp
   ends_so floor TrimHorizon ends is = absurd cc
   ends_so floor (At q) ends is = absurd cc
-  ends_so floor ShardEnd ends is = ap (λ b. if b then ShardEnd else last_checkpoint (records_of (journal w.history) w.key)) is
+  ends_so floor ShardEnd ends is =
+      ap (λ b. if b then ShardEnd else last_checkpoint (records_of (journal w.history) w.key)) is
 
-  pub at_end : (stands : List Turn → Type 0) (by : ℕ) (r : Row) → row_in w.among w.key ≡ Some r → is_end r.checkpoint ≡ true → Leads stands by at w.history (AreDrainedTo w.history w.keys w.among w.index) → IsDrainedHere stands w by at
-  at_end stands by r seen ends l = so_too stands by at w.history (AreDrainedTo w.history w.keys w.among w.index) (AreDrainedTo w.history w.keys w.among (w.index + 1)) l (λ drained. one (journal (l.more ++ w.history)) drained)
+  pub at_end : (stands : List Turn → Type 0) (by : ℕ) (r : Row) → row_in w.among w.key ≡ Some r
+      → is_end r.checkpoint ≡ true → Leads stands by at w.history (AreDrainedTo w.history w.keys w.among w.index)
+      → IsDrainedHere stands w by at
+  at_end stands by r seen ends l =
+      so_too stands by at w.history (AreDrainedTo w.history w.keys w.among w.index)
+      (AreDrainedTo w.history w.keys w.among (w.index + 1)) l (λ drained. one (journal (l.more ++ w.history)) drained)
     where
-      one : (now : Journal) → AreDrainedTo w.history w.keys w.among w.index now → AreDrainedTo w.history w.keys w.among (w.index + 1) now
+      one : (now : Journal) → AreDrainedTo w.history w.keys w.among w.index now
+          → AreDrainedTo w.history w.keys w.among (w.index + 1) now
       one now drained =
           let f = seen_row now r drained seen in
           one_more w at spot laws now (none_yet w at spot laws now drained)
-          (ap (option_map (λ (x : Row). x.checkpoint)) f.0 ∙ ap Some (sym (ends_so r.floor r.checkpoint ends f.1.start)))
+          (ap (option_map (λ (x : Row). x.checkpoint)) f.0
+          ∙ ap Some (sym (ends_so r.floor r.checkpoint ends f.1.start)))
 
   -- ---- opened
 
-  stays : (before : Journal) (d by : ℕ) (r : Row) (key : ShardRef) → same_key w.key key ≡ false → row (taken_line before d by w.key r 1 ∷ before) key ≡ row before key
-  stays before d by r key other = ap (λ b. if b then option_map (taken_row (taken_count before + 1) 1) (row before key) else row before key) other
+  stays : (before : Journal) (d by : ℕ) (r : Row) (key : ShardRef) → same_key w.key key ≡ false
+      → row (taken_line before d by w.key r 1 ∷ before) key ≡ row before key
+  stays before d by r key other =
+      ap (λ b. if b then option_map (taken_row (taken_count before + 1) 1) (row before key) else row before key) other
 
-  done_yet : (before : Journal) (d by : ℕ) (r : Row) → AreDrainedTo w.history w.keys w.among w.index before → (j : ℕ) (key : ShardRef) → j < w.index → slice_get w.keys j ≡ Some key → IsDone w.history key (row (taken_line before d by w.key r 1 ∷ before) key)
+  done_yet : (before : Journal) (d by : ℕ) (r : Row) → AreDrainedTo w.history w.keys w.among w.index before
+      → (j : ℕ) (key : ShardRef) → j < w.index → slice_get w.keys j ≡ Some key
+      → IsDone w.history key (row (taken_line before d by w.key r 1 ∷ before) key)
   done_yet before d by r drained j key lt is =
-      subst (IsDone w.history key) (sym (stays before d by r key (apart w at spot laws j key is (inl lt)))) (drained.done j key lt is)
+      subst (IsDone w.history key) (sym (stays before d by r key (apart w at spot laws j key is (inl lt))))
+      (drained.done j key lt is)
 
-  waits_yet : (before : Journal) (d by : ℕ) (r : Row) → AreDrainedTo w.history w.keys w.among w.index before → OthersWait w (opened_line before (clock_at w at) by ∷ taken_line before d by w.key r 1 ∷ before)
+  waits_yet : (before : Journal) (d by : ℕ) (r : Row) → AreDrainedTo w.history w.keys w.among w.index before
+      → OthersWait w (opened_line before (clock_at w at) by ∷ taken_line before d by w.key r 1 ∷ before)
   waits_yet before d by r drained = record {
     done = done_yet before d by r drained;
     waits = λ j key above is.
         let f = drained.waits j key (omega (arith, above)) is in
-        record { now = f.now; there = stays before d by r key (apart w at spot laws j key is (inr above)) ∙ f.there; seen = f.seen; fresh = f.fresh };
+        record {
+          now = f.now;
+          there = stays before d by r key (apart w at spot laws j key is (inr above)) ∙ f.there;
+          seen = f.seen;
+          fresh = f.fresh;
+        };
     few = omega (arith, drained.few);
   }
 
@@ -139,10 +191,12 @@ module _ (w : Spot) (at : ℕ) (spot : IsSpot w at) (laws : HasLaws w.history (c
 
   record Begins (floor : ℕ) (cp : Checkpoint) : Type 0 where
     place : place_of cp ≡ first_place cp
-    settled : left_of (journal w.history) (clock_at w at) w.key (place_of cp) ≡ [] → cp ≡ last_checkpoint (records_of (journal w.history) w.key)
+    settled : left_of (journal w.history) (clock_at w at) w.key (place_of cp) ≡ []
+        → cp ≡ last_checkpoint (records_of (journal w.history) w.key)
     low : least cp floor ≤ max (place_of cp) (start_of (shard_of (journal w.history) w.key))
 
-  begins : (floor : ℕ) (cp : Checkpoint) → is_end cp ≡ false → IsStart (shard_of (journal w.history) w.key) (records_of (journal w.history) w.key) floor cp → Begins floor cp
+  begins : (floor : ℕ) (cp : Checkpoint) → is_end cp ≡ false
+      → IsStart (shard_of (journal w.history) w.key) (records_of (journal w.history) w.key) floor cp → Begins floor cp
   begins floor TrimHorizon going is = record {
     place = refl;
     settled = λ none. settled_horizon _ (records_of (journal w.history) w.key) up (sym (left_is 0) ∙ none);
@@ -160,7 +214,8 @@ module _ (w : Spot) (at : ℕ) (spot : IsSpot w at) (laws : HasLaws w.history (c
       small q n lt le = omega (arith, lt, le)
   begins floor ShardEnd going is = absurd cc
 
-  pub opened : (stands stands' : List Turn → Type 0) (by : ℕ) (r : Row) (held : DrainTenure) (a : Result Reply Refusal) → OpenLaw → BegunLaw → at < 2 ^ 62 → is_end r.checkpoint ≡ false
+  pub opened : (stands stands' : List Turn → Type 0) (by : ℕ) (r : Row) (held : DrainTenure) (a : Result Reply Refusal)
+      → OpenLaw → BegunLaw → at < 2 ^ 62 → is_end r.checkpoint ≡ false
       → (l : Leads stands by at w.history (IsTaken w by r held))
       → Answered stands stands' (turn_of by at (command.OpenShard held.tenure)) a
       → ReadsOn stands' w by at held
@@ -172,12 +227,21 @@ module _ (w : Spot) (at : ℕ) (spot : IsSpot w at) (laws : HasLaws w.history (c
       let took = taken_line before t.clock by w.key r 1 ∷ before in
       let x : Holding = begun_from before by w.key r in
       let there = subst (IsOver w.history c) t.is (over stands by at w.history (IsTaken w by r held) laws l) in
-      let may : MayOpen took c w.key = (listed w at spot laws took there, past w at spot laws took there (done_yet before t.clock by r t.drained)) in
+      let may : MayOpen took c w.key =
+      (listed w at spot laws took there, past w at spot laws took there (done_yet before t.clock by r t.drained)) in
       let opens = law before c t.clock by 1 w.key r t.there may in
       let decided : open_shard now c by held.tenure ≡ Accepted (opened_line before c by ∷ []) reply.Done =
-      ap (λ n. open_shard now c by n) t.number ∙ ap (λ log. open_shard log c by (taken_count before + 1)) t.is ∙ opens in
-      let stands_so : Stands w by x (opened_line before c by ∷ took) = record { others = waits_yet before t.clock by r t.drained; holds = begun before t.clock c by 1 w.key r t.there; own = refl; of_key = refl } in
-      let one = led stands stands' by at w.history (command.OpenShard held.tenure) a (IsTaken w by r held) (Stands w by x) (Accepted (opened_line before c by ∷ []) reply.Done) refl (below, tt) answers l
+      ap (λ n. open_shard now c by n) t.number ∙ ap (λ log. open_shard log c by (taken_count before + 1)) t.is
+      ∙ opens in
+      let stands_so : Stands w by x (opened_line before c by ∷ took) =
+      record {
+        others = waits_yet before t.clock by r t.drained;
+        holds = begun before t.clock c by 1 w.key r t.there;
+        own = refl;
+        of_key = refl;
+      } in
+      let one = led stands stands' by at w.history (command.OpenShard held.tenure) a (IsTaken w by r held)
+      (Stands w by x) (Accepted (opened_line before c by ∷ []) reply.Done) refl (below, tt) answers l
       decided (subst (λ log. Stands w by x (opened_line before c by ∷ log)) (sym t.is) stands_so) in
       let b = begins r.floor r.checkpoint going t.fresh.start in
       let fewer = fewer_from (place_of r.checkpoint) (records_of (journal w.history) w.key) in
@@ -190,7 +254,8 @@ module _ (w : Spot) (at : ℕ) (spot : IsSpot w at) (laws : HasLaws w.history (c
           going = going;
           settled = b.settled;
           low = b.low;
-          budget = within r.counter (length w.history) _ _ (length (records_of (journal w.history) w.key)) t.fresh.few (ap length (left_is (place_of r.checkpoint))) fewer;
+          budget = within r.counter (length w.history) _ _ (length (records_of (journal w.history) w.key)) t.fresh.few
+              (ap length (left_is (place_of r.checkpoint))) fewer;
         };
         is = record { tenure = sym t.number; place = b.place ∙ sym t.place; counter = sym t.counter };
       }

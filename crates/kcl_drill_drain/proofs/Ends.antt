@@ -1,5 +1,6 @@
 -- Once all rows are drained, each listed shard is.
-use Rattle.std.proofs.Common.{◌≡◌, ℕ, zero, suc, max, Bool, true, false, List, [], ◌∷◌, ◌++◌, length, Some, refl, sym, ap, subst, ◌∙◌, arith}
+use Rattle.std.proofs.Common.{◌≡◌, ℕ, zero, suc, max, Bool, true, false, List, [], ◌∷◌, ◌++◌, length, Some, refl, sym}
+use Rattle.std.proofs.Common.{ap, subst, ◌∙◌, arith}
 use Rattle.std.specs.Prelude.{is_none, not, slice_get, if◌then◌else◌}
 use Rattle.std.specs.List.{AllByRecursion}
 use Rattle.std.proofs.lemmas.Option.{slice_get_within}
@@ -24,7 +25,8 @@ use Rattle.kcl_drill_drain.proofs.Leading.{IsOver, over}
 use Rattle.kcl_drill_drain.proofs.Overs.{same_listed}
 use Rattle.kcl_drill_drain.proofs.Spots.{key_there, number_at}
 
-all_of : {A : Type 0} (P : A → Type 0) (xs : List A) → ((i : ℕ) (x : A) → slice_get xs i ≡ Some x → P x) → AllByRecursion P xs
+all_of : {A : Type 0} (P : A → Type 0) (xs : List A) → ((i : ℕ) (x : A) → slice_get xs i ≡ Some x → P x)
+    → AllByRecursion P xs
 all_of P [] each = tt
 all_of P (x ∷ xs) each = (each zero x refl, all_of P xs (λ i y is. each (suc i) y is))
 
@@ -32,8 +34,11 @@ flipped : (b : Bool) (E L : Checkpoint) → (if not b then E else L) ≡ (if b t
 flipped true E L = refl
 flipped false E L = refl
 
-module _ (h : List Turn) (at : ℕ) (among : List Row) (can : CanDrain h at) (laws : HasLaws h (max (clock h) at)) (log : Journal) (is : IsOver h (max (clock h) at) log) (done : AreDrainedTo h (listed_keys h at) among (length (listed_keys h at)) log) where
-  drained_at : (s i : ℕ) (x : ShardState) → is_live (journal h) s ≡ true → slice_get (shards (journal h) s) i ≡ Some x → IsDrained log s x
+module _ (h : List Turn) (at : ℕ) (among : List Row) (can : CanDrain h at) (laws : HasLaws h (max (clock h) at))
+    (log : Journal) (is : IsOver h (max (clock h) at) log)
+    (done : AreDrainedTo h (listed_keys h at) among (length (listed_keys h at)) log) where
+  drained_at : (s i : ℕ) (x : ShardState) → is_live (journal h) s ≡ true → slice_get (shards (journal h) s) i ≡ Some x
+      → IsDrained log s x
   drained_at s i x live there =
       let e = number_at 0 i (shards (journal h) s) x (laws.numbered s) there in
       let no : i ≡ x.no = omega (arith, e) in
@@ -45,17 +50,30 @@ module _ (h : List Turn) (at : ℕ) (among : List Row) (can : CanDrain h at) (la
       ∙ ap Some (flipped (is_none x.closing) ShardEnd (last_checkpoint (records (journal h) s x.no)))
       ∙ ap (λ rs. Some (final_checkpoint x rs)) (sym (is.streams.records s x.no))
 
-  drained_by : (s : ℕ) (b : Bool) → is_live (journal h) s ≡ b → AllByRecursion (IsDrained log s) (listed_shards (journal h) (max (clock h) at) s)
-  drained_by s true live = subst (AllByRecursion (IsDrained log s)) (sym (listed_whole (journal h) (max (clock h) at) s live (can.whole s live))) (all_of (IsDrained log s) (shards (journal h) s) (λ i x there. drained_at s i x live there))
-  drained_by s false gone = subst (AllByRecursion (IsDrained log s)) (sym (ap (λ b. if b then listed_among (trim_floor (journal h) (max (clock h) at) s) (shards (journal h) s) else []) gone)) tt
+  drained_by : (s : ℕ) (b : Bool) → is_live (journal h) s ≡ b
+      → AllByRecursion (IsDrained log s) (listed_shards (journal h) (max (clock h) at) s)
+  drained_by s true live =
+      subst (AllByRecursion (IsDrained log s))
+      (sym (listed_whole (journal h) (max (clock h) at) s live (can.whole s live)))
+      (all_of (IsDrained log s) (shards (journal h) s) (λ i x there. drained_at s i x live there))
+  drained_by s false gone =
+      subst (AllByRecursion (IsDrained log s))
+      (sym (ap (λ b. if b then listed_among (trim_floor (journal h) (max (clock h) at) s)
+      (shards (journal h) s) else []) gone)) tt
 
   all_drained : AreDrained log (max (clock h) at)
-  all_drained s = subst (AllByRecursion (IsDrained log s)) (sym (same_listed h (max (clock h) at) log is s)) (drained_by s (is_live (journal h) s) refl)
+  all_drained s = subst (AllByRecursion (IsDrained log s)) (sym (same_listed h (max (clock h) at) log is s))
+      (drained_by s (is_live (journal h) s) refl)
 
-pub has_drained : (stands : List Turn → Type 0) (by at : ℕ) (h : List Turn) (among : List Row) → CanDrain h at → HasLaws h (max (clock h) at) → Leads stands by at h (AreDrainedTo h (listed_keys h at) among (length (listed_keys h at))) → HasDrained stands by at h
+pub has_drained : (stands : List Turn → Type 0) (by at : ℕ) (h : List Turn) (among : List Row) → CanDrain h at
+    → HasLaws h (max (clock h) at)
+    → Leads stands by at h (AreDrainedTo h (listed_keys h at) among (length (listed_keys h at)))
+    → HasDrained stands by at h
 has_drained stands by at h among can laws l = record {
   more = l.more;
   stands_now = l.stands_now;
   are = l.are;
-  drained = subst (AreDrained (journal (l.more ++ h))) (sym l.late) (all_drained h at among can laws (journal (l.more ++ h)) (over stands by at h (AreDrainedTo h (listed_keys h at) among (length (listed_keys h at))) laws l) l.so);
+  drained = subst (AreDrained (journal (l.more ++ h))) (sym l.late)
+      (all_drained h at among can laws (journal (l.more ++ h))
+      (over stands by at h (AreDrainedTo h (listed_keys h at) among (length (listed_keys h at))) laws l) l.so);
 }

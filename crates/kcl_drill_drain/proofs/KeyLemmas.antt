@@ -1,6 +1,7 @@
--- The listed keys: each is of a made shard, none stands twice, the shards before one in its stream stand before it, and no
--- shard is missing.
-use Rattle.std.proofs.Common.{◌≡◌, ℕ, zero, suc, ◌+◌, ◌<◌, ◌≤◌, Bool, true, false, List, [], ◌∷◌, ◌++◌, length, Some, refl, sym, ap, subst, ◌∙◌, arith, inl, inr}
+-- The listed keys: each is of a made shard, none stands twice, the shards before one in its stream stand before it, and
+-- no shard is missing.
+use Rattle.std.proofs.Common.{◌≡◌, ℕ, zero, suc, ◌+◌, ◌<◌, ◌≤◌, Bool, true, false, List, [], ◌∷◌, ◌++◌, length, Some}
+use Rattle.std.proofs.Common.{refl, sym, ap, subst, ◌∙◌, arith, inl, inr}
 use Rattle.std.specs.Prelude.{◌==◌, ◌⊎◌, cond, not, slice_get, if◌then◌else◌}
 use Rattle.std.specs.List.{AllByRecursion, filter}
 use Rattle.std.proofs.lemmas.Bool.Decides.{nat_tests}
@@ -20,7 +21,8 @@ use Rattle.kcl_drill_drain.specs.Draining.{IsWhole}
 -- ---- places in joined lists
 
 Place : {A : Type 0} → List A → List A → ℕ → A → Type 0
-Place xs ys i x = ((i < length xs) × (slice_get xs i ≡ Some x)) ⊎ ((j : ℕ) × (i ≡ length xs + j) × (slice_get ys j ≡ Some x))
+Place xs ys i x = ((i < length xs) × (slice_get xs i ≡ Some x))
+    ⊎ ((j : ℕ) × (i ≡ length xs + j) × (slice_get ys j ≡ Some x))
 
 place_next : {A : Type 0} (y x : A) (xs ys : List A) (i : ℕ) → Place xs ys i x → Place (y ∷ xs) ys (suc i) x
 unfolding Place
@@ -38,7 +40,8 @@ in_left [] ys i x is = absurd cc
 in_left (y ∷ xs) ys zero x is = is
 in_left (y ∷ xs) ys (suc i) x is = in_left xs ys i x is
 
-in_right : {A : Type 0} (xs ys : List A) (j : ℕ) (x : A) → slice_get ys j ≡ Some x → (i : ℕ) × (i ≡ length xs + j) × (slice_get (xs ++ ys) i ≡ Some x)
+in_right : {A : Type 0} (xs ys : List A) (j : ℕ) (x : A) → slice_get ys j ≡ Some x → (i : ℕ) × (i ≡ length xs + j)
+    × (slice_get (xs ++ ys) i ≡ Some x)
 in_right [] ys j x is = (j, omega arith, is)
 in_right (y ∷ xs) ys j x is = let rest = in_right xs ys j x is in (suc rest.0, omega (arith, rest.1), rest.2)
 
@@ -50,25 +53,36 @@ record IsRef (s n i : ℕ) (xs : List ShardState) (key : ShardRef) : Type 0 wher
   state : ShardState
   there : slice_get xs i ≡ Some state
 
-ref_next : (s n i : ℕ) (x : ShardState) (xs : List ShardState) (key : ShardRef) → IsRef s (n + 1) i xs key → IsRef s n (suc i) (x ∷ xs) key
-ref_next s n i x xs key at = record { stream = at.stream; shard = omega (arith, at.shard); state = at.state; there = at.there }
+ref_next : (s n i : ℕ) (x : ShardState) (xs : List ShardState) (key : ShardRef) → IsRef s (n + 1) i xs key
+    → IsRef s n (suc i) (x ∷ xs) key
+ref_next s n i x xs key at =
+    record { stream = at.stream; shard = omega (arith, at.shard); state = at.state; there = at.there }
 
-ref_at : (s n i : ℕ) (xs : List ShardState) (key : ShardRef) → AreNumbered n xs → slice_get (refs_of s xs) i ≡ Some key → IsRef s n i xs key
+ref_at : (s n i : ℕ) (xs : List ShardState) (key : ShardRef) → AreNumbered n xs → slice_get (refs_of s xs) i ≡ Some key
+    → IsRef s n i xs key
 ref_at s n i [] key numbers is = absurd cc
 ref_at s n zero (x ∷ xs) key numbers is =
     let e = same_some (ref s x.no) key is in
-    record { stream = ap (λ (k : ShardRef). k.stream) (sym e); shard = plus key.shard (ap (λ (k : ShardRef). k.shard) (sym e) ∙ numbers.0); state = x; there = refl }
+    record {
+      stream = ap (λ (k : ShardRef). k.stream) (sym e);
+      shard = plus key.shard (ap (λ (k : ShardRef). k.shard) (sym e) ∙ numbers.0);
+      state = x;
+      there = refl;
+    }
   where
     plus : (m : ℕ) → m ≡ n → m ≡ n + 0
     plus m is = omega (arith, is)
 ref_at s n (suc i) (x ∷ xs) key numbers is = ref_next s n i x xs key (ref_at s (n + 1) i xs key numbers.1 is)
 
-at_ref : (s n i : ℕ) (xs : List ShardState) (x : ShardState) → AreNumbered n xs → slice_get xs i ≡ Some x → slice_get (refs_of s xs) i ≡ Some (ref s (n + i))
+at_ref : (s n i : ℕ) (xs : List ShardState) (x : ShardState) → AreNumbered n xs → slice_get xs i ≡ Some x
+    → slice_get (refs_of s xs) i ≡ Some (ref s (n + i))
 at_ref s n i [] x numbers is = absurd cc
 at_ref s n zero (y ∷ xs) x numbers is = let e : y.no ≡ n + 0 = omega (arith, numbers.0) in ap (λ m. Some (ref s m)) e
-at_ref s n (suc i) (y ∷ xs) x numbers is = let e : n + 1 + i ≡ n + suc i = omega arith in at_ref s (n + 1) i xs x numbers.1 is ∙ ap (λ m. Some (ref s m)) e
+at_ref s n (suc i) (y ∷ xs) x numbers is = let e : n + 1 + i ≡ n + suc i = omega arith in
+    at_ref s (n + 1) i xs x numbers.1 is ∙ ap (λ m. Some (ref s m)) e
 
-below_there : (p i : ℕ) (xs : List ShardState) (x : ShardState) → p < i → slice_get xs i ≡ Some x → (y : ShardState) × (slice_get xs p ≡ Some y)
+below_there : (p i : ℕ) (xs : List ShardState) (x : ShardState) → p < i → slice_get xs i ≡ Some x → (y : ShardState)
+    × (slice_get xs p ≡ Some y)
 below_there p i [] x below is = absurd cc
 below_there p zero (y ∷ xs) x below is = absurd (omega (arith, below))
 below_there zero (suc i) (y ∷ xs) x below is = (y, refl)
@@ -83,19 +97,25 @@ keys_in log (s ∷ ss) = refs_of s (shards log s) ++ keys_in log ss
 abbrev pub AreLive : Journal → List ℕ → Type 0
 AreLive log ss = AllByRecursion (λ s. is_live log s ≡ true) ss
 
-all_listed : (floor : ℕ) (xs : List ShardState) → AllByRecursion (λ (x : ShardState). is_closed_below floor x ≡ false) xs → listed_among floor xs ≡ xs
+all_listed : (floor : ℕ) (xs : List ShardState)
+    → AllByRecursion (λ (x : ShardState). is_closed_below floor x ≡ false) xs → listed_among floor xs ≡ xs
 all_listed floor [] are = refl
 all_listed floor (x ∷ xs) are =
-    ap (λ b. cond (not b) (x ∷ listed_among floor xs) (listed_among floor xs)) are.0 ∙ ap (λ ys. x ∷ ys) (all_listed floor xs are.1)
+    ap (λ b. cond (not b) (x ∷ listed_among floor xs) (listed_among floor xs)) are.0
+    ∙ ap (λ ys. x ∷ ys) (all_listed floor xs are.1)
 
-pub listed_whole : (log : Journal) (c s : ℕ) → is_live log s ≡ true → IsWhole log c s → listed_shards log c s ≡ shards log s
+pub listed_whole : (log : Journal) (c s : ℕ) → is_live log s ≡ true → IsWhole log c s
+    → listed_shards log c s ≡ shards log s
 listed_whole log c s live whole =
-    ap (λ b. if b then listed_among (trim_floor log c s) (shards log s) else []) live ∙ all_listed (trim_floor log c s) (shards log s) whole.listed
+    ap (λ b. if b then listed_among (trim_floor log c s) (shards log s) else []) live
+    ∙ all_listed (trim_floor log c s) (shards log s) whole.listed
 
-pub keys_same : (log : Journal) (c : ℕ) (ss : List ℕ) → ((s : ℕ) → is_live log s ≡ true → IsWhole log c s) → AreLive log ss → listed_in log c ss ≡ keys_in log ss
+pub keys_same : (log : Journal) (c : ℕ) (ss : List ℕ) → ((s : ℕ) → is_live log s ≡ true → IsWhole log c s)
+    → AreLive log ss → listed_in log c ss ≡ keys_in log ss
 keys_same log c [] whole live = refl
 keys_same log c (s ∷ ss) whole live =
-    ap (λ xs. refs_of s xs ++ listed_in log c ss) (listed_whole log c s live.0 (whole s live.0)) ∙ ap (λ ks. refs_of s (shards log s) ++ ks) (keys_same log c ss whole live.1)
+    ap (λ xs. refs_of s xs ++ listed_in log c ss) (listed_whole log c s live.0 (whole s live.0))
+    ∙ ap (λ ks. refs_of s (shards log s) ++ ks) (keys_same log c ss whole live.1)
 
 pub filtered : (p : ℕ → Bool) (ns : List ℕ) → AllByRecursion (λ n. p n ≡ true) (filter p ns)
 filtered p [] = tt
@@ -128,49 +148,71 @@ module _ (log : Journal) (numbered : (s : ℕ) → AreNumbered 0 (shards log s))
         there = ap (λ t. shard_at log t key.shard) at.stream ∙ ap (shard_at log s) i_is ∙ at.there;
       }
 
-  pub key_of_streams : (ss : List ℕ) (i : ℕ) (key : ShardRef) → AreLive log ss → slice_get (keys_in log ss) i ≡ Some key → IsKeyOf log key
+  pub key_of_streams : (ss : List ℕ) (i : ℕ) (key : ShardRef) → AreLive log ss → slice_get (keys_in log ss) i ≡ Some key
+      → IsKeyOf log key
   unfolding Place
   key_of_streams [] i key live is = absurd cc
-  key_of_streams (s ∷ ss) i key live is = either (λ j there. key_of_streams ss j key live.1 there) (place (refs_of s (shards log s)) (keys_in log ss) i key is)
+  key_of_streams (s ∷ ss) i key live is =
+      either (λ j there. key_of_streams ss j key live.1 there)
+      (place (refs_of s (shards log s)) (keys_in log ss) i key is)
     where
-      either : ((j : ℕ) → slice_get (keys_in log ss) j ≡ Some key → IsKeyOf log key) → Place (refs_of s (shards log s)) (keys_in log ss) i key → IsKeyOf log key
+      either : ((j : ℕ) → slice_get (keys_in log ss) j ≡ Some key → IsKeyOf log key)
+          → Place (refs_of s (shards log s)) (keys_in log ss) i key → IsKeyOf log key
       either later (inl at) = of_ref s i key live.0 (ref_at s 0 i (shards log s) key (numbered s) at.1)
       either later (inr at) = later at.0 at.2
 
-  from_streams : (ss : List ℕ) (n i : ℕ) (key : ShardRef) → RiseFrom n ss → slice_get (keys_in log ss) i ≡ Some key → n ≤ key.stream
+  from_streams : (ss : List ℕ) (n i : ℕ) (key : ShardRef) → RiseFrom n ss → slice_get (keys_in log ss) i ≡ Some key
+      → n ≤ key.stream
   unfolding Place
   from_streams [] n i key up is = absurd cc
-  from_streams (s ∷ ss) n i key up is = either up.0 (λ j there. from_streams ss (s + 1) j key up.1 there) (place (refs_of s (shards log s)) (keys_in log ss) i key is)
+  from_streams (s ∷ ss) n i key up is =
+      either up.0 (λ j there. from_streams ss (s + 1) j key up.1 there)
+      (place (refs_of s (shards log s)) (keys_in log ss) i key is)
     where
-      either : n ≤ s → ((j : ℕ) → slice_get (keys_in log ss) j ≡ Some key → s + 1 ≤ key.stream) → Place (refs_of s (shards log s)) (keys_in log ss) i key → n ≤ key.stream
-      either le later (inl at) = let e = (ref_at s 0 i (shards log s) key (numbered s) at.1).stream in omega (arith, le, e)
+      either : n ≤ s → ((j : ℕ) → slice_get (keys_in log ss) j ≡ Some key → s + 1 ≤ key.stream)
+          → Place (refs_of s (shards log s)) (keys_in log ss) i key → n ≤ key.stream
+      either le later (inl at) = let e = (ref_at s 0 i (shards log s) key (numbered s) at.1).stream in
+          omega (arith, le, e)
       either le later (inr at) = let m = later at.0 at.2 in omega (arith, le, m)
 
   -- the shards before it in its stream stand before it
-  pub older_in : (ss : List ℕ) (i p : ℕ) (key : ShardRef) → p < key.shard → slice_get (keys_in log ss) i ≡ Some key → (j : ℕ) × (j < i) × (slice_get (keys_in log ss) j ≡ Some (ref key.stream p))
+  pub older_in : (ss : List ℕ) (i p : ℕ) (key : ShardRef) → p < key.shard → slice_get (keys_in log ss) i ≡ Some key
+      → (j : ℕ) × (j < i) × (slice_get (keys_in log ss) j ≡ Some (ref key.stream p))
   unfolding Place
   older_in [] i p key below is = absurd cc
-  older_in (s ∷ ss) i p key below is = either (λ j there. older_in ss j p key below there) (place (refs_of s (shards log s)) (keys_in log ss) i key is)
+  older_in (s ∷ ss) i p key below is =
+      either (λ j there. older_in ss j p key below there) (place (refs_of s (shards log s)) (keys_in log ss) i key is)
     where
-      either : ((k : ℕ) → slice_get (keys_in log ss) k ≡ Some key → (j : ℕ) × (j < k) × (slice_get (keys_in log ss) j ≡ Some (ref key.stream p))) → Place (refs_of s (shards log s)) (keys_in log ss) i key → (j : ℕ) × (j < i) × (slice_get (keys_in log (s ∷ ss)) j ≡ Some (ref key.stream p))
+      either : ((k : ℕ) → slice_get (keys_in log ss) k ≡ Some key → (j : ℕ) × (j < k)
+          × (slice_get (keys_in log ss) j ≡ Some (ref key.stream p)))
+          → Place (refs_of s (shards log s)) (keys_in log ss) i key → (j : ℕ) × (j < i)
+          × (slice_get (keys_in log (s ∷ ss)) j ≡ Some (ref key.stream p))
       either later (inl at) =
           let r = ref_at s 0 i (shards log s) key (numbered s) at.1 in
           let below' : p < i = omega (arith, below, r.shard) in
           let y = below_there p i (shards log s) r.state below' r.there in
           let e : 0 + p ≡ p = omega arith in
-          let at_p = at_ref s 0 p (shards log s) y.0 (numbered s) y.1 ∙ ap (λ m. Some (ref s m)) e in
-          (p, below', in_left (refs_of s (shards log s)) (keys_in log ss) p (ref s p) at_p ∙ ap (λ t. Some (ref t p)) (sym r.stream))
+          let at_p = at_ref s 0 p (shards log s) y.0 (numbered s) y.1 ∙ ap (λ m. Some (ref s m)) e in (
+            p,
+            below',
+            in_left (refs_of s (shards log s)) (keys_in log ss) p (ref s p) at_p
+                ∙ ap (λ t. Some (ref t p)) (sym r.stream),
+          )
       either later (inr at) =
           let rest = later at.0 at.2 in
           let here = in_right (refs_of s (shards log s)) (keys_in log ss) rest.0 (ref key.stream p) rest.2 in
           (here.0, omega (arith, here.1, at.1, rest.1), here.2)
 
   -- no key stands twice
-  pub unlike_in : (ss : List ℕ) (n i j : ℕ) (a b : ShardRef) → RiseFrom n ss → i < j → slice_get (keys_in log ss) i ≡ Some a
+  pub unlike_in : (ss : List ℕ) (n i j : ℕ) (a b : ShardRef) → RiseFrom n ss → i < j
+      → slice_get (keys_in log ss) i ≡ Some a
       → slice_get (keys_in log ss) j ≡ Some b → (same_key a b ≡ false) × (same_key b a ≡ false)
   unfolding Place
   unlike_in [] n i j a b up below is is' = absurd cc
-  unlike_in (s ∷ ss) n i j a b up below is is' = either (λ p q lt there there'. unlike_in ss (s + 1) p q a b up.1 lt there there') (λ q there'. from_streams ss (s + 1) q b up.1 there') (place (refs_of s (shards log s)) (keys_in log ss) i a is) (place (refs_of s (shards log s)) (keys_in log ss) j b is')
+  unlike_in (s ∷ ss) n i j a b up below is is' =
+      either (λ p q lt there there'. unlike_in ss (s + 1) p q a b up.1 lt there there')
+      (λ q there'. from_streams ss (s + 1) q b up.1 there') (place (refs_of s (shards log s)) (keys_in log ss) i a is)
+      (place (refs_of s (shards log s)) (keys_in log ss) j b is')
     where
       other_shard : (p q m k : ℕ) → m ≡ 0 + p → k ≡ 0 + q → p < q → ((m == k) ≡ false) × ((k == m) ≡ false)
       other_shard p q m k e e' lt = (grind (arith, nat_tests), grind (arith, nat_tests))
@@ -178,13 +220,23 @@ module _ (log : Journal) (numbered : (s : ℕ) → AreNumbered 0 (shards log s))
       other_stream : (m k : ℕ) → m ≡ s → s + 1 ≤ k → ((m == k) ≡ false) × ((k == m) ≡ false)
       other_stream m k e lt = (grind (arith, nat_tests), grind (arith, nat_tests))
 
-      either : ((p q : ℕ) → p < q → slice_get (keys_in log ss) p ≡ Some a → slice_get (keys_in log ss) q ≡ Some b → (same_key a b ≡ false) × (same_key b a ≡ false)) → ((q : ℕ) → slice_get (keys_in log ss) q ≡ Some b → s + 1 ≤ b.stream) → Place (refs_of s (shards log s)) (keys_in log ss) i a → Place (refs_of s (shards log s)) (keys_in log ss) j b → (same_key a b ≡ false) × (same_key b a ≡ false)
+      either : ((p q : ℕ) → p < q → slice_get (keys_in log ss) p ≡ Some a → slice_get (keys_in log ss) q ≡ Some b
+          → (same_key a b ≡ false) × (same_key b a ≡ false))
+          → ((q : ℕ) → slice_get (keys_in log ss) q ≡ Some b → s + 1 ≤ b.stream)
+          → Place (refs_of s (shards log s)) (keys_in log ss) i a
+          → Place (refs_of s (shards log s)) (keys_in log ss) j b → (same_key a b ≡ false) × (same_key b a ≡ false)
       either later high (inl at) (inl at') =
-          let e = other_shard i j a.shard b.shard (ref_at s 0 i (shards log s) a (numbered s) at.1).shard (ref_at s 0 j (shards log s) b (numbered s) at'.1).shard below in
-          (and_right (a.stream == b.stream) (a.shard == b.shard) e.0, and_right (b.stream == a.stream) (b.shard == a.shard) e.1)
+          let e = other_shard i j a.shard b.shard (ref_at s 0 i (shards log s) a (numbered s) at.1).shard
+          (ref_at s 0 j (shards log s) b (numbered s) at'.1).shard below in (
+            and_right (a.stream == b.stream) (a.shard == b.shard) e.0,
+            and_right (b.stream == a.stream) (b.shard == a.shard) e.1,
+          )
       either later high (inl at) (inr at') =
-          let e = other_stream a.stream b.stream (ref_at s 0 i (shards log s) a (numbered s) at.1).stream (high at'.0 at'.2) in
-          (and_left (a.stream == b.stream) (a.shard == b.shard) e.0, and_left (b.stream == a.stream) (b.shard == a.shard) e.1)
+          let e = other_stream a.stream b.stream (ref_at s 0 i (shards log s) a (numbered s) at.1).stream
+          (high at'.0 at'.2) in (
+            and_left (a.stream == b.stream) (a.shard == b.shard) e.0,
+            and_left (b.stream == a.stream) (b.shard == a.shard) e.1,
+          )
       either later high (inr at) (inl at') = absurd (omega (arith, at.1, at'.0, below))
       either later high (inr at) (inr at') = later at.0 at'.0 (omega (arith, at.1, at'.1, below)) at.2 at'.2
 
@@ -194,22 +246,29 @@ module _ (log : Journal) (numbered : (s : ℕ) → AreNumbered 0 (shards log s))
   IsIn s [] = ⊥
   IsIn s (t ∷ ss) = (t ≡ s) ⊎ IsIn s ss
 
-  pub all_in : (ss : List ℕ) (s sh : ℕ) (x : ShardState) → IsIn s ss → slice_get (shards log s) sh ≡ Some x → (j : ℕ) × (slice_get (keys_in log ss) j ≡ Some (ref s sh))
+  pub all_in : (ss : List ℕ) (s sh : ℕ) (x : ShardState) → IsIn s ss → slice_get (shards log s) sh ≡ Some x
+      → (j : ℕ) × (slice_get (keys_in log ss) j ≡ Some (ref s sh))
   unfolding IsIn
   all_in [] s sh x among is = absurd among
   all_in (t ∷ ss) s sh x (inl e) is =
       let there = ap (λ u. slice_get (shards log u) sh) e ∙ is in
-      let m : 0 + sh ≡ sh = omega arith in
-      (sh, in_left (refs_of t (shards log t)) (keys_in log ss) sh (ref t sh) (at_ref t 0 sh (shards log t) x (numbered t) there ∙ ap (λ n. Some (ref t n)) m) ∙ ap (λ u. Some (ref u sh)) e)
+      let m : 0 + sh ≡ sh = omega arith in (
+        sh,
+        in_left (refs_of t (shards log t)) (keys_in log ss) sh (ref t sh)
+            (at_ref t 0 sh (shards log t) x (numbered t) there ∙ ap (λ n. Some (ref t n)) m)
+            ∙ ap (λ u. Some (ref u sh)) e,
+      )
   all_in (t ∷ ss) s sh x (inr among) is =
       let rest = all_in ss s sh x among is in
       let here = in_right (refs_of t (shards log t)) (keys_in log ss) rest.0 (ref s sh) rest.1 in
       (here.0, here.2)
 
-  pub in_numbers : (n count s : ℕ) → is_live log s ≡ true → n ≤ s → s < n + count → IsIn s (filter (is_live log) (numbers_from n count))
+  pub in_numbers : (n count s : ℕ) → is_live log s ≡ true → n ≤ s → s < n + count
+      → IsIn s (filter (is_live log) (numbers_from n count))
   unfolding IsIn
   in_numbers n zero s live le lt = absurd (omega (arith, le, lt))
-  in_numbers n (suc count) s live le lt = either (λ high. in_numbers (n + 1) count s live high (omega (arith, lt))) (n == s) refl
+  in_numbers n (suc count) s live le lt =
+      either (λ high. in_numbers (n + 1) count s live high (omega (arith, lt))) (n == s) refl
     where
       rest : List ℕ
       rest = filter (is_live log) (numbers_from (n + 1) count)
@@ -222,5 +281,6 @@ module _ (log : Journal) (numbered : (s : ℕ) → AreNumbered 0 (shards log s))
       above h = grind (arith, nat_tests)
 
       either : (n + 1 ≤ s → IsIn s rest) → (b : Bool) → (n == s) ≡ b → IsIn s (cond (is_live log n) (n ∷ rest) rest)
-      either later true same = let e = equal_so n s same in subst (λ d. IsIn s (cond d (n ∷ rest) rest)) (sym (ap (is_live log) e ∙ live)) (inl e)
+      either later true same = let e = equal_so n s same in
+          subst (λ d. IsIn s (cond d (n ∷ rest) rest)) (sym (ap (is_live log) e ∙ live)) (inl e)
       either later false other = skip (is_live log n) (later (above other))

@@ -22,11 +22,14 @@ use Rattle.kds_defs.specs.Shards.{start_of}
 use Rattle.kcl_laws.proofs.Trims.{made_number}
 
 -- a row stands at its shard's end where the shard is closed
-pub ended_closed : (log : Journal) → IsLegal log → (c : ℕ) → last_clock log ≤ c → (key : ShardRef) (r : Row) → row log key ≡ Some r → r.checkpoint ≡ ShardEnd → is_closed_at (shard_of log key) ≡ true
-ended_closed log legal c le key r there is = (subst (CheckpointOk log c key r.floor) is ((all_ok log legal c le).rows key r there).covered).0
+pub ended_closed : (log : Journal) → IsLegal log → (c : ℕ) → last_clock log ≤ c → (key : ShardRef) (r : Row)
+    → row log key ≡ Some r → r.checkpoint ≡ ShardEnd → is_closed_at (shard_of log key) ≡ true
+ended_closed log legal c le key r there is =
+    (subst (CheckpointOk log c key r.floor) is ((all_ok log legal c le).rows key r there).covered).0
 
 -- a row from the trim horizon stands so
-pub starts : (log : Journal) (key : ShardRef) (floor : ℕ) (at : Checkpoint) → floor ≡ start_of (shard_of log key) → ((q : ℕ) → at ≡ At q → HasFrom q (records_of log key)) → (at ≡ ShardEnd → is_closed_at (shard_of log key) ≡ true)
+pub starts : (log : Journal) (key : ShardRef) (floor : ℕ) (at : Checkpoint) → floor ≡ start_of (shard_of log key)
+    → ((q : ℕ) → at ≡ At q → HasFrom q (records_of log key)) → (at ≡ ShardEnd → is_closed_at (shard_of log key) ≡ true)
     → IsStart (shard_of log key) (records_of log key) floor at
 starts log key floor TrimHorizon first reached ended = first
 starts log key floor (At q) first reached ended = reached q refl
@@ -34,18 +37,24 @@ starts log key floor ShardEnd first reached ended = ended refl
 
 -- ---- streams are numbered from 1
 
-live_by : (log : Journal) (line : Line) (e : Entry) (reply : Reply) (s : ℕ) → line.what ≡ e → told log line e ≡ Accepted (line ∷ []) reply → (is_live log s ≡ true → (1 ≤ s) × (s ≤ made_count log)) → is_live_after e s (is_live log s) ≡ true → (1 ≤ s) × (s ≤ made_count_after e (made_count log))
-live_by log line (entry.Made stream name count) reply s is h before live = either (stream == s) (is_live log s) refl live before
+live_by : (log : Journal) (line : Line) (e : Entry) (reply : Reply) (s : ℕ) → line.what ≡ e
+    → told log line e ≡ Accepted (line ∷ []) reply → (is_live log s ≡ true → (1 ≤ s) × (s ≤ made_count log))
+    → is_live_after e s (is_live log s) ≡ true → (1 ≤ s) × (s ≤ made_count_after e (made_count log))
+live_by log line (entry.Made stream name count) reply s is h before live =
+    either (stream == s) (is_live log s) refl live before
   where
-    either : (b d : Bool) → (stream == s) ≡ b → (b || d) ≡ true → (d ≡ true → (1 ≤ s) × (s ≤ made_count log)) → (1 ≤ s) × (s ≤ made_count log + 1)
+    either : (b d : Bool) → (stream == s) ≡ b → (b || d) ≡ true → (d ≡ true → (1 ≤ s) × (s ≤ made_count log))
+        → (1 ≤ s) × (s ≤ made_count log + 1)
     either true d e m k =
         let n = equal_so stream s e in
         let made = made_number log line stream count name reply is h in
         (omega (arith, n, made), omega (arith, n, made))
     either false d e m k = let b = k m in (b.0, omega (arith, b.1))
-live_by log line (entry.Gone stream) reply s is h before live = before (both_right (not (stream == s)) (is_live log s) live)
+live_by log line (entry.Gone stream) reply s is h before live =
+    before (both_right (not (stream == s)) (is_live log s) live)
 live_by log line _ reply s is h before live = before live
 
 pub live_numbers : (log : Journal) → IsLegal log → (s : ℕ) → is_live log s ≡ true → (1 ≤ s) × (s ≤ made_count log)
 live_numbers [] legal s live = absurd cc
-live_numbers (line ∷ log) legal s live = live_by log line line.what legal.0.reply s refl legal.0.allowed (live_numbers log legal.1 s) live
+live_numbers (line ∷ log) legal s live =
+    live_by log line line.what legal.0.reply s refl legal.0.allowed (live_numbers log legal.1 s) live

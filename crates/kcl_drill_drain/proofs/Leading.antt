@@ -21,21 +21,26 @@ own_leases by at (turn ∷ more) are = (are.0.2, own_leases by at more are.1)
 
 -- ---- whatever came of it, the machine has answered turns on leases
 
-pub leased_on : {E : Type 0} (stands stands' : List Turn → Type 0) (by at : ℕ) (h : List Turn) (what : Command) (r : Result (Result Reply Refusal) E) → is_service what ≡ false → IsLawful (turn_of by at what) → (has : HasLeased stands by at h)
+pub leased_on : {E : Type 0} (stands stands' : List Turn → Type 0) (by at : ℕ) (h : List Turn) (what : Command)
+    (r : Result (Result Reply Refusal) E) → is_service what ≡ false → IsLawful (turn_of by at what)
+    → (has : HasLeased stands by at h)
     → IfOk r (λ a. (a ≡ answer (has.more ++ h) (turn_of by at what)) × stands' (turn_of by at what ∷ (has.more ++ h)))
     → OnErr r (stands' (has.more ++ h))
     → HasLeased stands' by at h
 leased_on stands stands' by at h what (Ok a) lease lawful has is kept =
     record { more = turn_of by at what ∷ has.more; stands_now = is.1; are = ((refl, refl, lease, lawful), has.are) }
-leased_on stands stands' by at h what (Err e) lease lawful has is kept = record { more = has.more; stands_now = kept; are = has.are }
+leased_on stands stands' by at h what (Err e) lease lawful has is kept =
+    record { more = has.more; stands_now = kept; are = has.are }
 
 -- ---- the answer, and what the turn leaves
 
 abbrev pub Answered : (List Turn → Type 0) → (List Turn → Type 0) → Turn → Result Reply Refusal → Type 0
 Answered stands stands' turn a = (now : List Turn) → stands now → (a ≡ answer now turn) × stands' (turn ∷ now)
 
-led_from : (stands stands' : List Turn → Type 0) (by at : ℕ) (h more : List Turn) (what : Command) (a : Result Reply Refusal) (Q : Journal → Type 0) (d : Decision)
-    → is_service what ≡ false → IsLawful (turn_of by at what) → Answered stands stands' (turn_of by at what) a → stands (more ++ h)
+led_from : (stands stands' : List Turn → Type 0) (by at : ℕ) (h more : List Turn) (what : Command)
+    (a : Result Reply Refusal) (Q : Journal → Type 0) (d : Decision)
+    → is_service what ≡ false → IsLawful (turn_of by at what) → Answered stands stands' (turn_of by at what) a
+    → stands (more ++ h)
     → AreLeased by at more → max (clock (more ++ h)) at ≡ max (clock h) at
     → decide (journal (more ++ h)) (max (clock h) at) by what ≡ d → Q (with_lines (lines_of d) (journal (more ++ h)))
     → (a ≡ answer_of d) × Leads stands' by at h Q
@@ -56,16 +61,22 @@ led_from stands stands' by at h more what a Q d lease lawful answers now are lat
 twice : (n m at : ℕ) → n ≡ max m at → max n at ≡ max m at
 twice n m at is = omega (arith, is)
 
-pub led : (stands stands' : List Turn → Type 0) (by at : ℕ) (h : List Turn) (what : Command) (a : Result Reply Refusal) (P Q : Journal → Type 0) (d : Decision)
-    → is_service what ≡ false → IsLawful (turn_of by at what) → Answered stands stands' (turn_of by at what) a → (l : Leads stands by at h P)
-    → decide (journal (l.more ++ h)) (max (clock h) at) by what ≡ d → Q (with_lines (lines_of d) (journal (l.more ++ h)))
+pub led : (stands stands' : List Turn → Type 0) (by at : ℕ) (h : List Turn) (what : Command) (a : Result Reply Refusal)
+    (P Q : Journal → Type 0) (d : Decision)
+    → is_service what ≡ false → IsLawful (turn_of by at what) → Answered stands stands' (turn_of by at what) a
+    → (l : Leads stands by at h P)
+    → decide (journal (l.more ++ h)) (max (clock h) at) by what ≡ d
+    → Q (with_lines (lines_of d) (journal (l.more ++ h)))
     → (a ≡ answer_of d) × Leads stands' by at h Q
 led stands stands' by at h what a P Q d lease lawful answers l is so =
-    led_from stands stands' by at h l.more what a Q d lease lawful answers l.stands_now l.are (twice (clock (l.more ++ h)) (clock h) at l.late) is so
+    led_from stands stands' by at h l.more what a Q d lease lawful answers l.stands_now l.are
+    (twice (clock (l.more ++ h)) (clock h) at l.late) is so
 
 -- the first of them
-pub led_first : (stands stands' : List Turn → Type 0) (by at : ℕ) (h : List Turn) (what : Command) (a : Result Reply Refusal) (Q : Journal → Type 0) (d : Decision)
-    → is_service what ≡ false → IsLawful (turn_of by at what) → Answered stands stands' (turn_of by at what) a → stands h
+pub led_first : (stands stands' : List Turn → Type 0) (by at : ℕ) (h : List Turn) (what : Command)
+    (a : Result Reply Refusal) (Q : Journal → Type 0) (d : Decision)
+    → is_service what ≡ false → IsLawful (turn_of by at what) → Answered stands stands' (turn_of by at what) a
+    → stands h
     → decide (journal h) (max (clock h) at) by what ≡ d → Q (with_lines (lines_of d) (journal h))
     → (a ≡ answer_of d) × Leads stands' by at h Q
 led_first stands stands' by at h what a Q d lease lawful answers now is so =
@@ -77,14 +88,20 @@ pub record IsOver (h : List Turn) (c : ℕ) (log : Journal) : Type 0 where
   pub streams : HasSameStreams log (journal h)
   pub floors : HasSameFloors c log (journal h)
 
-pub over : (stands : List Turn → Type 0) (by at : ℕ) (h : List Turn) (P : Journal → Type 0) → HasLaws h (max (clock h) at) → (l : Leads stands by at h P) → IsOver h (max (clock h) at) (journal (l.more ++ h))
+pub over : (stands : List Turn → Type 0) (by at : ℕ) (h : List Turn) (P : Journal → Type 0)
+    → HasLaws h (max (clock h) at) → (l : Leads stands by at h P) → IsOver h (max (clock h) at) (journal (l.more ++ h))
 over stands by at h P laws l =
     let own = own_leases by at l.more l.are in
-    record { streams = laws.streams l.more own; floors = laws.floors l.more own (le (clock (l.more ++ h)) (max (clock h) at) l.late) }
+    record {
+      streams = laws.streams l.more own;
+      floors = laws.floors l.more own (le (clock (l.more ++ h)) (max (clock h) at) l.late);
+    }
   where
     le : (n m : ℕ) → n ≡ m → n ≤ m
     le n m is = omega (arith, is)
 
 -- what holds of the journal may be weakened
-pub so_too : (stands : List Turn → Type 0) (by at : ℕ) (h : List Turn) (P Q : Journal → Type 0) → (l : Leads stands by at h P) → (P (journal (l.more ++ h)) → Q (journal (l.more ++ h))) → Leads stands by at h Q
-so_too stands by at h P Q l so = record { more = l.more; stands_now = l.stands_now; are = l.are; late = l.late; so = so l.so }
+pub so_too : (stands : List Turn → Type 0) (by at : ℕ) (h : List Turn) (P Q : Journal → Type 0)
+    → (l : Leads stands by at h P) → (P (journal (l.more ++ h)) → Q (journal (l.more ++ h))) → Leads stands by at h Q
+so_too stands by at h P Q l so =
+    record { more = l.more; stands_now = l.stands_now; are = l.are; late = l.late; so = so l.so }

@@ -35,7 +35,8 @@ use Rattle.kcl_drill_drain.proofs.Spots.{listed, same_here, up_to}
 
 -- ---- at the start
 
-pub made_first : (h : List Turn) (keys : List ShardRef) (c : ℕ) → HasLaws h c → AreMade h keys (rows (journal h)) 0 (journal h)
+pub made_first : (h : List Turn) (keys : List ShardRef) (c : ℕ) → HasLaws h c
+    → AreMade h keys (rows (journal h)) 0 (journal h)
 made_first h keys c laws = record {
   fresh = laws.fresh;
   kept = λ key r is. (r, sym (row_found (journal h) key) ∙ is);
@@ -44,7 +45,8 @@ made_first h keys c laws = record {
 }
 
 -- once all are made, each waits
-pub all_wait : (h : List Turn) (keys : List ShardRef) (among : List Row) (log : Journal) → AreMade h keys among (length keys) log → AreDrainedTo h keys (rows log) 0 log
+pub all_wait : (h : List Turn) (keys : List ShardRef) (among : List Row) (log : Journal)
+    → AreMade h keys among (length keys) log → AreDrainedTo h keys (rows log) 0 log
 all_wait h keys among log made = record {
   done = λ j key below is. absurd (omega (arith, below));
   waits = λ j key above is.
@@ -59,12 +61,15 @@ module _ (w : Spot) (at : ℕ) (spot : IsSpot w at) (laws : HasLaws w.history (c
   origin_is : (log : Journal) (key : ShardRef) → counting_origin log key origin.TrimHorizon ≡ origin.TrimHorizon
   origin_is log key = counts_so log key origin.TrimHorizon refl
 
-  made_by : (log : Journal) → ((j : ℕ) (key : ShardRef) → j < w.index → slice_get w.keys j ≡ Some key → HasRow log key) → HasRow log w.key → (j : ℕ) (key : ShardRef) → slice_get w.keys j ≡ Some key → (j < w.index) ⊎ (j ≡ w.index) → HasRow log key
+  made_by : (log : Journal) → ((j : ℕ) (key : ShardRef) → j < w.index → slice_get w.keys j ≡ Some key → HasRow log key)
+      → HasRow log w.key → (j : ℕ) (key : ShardRef) → slice_get w.keys j ≡ Some key → (j < w.index) ⊎ (j ≡ w.index)
+      → HasRow log key
   made_by log before here j key is (inl below) = before j key below is
   made_by log before here j key is (inr same) = subst (HasRow log) (sym (same_here w at spot laws j key same is)) here
 
   -- where its row is there, one more is
-  pub one_made : (log : Journal) → AreMade w.history w.keys w.among w.index log → HasRow log w.key → AreMade w.history w.keys w.among (w.index + 1) log
+  pub one_made : (log : Journal) → AreMade w.history w.keys w.among w.index log → HasRow log w.key
+      → AreMade w.history w.keys w.among (w.index + 1) log
   one_made log made here = record {
     fresh = made.fresh;
     kept = made.kept;
@@ -72,24 +77,36 @@ module _ (w : Spot) (at : ℕ) (spot : IsSpot w at) (laws : HasLaws w.history (c
     few = made.few;
   }
 
-  has_row : (b : Bool) (x : Row) (o : Option Row) → (r : Row) → o ≡ Some r → (s : Row) × ((if b then Some x else o) ≡ Some s)
+  has_row : (b : Bool) (x : Row) (o : Option Row) → (r : Row) → o ≡ Some r
+      → (s : Row) × ((if b then Some x else o) ≡ Some s)
   has_row true x o r is = (x, refl)
   has_row false x o r is = (r, is)
 
-  fresh_by : (b : Bool) (x : Row) (key : ShardRef) (o : Option Row) → IsFresh w.history key x → ((r : Row) → o ≡ Some r → IsFresh w.history key r) → (r : Row) → (if b then Some x else o) ≡ Some r → IsFresh w.history key r
+  fresh_by : (b : Bool) (x : Row) (key : ShardRef) (o : Option Row) → IsFresh w.history key x
+      → ((r : Row) → o ≡ Some r → IsFresh w.history key r) → (r : Row) → (if b then Some x else o) ≡ Some r
+      → IsFresh w.history key r
   fresh_by true x key o new old r is = let e : x ≡ r = cc in subst (IsFresh w.history key) e new
   fresh_by false x key o new old r is = old r is
 
   new_line : ℕ → ℕ → Line
   new_line c by = plain_line c by (entry.LeaseMade w.key origin.TrimHorizon)
 
-  with_new : (log : Journal) (by : ℕ) → IsOver w.history (clock_at w at) log → AreMade w.history w.keys w.among w.index log → AreMade w.history w.keys w.among w.index (new_line (clock_at w at) by ∷ log)
+  with_new : (log : Journal) (by : ℕ) → IsOver w.history (clock_at w at) log
+      → AreMade w.history w.keys w.among w.index log
+      → AreMade w.history w.keys w.among w.index (new_line (clock_at w at) by ∷ log)
   unfolding new_line
   with_new log by is made = record {
-    fresh = λ key r there. fresh_by (same_key w.key key) (made_row log (clock_at w at) key origin.TrimHorizon) key (row log key)
-        (record { few = omega arith; start = ap start_of (same_shard w.history (clock_at w at) log is key.stream key.shard) }) (made.fresh key) r there;
-    kept = λ key r seen. let f = made.kept key r seen in has_row (same_key w.key key) (made_row log (clock_at w at) key origin.TrimHorizon) (row log key) f.0 f.1;
-    made = λ j key below at_j. let f = made.made j key below at_j in has_row (same_key w.key key) (made_row log (clock_at w at) key origin.TrimHorizon) (row log key) f.0 f.1;
+    fresh = λ key r there. fresh_by (same_key w.key key) (made_row log (clock_at w at) key origin.TrimHorizon) key
+        (row log key)
+        (record {
+          few = omega arith;
+          start = ap start_of (same_shard w.history (clock_at w at) log is key.stream key.shard);
+        })
+        (made.fresh key) r there;
+    kept = λ key r seen. let f = made.kept key r seen in
+        has_row (same_key w.key key) (made_row log (clock_at w at) key origin.TrimHorizon) (row log key) f.0 f.1;
+    made = λ j key below at_j. let f = made.made j key below at_j in
+        has_row (same_key w.key key) (made_row log (clock_at w at) key origin.TrimHorizon) (row log key) f.0 f.1;
     few = made.few;
   }
 
@@ -100,7 +117,8 @@ module _ (w : Spot) (at : ℕ) (spot : IsSpot w at) (laws : HasLaws w.history (c
       (new, ap (λ b. if b then Some new else row log w.key) (key_itself w.key))
 
   made_led : (stands stands' : List Turn → Type 0) (by : ℕ) (a : Result Reply Refusal) (o : Option Row) → at < 2 ^ 62
-      → (l : Leads stands by at w.history (AreMade w.history w.keys w.among w.index)) → row (journal (l.more ++ w.history)) w.key ≡ o
+      → (l : Leads stands by at w.history (AreMade w.history w.keys w.among w.index))
+      → row (journal (l.more ++ w.history)) w.key ≡ o
       → Answered stands stands' (turn_of by at (command.MakeLease w.key origin.TrimHorizon)) a
       → Leads stands' by at w.history (AreMade w.history w.keys w.among (w.index + 1))
   unfolding new_line
@@ -108,11 +126,14 @@ module _ (w : Spot) (at : ℕ) (spot : IsSpot w at) (laws : HasLaws w.history (c
       let now = journal (l.more ++ w.history) in
       let c = clock_at w at in
       let there = over stands by at w.history (AreMade w.history w.keys w.among w.index) laws l in
-      let decided : make_lease now c by w.key origin.TrimHorizon ≡ Accepted (new_line c by ∷ []) (reply.Leased origin.TrimHorizon) =
+      let decided : make_lease now c by w.key origin.TrimHorizon
+      ≡ Accepted (new_line c by ∷ []) (reply.Leased origin.TrimHorizon) =
       passed_if refusal.ShardGone (not (is_listed_key now c w.key)) _ (ap not (listed w at spot laws now there))
       ∙ passed_if refusal.LeaseThere (is_some (row now w.key)) _ (ap is_some is)
       ∙ ap (λ o. Accepted (plain_line c by (entry.LeaseMade w.key o) ∷ []) (reply.Leased o)) (origin_is now w.key) in
-      (led stands stands' by at w.history (command.MakeLease w.key origin.TrimHorizon) a (AreMade w.history w.keys w.among w.index) (AreMade w.history w.keys w.among (w.index + 1)) (Accepted (new_line c by ∷ []) (reply.Leased origin.TrimHorizon)) refl (below, tt) answers l decided
+      (led stands stands' by at w.history (command.MakeLease w.key origin.TrimHorizon) a
+      (AreMade w.history w.keys w.among w.index) (AreMade w.history w.keys w.among (w.index + 1))
+      (Accepted (new_line c by ∷ []) (reply.Leased origin.TrimHorizon)) refl (below, tt) answers l decided
       (one_made (new_line c by ∷ now) (with_new now by there l.so) (new_row_there now by))).1
   made_led stands stands' by a (Some r) below l is answers =
       let now = journal (l.more ++ w.history) in
@@ -121,13 +142,17 @@ module _ (w : Spot) (at : ℕ) (spot : IsSpot w at) (laws : HasLaws w.history (c
       let decided : make_lease now c by w.key origin.TrimHorizon ≡ Refused refusal.LeaseThere =
       passed_if refusal.ShardGone (not (is_listed_key now c w.key)) _ (ap not (listed w at spot laws now there))
       ∙ refused_if refusal.LeaseThere (is_some (row now w.key)) _ (ap is_some is) in
-      (led stands stands' by at w.history (command.MakeLease w.key origin.TrimHorizon) a (AreMade w.history w.keys w.among w.index) (AreMade w.history w.keys w.among (w.index + 1)) (Refused refusal.LeaseThere) refl (below, tt) answers l decided
+      (led stands stands' by at w.history (command.MakeLease w.key origin.TrimHorizon) a
+      (AreMade w.history w.keys w.among w.index) (AreMade w.history w.keys w.among (w.index + 1))
+      (Refused refusal.LeaseThere) refl (below, tt) answers l decided
       (one_made now l.so (r, is))).1
 
-  pub makes : (stands stands' : List Turn → Type 0) (by : ℕ) (key : ShardRef) (a : Result Reply Refusal) → at < 2 ^ 62 → w.key ≡ key
+  pub makes : (stands stands' : List Turn → Type 0) (by : ℕ) (key : ShardRef) (a : Result Reply Refusal) → at < 2 ^ 62
+      → w.key ≡ key
       → (l : Leads stands by at w.history (AreMade w.history w.keys w.among w.index))
       → Answered stands stands' (turn_of by at (command.MakeLease key origin.TrimHorizon)) a
       → Leads stands' by at w.history (AreMade w.history w.keys w.among (w.index + 1))
   makes stands stands' by key a below same l answers =
       made_led stands stands' by a (row (journal (l.more ++ w.history)) w.key) below l refl
-      (subst (λ k. Answered stands stands' (turn_of by at (command.MakeLease k origin.TrimHorizon)) a) (sym same) answers)
+      (subst (λ k. Answered stands stands' (turn_of by at (command.MakeLease k origin.TrimHorizon)) a) (sym same)
+      answers)

@@ -1,5 +1,6 @@
 -- What is read is given and marked.
-use Rattle.std.proofs.Common.{◌≡◌, ℕ, ◌+◌, ◌-◌, ◌*◌, ◌<◌, ◌≤◌, ◌^◌, max, Bool, true, false, List, [], ◌∷◌, ◌++◌, length, map, Option, Some, None, refl, sym, ap, subst, ◌∙◌, arith}
+use Rattle.std.proofs.Common.{◌≡◌, ℕ, ◌+◌, ◌-◌, ◌*◌, ◌<◌, ◌≤◌, ◌^◌, max, Bool, true, false, List, [], ◌∷◌, ◌++◌, length}
+use Rattle.std.proofs.Common.{map, Option, Some, None, refl, sym, ap, subst, ◌∙◌, arith}
 use Rattle.std.specs.Prelude.{◌==◌, ◌&&◌, nat_le, nat_lt, if◌then◌else◌, Result, Ok, Err, IfOk}
 use Rattle.std.specs.Option.{option_map}
 use Rattle.std.proofs.lemmas.Bool.Decides.{nat_tests}
@@ -30,14 +31,17 @@ use Rattle.kds_defs.specs.StreamCommands.{last_number}
 use Rattle.kcl_defs.specs.Consumers.{last_number_in}
 use Rattle.kcl_drill.specs.Summed.{last_checkpoint}
 use Rattle.kcl_drill_summary.proofs.BatchLemmas.{from, sized_from, stuck, up_from}
-use Rattle.kcl_drill_laws.specs.Holding.{Holding, Holds, IsGivenSo, IsMarkedSo, MayMark, after_give, after_mark, after_read, given_line, marked_line, read_here, read_line}
+use Rattle.kcl_drill_laws.specs.Holding.{Holding, Holds, IsGivenSo, IsMarkedSo, MayMark, after_give, after_mark}
+use Rattle.kcl_drill_laws.specs.Holding.{after_read, given_line, marked_line, read_here, read_line}
 use Rattle.kcl_drill_drain.specs.declared.held.DrainTenure.{DrainTenure}
 use Rattle.kcl_drill_drain.specs.declared.held.TheConstants.{READ}
 use Rattle.kcl_drill_drain.specs.Draining.{IsDone, final_of, left_of, records_of, shard_of}
 use Rattle.kcl_drill_drain.specs.Keys.{AreDrainedTo}
 use Rattle.kcl_drill_drain.specs.Laws.{HasLaws}
 use Rattle.kcl_drill_drain.specs.Leased.{Answers, Leads, turn_of}
-use Rattle.kcl_drill_drain.specs.Standing.{IsDrainedHere, IsHeld, IsReady, IsSpot, OthersWait, ReadsOn, Spot, Stands, batch_at, clock_at, ended_at, given_then, last_at, marked_at, marked_then, reach_at, read_at, read_then, reply_at}
+use Rattle.kcl_drill_drain.specs.Standing.{IsDrainedHere, IsHeld, IsReady, IsSpot, OthersWait, ReadsOn, Spot, Stands}
+use Rattle.kcl_drill_drain.specs.Standing.{batch_at, clock_at, ended_at, given_then, last_at, marked_at, marked_then}
+use Rattle.kcl_drill_drain.specs.Standing.{reach_at, read_at, read_then, reply_at}
 use Rattle.kcl_drill_drain.specs.Steps.{Marks}
 use Rattle.kcl_drill_drain.proofs.Leading.{Answered, IsOver, led, over, so_too}
 use Rattle.kcl_drill_drain.proofs.Overs.{same_batch, same_ends}
@@ -46,34 +50,43 @@ use Rattle.kcl_drill_drain.proofs.Spots.{listed, one_more, others_stay}
 use Rattle.kcl_drill_drain.proofs.Beginning.{left_is, not_last, up}
 
 abbrev pub ReadLaw : Type 0
-ReadLaw = (log : Journal) (c limit : ℕ) (x : Holding) → Holds log x → length x.waiting < PENDING_READS → is_listed_key log c x.key ≡ true → read log c x.by x.tenure x.place limit ≡ read_here log c x limit
+ReadLaw = (log : Journal) (c limit : ℕ) (x : Holding) → Holds log x → length x.waiting < PENDING_READS
+    → is_listed_key log c x.key ≡ true → read log c x.by x.tenure x.place limit ≡ read_here log c x limit
 
 abbrev pub ReadState : Type 0
-ReadState = (log : Journal) (c limit : ℕ) (x : Holding) (r : ReadDone) → Holds log x → Holds (read_line c x limit r ∷ log) (after_read x r)
+ReadState = (log : Journal) (c limit : ℕ) (x : Holding) (r : ReadDone) → Holds log x
+    → Holds (read_line c x limit r ∷ log) (after_read x r)
 
 abbrev pub GiveLaw : Type 0
-GiveLaw = (log : Journal) (c : ℕ) (x : Holding) (r : ReadDone) (rest : List ReadDone) → Holds log x → x.waiting ≡ r ∷ rest → IsGivenSo log c x r
+GiveLaw = (log : Journal) (c : ℕ) (x : Holding) (r : ReadDone) (rest : List ReadDone) → Holds log x
+    → x.waiting ≡ r ∷ rest → IsGivenSo log c x r
 
 abbrev pub GivenState : Type 0
-GivenState = (log : Journal) (c : ℕ) (x : Holding) (r : ReadDone) (rest : List ReadDone) → Holds log x → x.waiting ≡ r ∷ rest → Holds (given_line c x ∷ log) (after_give x r rest)
+GivenState = (log : Journal) (c : ℕ) (x : Holding) (r : ReadDone) (rest : List ReadDone) → Holds log x
+    → x.waiting ≡ r ∷ rest → Holds (given_line c x ∷ log) (after_give x r rest)
 
 abbrev pub MarkLaw : Type 0
-MarkLaw = (log : Journal) (c : ℕ) (x : Holding) (to : Target) → Holds log x → MayMark x to → (x.counter == last_number) ≡ false → IsMarkedSo log c x to
+MarkLaw = (log : Journal) (c : ℕ) (x : Holding) (to : Target) → Holds log x → MayMark x to
+    → (x.counter == last_number) ≡ false → IsMarkedSo log c x to
 
 abbrev pub MarkedState : Type 0
-MarkedState = (log : Journal) (c : ℕ) (x : Holding) (to : Target) → Holds log x → Holds (marked_line c x to ∷ log) (after_mark x to)
+MarkedState = (log : Journal) (c : ℕ) (x : Holding) (to : Target) → Holds log x
+    → Holds (marked_line c x to ∷ log) (after_mark x to)
 
 -- a line that writes no row leaves the others waiting
-same_others : (w : Spot) (old now : Journal) → ((key : ShardRef) → row now key ≡ row old key) → taken_count now ≡ taken_count old → OthersWait w old → OthersWait w now
+same_others : (w : Spot) (old now : Journal) → ((key : ShardRef) → row now key ≡ row old key)
+    → taken_count now ≡ taken_count old → OthersWait w old → OthersWait w now
 same_others w old now rows count others = record {
   done = λ j key below is. subst (IsDone w.history key) (sym (rows key)) (others.done j key below is);
-  waits = λ j key above is. let f = others.waits j key above is in record { now = f.now; there = rows key ∙ f.there; seen = f.seen; fresh = f.fresh };
+  waits = λ j key above is. let f = others.waits j key above is in
+      record { now = f.now; there = rows key ∙ f.there; seen = f.seen; fresh = f.fresh };
   few = subst (λ n. n ≤ length w.history + (w.index + 1)) (sym count) others.few;
 }
 
 -- ---- a giving
 
-pub gave : (w : Spot) (at : ℕ) (stands stands' : List Turn → Type 0) (by tenure : ℕ) (x : Holding) (r : ReadDone) (a : Result Reply Refusal) → GiveLaw → GivenState → at < 2 ^ 62 → x.waiting ≡ r ∷ [] → x.tenure ≡ tenure
+pub gave : (w : Spot) (at : ℕ) (stands stands' : List Turn → Type 0) (by tenure : ℕ) (x : Holding) (r : ReadDone)
+    (a : Result Reply Refusal) → GiveLaw → GivenState → at < 2 ^ 62 → x.waiting ≡ r ∷ [] → x.tenure ≡ tenure
     → (l : Leads stands by at w.history (Stands w by x))
     → Answered stands stands' (turn_of by at (command.Give tenure)) a
     → Leads stands' by at w.history (Stands w by (after_give x r []))
@@ -82,24 +95,41 @@ gave w at stands stands' by tenure x r a law state below waits same l answers =
     let c = clock_at w at in
     let s = l.so in
     let decided : give now c by tenure ≡ Accepted (given_line c x ∷ []) (reply.Given (place_after x.done r.numbers)) =
-    ap (λ n. give now c n tenure) (sym s.own) ∙ ap (λ n. give now c x.by n) (sym same) ∙ law now c x r [] s.holds waits in
-    (led stands stands' by at w.history (command.Give tenure) a (Stands w by x) (Stands w by (after_give x r [])) (Accepted (given_line c x ∷ []) (reply.Given (place_after x.done r.numbers))) refl (below, tt) answers l decided
-    (record { others = same_others w now (given_line c x ∷ now) (λ key. refl) refl s.others; holds = state now c x r [] s.holds waits; own = s.own; of_key = s.of_key })).1
+    ap (λ n. give now c n tenure) (sym s.own) ∙ ap (λ n. give now c x.by n) (sym same)
+    ∙ law now c x r [] s.holds waits in
+    (led stands stands' by at w.history (command.Give tenure) a (Stands w by x) (Stands w by (after_give x r []))
+    (Accepted (given_line c x ∷ []) (reply.Given (place_after x.done r.numbers))) refl (
+      below,
+      tt,
+    ) answers l decided
+    (record {
+      others = same_others w now (given_line c x ∷ now) (λ key. refl) refl s.others;
+      holds = state now c x r [] s.holds waits;
+      own = s.own;
+      of_key = s.of_key;
+    })).1
 
 module _ (w : Spot) (at : ℕ) (spot : IsSpot w at) (laws : HasLaws w.history (clock_at w at)) where
   -- ---- a read
 
-  read_is : (now : Journal) (x : Holding) → IsOver w.history (clock_at w at) now → x.key ≡ w.key → read_here now (clock_at w at) x READ ≡ Accepted (read_line (clock_at w at) x READ (read_at w at x) ∷ []) (reply_at w at x)
+  read_is : (now : Journal) (x : Holding) → IsOver w.history (clock_at w at) now → x.key ≡ w.key
+      → read_here now (clock_at w at) x READ
+      ≡ Accepted (read_line (clock_at w at) x READ (read_at w at x) ∷ []) (reply_at w at x)
   read_is now x is of_key =
       let c = clock_at w at in
-      ap (λ (k : ShardRef). read_reply now c x.by x.tenure READ k (batch now c k.stream k.shard x.place READ) (place_after x.place (numbers_of (batch now c k.stream k.shard x.place READ)))) of_key
-      ∙ ap (λ bs. read_reply now c x.by x.tenure READ w.key bs (place_after x.place (numbers_of bs))) (same_batch w.history c now is w.key.stream w.key.shard x.place READ)
-      ∙ ap (λ b. Accepted (plain_line c x.by (entry.Read x.tenure READ b (numbers_of (batch_at w at x))) ∷ []) (reply.Read (map stored (batch_at w at x)) (reach_at w at x) b)) (same_ends w.history c now is w.key.stream w.key.shard (reach_at w at x))
+      ap (λ (k : ShardRef). read_reply now c x.by x.tenure READ k (batch now c k.stream k.shard x.place READ)
+      (place_after x.place (numbers_of (batch now c k.stream k.shard x.place READ)))) of_key
+      ∙ ap (λ bs. read_reply now c x.by x.tenure READ w.key bs (place_after x.place (numbers_of bs)))
+      (same_batch w.history c now is w.key.stream w.key.shard x.place READ)
+      ∙ ap (λ b. Accepted (plain_line c x.by (entry.Read x.tenure READ b (numbers_of (batch_at w at x))) ∷ [])
+      (reply.Read (map stored (batch_at w at x)) (reach_at w at x) b))
+      (same_ends w.history c now is w.key.stream w.key.shard (reach_at w at x))
 
   no_wait : (n : ℕ) → n ≡ 0 → n < PENDING_READS
   no_wait n is = omega (arith, is)
 
-  pub read_so : (stands stands' : List Turn → Type 0) (by : ℕ) (x : Holding) (held : DrainTenure) (a : Result Reply Refusal) → ReadLaw → ReadState → at < 2 ^ 62 → IsReady w at x → IsHeld x held
+  pub read_so : (stands stands' : List Turn → Type 0) (by : ℕ) (x : Holding) (held : DrainTenure)
+      (a : Result Reply Refusal) → ReadLaw → ReadState → at < 2 ^ 62 → IsReady w at x → IsHeld x held
       → (l : Leads stands by at w.history (Stands w by x))
       → Answered stands stands' (turn_of by at (command.Read held.tenure held.place READ)) a
       → (a ≡ Ok (reply_at w at x)) × Leads stands' by at w.history (Stands w by (read_then w at x))
@@ -108,26 +138,39 @@ module _ (w : Spot) (at : ℕ) (spot : IsSpot w at) (laws : HasLaws w.history (c
       let c = clock_at w at in
       let s = l.so in
       let there = over stands by at w.history (Stands w by x) laws l in
-      let open_now : is_listed_key now c x.key ≡ true = ap (is_listed_key now c) s.of_key ∙ listed w at spot laws now there in
-      let decided : read now c by held.tenure held.place READ ≡ Accepted (read_line c x READ (read_at w at x) ∷ []) (reply_at w at x) =
+      let open_now : is_listed_key now c x.key ≡ true =
+      ap (is_listed_key now c) s.of_key ∙ listed w at spot laws now there in
+      let decided : read now c by held.tenure held.place READ
+      ≡ Accepted (read_line c x READ (read_at w at x) ∷ []) (reply_at w at x) =
       ap (λ n. read now c n held.tenure held.place READ) (sym s.own)
       ∙ ap (λ n. read now c x.by n held.place READ) (sym is.tenure)
       ∙ ap (λ n. read now c x.by x.tenure n READ) (sym is.place)
       ∙ law now c READ x s.holds (no_wait (length x.waiting) (ap length ready.none_waits)) open_now
       ∙ read_is now x there s.of_key in
-      led stands stands' by at w.history (command.Read held.tenure held.place READ) a (Stands w by x) (Stands w by (read_then w at x)) (Accepted (read_line c x READ (read_at w at x) ∷ []) (reply_at w at x)) refl (below, (omega arith, omega arith)) answers l decided
-      (record { others = same_others w now (read_line c x READ (read_at w at x) ∷ now) (λ key. refl) refl s.others; holds = state now c READ x (read_at w at x) s.holds; own = s.own; of_key = s.of_key })
+      led stands stands' by at w.history (command.Read held.tenure held.place READ) a (Stands w by x)
+      (Stands w by (read_then w at x)) (Accepted (read_line c x READ (read_at w at x) ∷ []) (reply_at w at x)) refl
+      (below, (omega arith, omega arith)) answers l decided
+      (record {
+        others = same_others w now (read_line c x READ (read_at w at x) ∷ now) (λ key. refl) refl s.others;
+        holds = state now c READ x (read_at w at x) s.holds;
+        own = s.own;
+        of_key = s.of_key;
+      })
 
-  pub read_result : {E : Type 0} (stands stands' : List Turn → Type 0) (by : ℕ) (x : Holding) (held : DrainTenure) (r : Result (Result Reply Refusal) E) → ReadLaw → ReadState → at < 2 ^ 62 → IsReady w at x → IsHeld x held
+  pub read_result : {E : Type 0} (stands stands' : List Turn → Type 0) (by : ℕ) (x : Holding) (held : DrainTenure)
+      (r : Result (Result Reply Refusal) E) → ReadLaw → ReadState → at < 2 ^ 62 → IsReady w at x → IsHeld x held
       → (l : Leads stands by at w.history (Stands w by x))
       → Answers stands stands' (turn_of by at (command.Read held.tenure held.place READ)) r
       → IfOk r (λ a. (a ≡ Ok (reply_at w at x)) × Leads stands' by at w.history (Stands w by (read_then w at x)))
-  read_result stands stands' by x held (Ok a) law state below ready is l answers = read_so stands stands' by x held a law state below ready is l answers
+  read_result stands stands' by x held (Ok a) law state below ready is l answers =
+      read_so stands stands' by x held a law state below ready is l answers
   read_result stands stands' by x held (Err e) law state below ready is l answers = tt
 
   -- ---- a mark
 
-  pub marked : (stands stands' : List Turn → Type 0) (by tenure counter : ℕ) (to : Target) (x : Holding) (a : Result Reply Refusal) → MarkLaw → MarkedState → at < 2 ^ 62 → MayMark x to → (x.counter == last_number) ≡ false → x.tenure ≡ tenure → x.counter ≡ counter
+  pub marked : (stands stands' : List Turn → Type 0) (by tenure counter : ℕ) (to : Target) (x : Holding)
+      (a : Result Reply Refusal) → MarkLaw → MarkedState → at < 2 ^ 62 → MayMark x to
+      → (x.counter == last_number) ≡ false → x.tenure ≡ tenure → x.counter ≡ counter
       → (l : Leads stands by at w.history (Stands w by x))
       → Answered stands stands' (turn_of by at (command.Mark tenure counter to)) a
       → (a ≡ Ok (reply.Counter (x.counter + 1))) × Leads stands' by at w.history (Stands w by (after_mark x to))
@@ -135,20 +178,25 @@ module _ (w : Spot) (at : ℕ) (spot : IsSpot w at) (laws : HasLaws w.history (c
       let now = journal (l.more ++ w.history) in
       let c = clock_at w at in
       let s = l.so in
-      let decided : mark now c by tenure counter to ≡ Accepted (marked_line c x to ∷ []) (reply.Counter (x.counter + 1)) =
+      let decided : mark now c by tenure counter to
+      ≡ Accepted (marked_line c x to ∷ []) (reply.Counter (x.counter + 1)) =
       ap (λ n. mark now c n tenure counter to) (sym s.own)
       ∙ ap (λ n. mark now c x.by n counter to) (sym same)
       ∙ ap (λ n. mark now c x.by x.tenure n to) (sym same_n)
       ∙ law now c x to s.holds may few in
-      led stands stands' by at w.history (command.Mark tenure counter to) a (Stands w by x) (Stands w by (after_mark x to)) (Accepted (marked_line c x to ∷ []) (reply.Counter (x.counter + 1))) refl (below, tt) answers l decided
+      led stands stands' by at w.history (command.Mark tenure counter to) a (Stands w by x)
+      (Stands w by (after_mark x to)) (Accepted (marked_line c x to ∷ []) (reply.Counter (x.counter + 1))) refl
+      (below, tt) answers l decided
       (record {
-        others = others_stay w at spot laws now (marked_line c x to ∷ now) s.others (λ key other. others now x to key s other) refl;
+        others = others_stay w at spot laws now (marked_line c x to ∷ now) s.others
+            (λ key other. others now x to key s other) refl;
         holds = state now c x to s.holds;
         own = s.own;
         of_key = s.of_key;
       })
     where
-      others : (now : Journal) (x : Holding) (to : Target) (key : ShardRef) → Stands w by x now → same_key w.key key ≡ false → row (marked_line (clock_at w at) x to ∷ now) key ≡ row now key
+      others : (now : Journal) (x : Holding) (to : Target) (key : ShardRef) → Stands w by x now
+          → same_key w.key key ≡ false → row (marked_line (clock_at w at) x to ∷ now) key ≡ row now key
       others now x to key s other =
           ap (λ b. if b then option_map (marked_row to) (row now key) else row now key)
           (ap (λ o. is_key o key) s.holds.tenure.took ∙ ap (λ k. same_key k key) s.of_key ∙ other)
@@ -156,8 +204,10 @@ module _ (w : Spot) (at : ℕ) (spot : IsSpot w at) (laws : HasLaws w.history (c
   -- ---- what a read brought
 
   pub data Brought (x : Holding) : Type 0 where
-    Nothing : left_of (journal w.history) (clock_at w at) w.key x.place ≡ [] → last_at w at x ≡ None → reach_at w at x ≡ x.place → Brought x
-    Records : (q : ℕ) → last_at w at x ≡ Some q → IsReady w at (after_mark (given_then w at x) (target.At q)) → MayMark (given_then w at x) (target.At q) → x.place < reach_at w at x → Brought x
+    Nothing : left_of (journal w.history) (clock_at w at) w.key x.place ≡ [] → last_at w at x ≡ None
+        → reach_at w at x ≡ x.place → Brought x
+    Records : (q : ℕ) → last_at w at x ≡ Some q → IsReady w at (after_mark (given_then w at x) (target.At q))
+        → MayMark (given_then w at x) (target.At q) → x.place < reach_at w at x → Brought x
 
   not_less : (q n : ℕ) → n ≡ q + 1 → nat_le n q ≡ false
   not_less q n is = grind (arith, nat_tests)
@@ -168,19 +218,27 @@ module _ (w : Spot) (at : ℕ) (spot : IsSpot w at) (laws : HasLaws w.history (c
   brought_by : (x : Holding) (bs : List Logged) → batch_at w at x ≡ bs → IsReady w at x → Brought x
   brought_by x [] is ready =
       let all = records_of (journal w.history) w.key in
-      let none : beginning READ BATCH_BYTES (from x.place all) ≡ [] = ap (beginning READ BATCH_BYTES) (sym (left_is w at spot laws x.place)) ∙ is in
-      let stop : nat_lt x.place (place_after x.place (numbers_of (beginning READ BATCH_BYTES (from x.place all)))) ≡ false = ap (λ ys. nat_lt x.place (place_after x.place (numbers_of ys))) none ∙ not_under x.place x.place (omega arith) in
-      Nothing (left_is w at spot laws x.place ∙ stuck 999 x.place (from x.place all) (up_from x.place _ all (up w at spot laws)) (sized_from x.place all (laws.sized w.key.stream w.key.shard)) stop)
+      let none : beginning READ BATCH_BYTES (from x.place all) ≡ [] =
+      ap (beginning READ BATCH_BYTES) (sym (left_is w at spot laws x.place)) ∙ is in
+      let stop : nat_lt x.place (place_after x.place (numbers_of (beginning READ BATCH_BYTES (from x.place all))))
+      ≡ false = ap (λ ys. nat_lt x.place (place_after x.place (numbers_of ys))) none
+      ∙ not_under x.place x.place (omega arith) in
+      Nothing (left_is w at spot laws x.place
+      ∙ stuck 999 x.place (from x.place all) (up_from x.place _ all (up w at spot laws))
+      (sized_from x.place all (laws.sized w.key.stream w.key.shard)) stop)
       (ap (λ ys. last_number_in (map stored ys)) is) (ap (λ ys. place_after x.place (numbers_of ys)) is)
   brought_by x (b ∷ bs) is ready =
       let all = records_of (journal w.history) w.key in
       let start = start_of (shard_of (journal w.history) w.key) in
-      let same : batch_at w at x ≡ beginning READ BATCH_BYTES (from x.place all) = ap (beginning READ BATCH_BYTES) (left_is w at spot laws x.place) in
+      let same : batch_at w at x ≡ beginning READ BATCH_BYTES (from x.place all) =
+      ap (beginning READ BATCH_BYTES) (left_is w at spot laws x.place) in
       let f = batched READ BATCH_BYTES start x.place all b bs (up w at spot laws) (sym same ∙ is) in
       let q = last_seq b bs in
       let reach : reach_at w at x ≡ q + 1 = ap (λ ys. place_after x.place (numbers_of ys)) same ∙ f.reach in
-      let done : place_after x.done (numbers_of (batch_at w at x)) ≡ reach_at w at x = ap (λ p. place_after p (numbers_of (batch_at w at x))) ready.given in
-      let left : left_of (journal w.history) (clock_at w at) w.key (reach_at w at x) ≡ from (q + 1) all = left_is w at spot laws (reach_at w at x) ∙ ap (λ p. from p all) reach in
+      let done : place_after x.done (numbers_of (batch_at w at x)) ≡ reach_at w at x =
+      ap (λ p. place_after p (numbers_of (batch_at w at x))) ready.given in
+      let left : left_of (journal w.history) (clock_at w at) w.key (reach_at w at x) ≡ from (q + 1) all =
+      left_is w at spot laws (reach_at w at x) ∙ ap (λ p. from p all) reach in
       Records q (ap (λ ys. last_number_in (map stored ys)) same ∙ f.number)
       (record {
         none_waits = refl;
@@ -188,9 +246,15 @@ module _ (w : Spot) (at : ℕ) (spot : IsSpot w at) (laws : HasLaws w.history (c
         going = refl;
         settled = λ none. f.settled (sym left ∙ none);
         low = under q (reach_at w at x) start reach;
-        budget = less x.counter (length (from (q + 1) all)) (length (from x.place all)) _ _ _ (ap length left) (ap length (left_is w at spot laws x.place)) f.fewer ready.budget;
-      })
-      (ready.going, not_less q _ (done ∙ reach), not_under q (least x.checkpoint x.floor) (over_low (least x.checkpoint x.floor) (max x.place start) q ready.low f.above)) (beyond x.place start q (reach_at w at x) f.above reach)
+        budget = less x.counter (length (from (q + 1) all)) (length (from x.place all)) _ _ _ (ap length left)
+            (ap length (left_is w at spot laws x.place)) f.fewer ready.budget;
+      }) (
+        ready.going,
+        not_less q _ (done ∙ reach),
+        not_under q (least x.checkpoint x.floor)
+            (over_low (least x.checkpoint x.floor) (max x.place start) q ready.low f.above),
+      )
+      (beyond x.place start q (reach_at w at x) f.above reach)
     where
       beyond : (p start q n : ℕ) → max p start ≤ q → n ≡ q + 1 → p < n
       beyond p start q n le is = omega (arith, le, is)
@@ -201,7 +265,8 @@ module _ (w : Spot) (at : ℕ) (spot : IsSpot w at) (laws : HasLaws w.history (c
       over_low : (a m q : ℕ) → a ≤ m → m ≤ q → a ≤ q
       over_low a m q le le' = omega (arith, le, le')
 
-      less : (n some all left left' most : ℕ) → left ≡ some → left' ≡ all → some + 1 ≤ all → n + left' ≤ most → n + 1 + left ≤ most
+      less : (n some all left left' most : ℕ) → left ≡ some → left' ≡ all → some + 1 ≤ all → n + left' ≤ most
+          → n + 1 + left ≤ most
       less n some all left left' most is is' le le' = omega (arith, is, is', le, le')
 
   pub brought : (x : Holding) → IsReady w at x → Brought x
@@ -213,18 +278,25 @@ module _ (w : Spot) (at : ℕ) (spot : IsSpot w at) (laws : HasLaws w.history (c
   few_counters n h left all le le' lt = omega (arith, le, le', lt)
 
   pub some_left : (x : Holding) → IsReady w at x → (x.counter == last_number) ≡ false
-  some_left x ready = not_last x.counter (few_counters x.counter (length w.history) _ (length (records_of (journal w.history) w.key)) ready.budget (laws.few w.key.stream w.key.shard) spot.can.few)
+  some_left x ready = not_last x.counter
+      (few_counters x.counter (length w.history) _ (length (records_of (journal w.history) w.key)) ready.budget
+      (laws.few w.key.stream w.key.shard) spot.can.few)
 
   -- ---- the row then
 
-  done_at : (now : Journal) (by : ℕ) (x : Holding) → Stands w by x now → final_of (journal w.history) w.key ≡ x.checkpoint → IsDone w.history w.key (row now w.key)
+  done_at : (now : Journal) (by : ℕ) (x : Holding) → Stands w by x now
+      → final_of (journal w.history) w.key ≡ x.checkpoint → IsDone w.history w.key (row now w.key)
   done_at now by x s is =
       let held = s.holds.row in
-      ap (option_map (λ (r : Row). r.checkpoint)) (ap (row now) (sym s.of_key) ∙ held.there) ∙ ap Some (held.checkpoint ∙ sym is)
+      ap (option_map (λ (r : Row). r.checkpoint)) (ap (row now) (sym s.of_key) ∙ held.there)
+      ∙ ap Some (held.checkpoint ∙ sym is)
 
-  pub drained_at : (stands : List Turn → Type 0) (by : ℕ) (x : Holding) → Leads stands by at w.history (Stands w by x) → final_of (journal w.history) w.key ≡ x.checkpoint → IsDrainedHere stands w by at
-  drained_at stands by x l is = so_too stands by at w.history (Stands w by x) (AreDrainedTo w.history w.keys w.among (w.index + 1)) l
-      (λ s. one_more w at spot laws (journal (l.more ++ w.history)) s.others (done_at (journal (l.more ++ w.history)) by x s is))
+  pub drained_at : (stands : List Turn → Type 0) (by : ℕ) (x : Holding) → Leads stands by at w.history (Stands w by x)
+      → final_of (journal w.history) w.key ≡ x.checkpoint → IsDrainedHere stands w by at
+  drained_at stands by x l is =
+      so_too stands by at w.history (Stands w by x) (AreDrainedTo w.history w.keys w.among (w.index + 1)) l
+      (λ s. one_more w at spot laws (journal (l.more ++ w.history)) s.others
+      (done_at (journal (l.more ++ w.history)) by x s is))
 
   pub ended_final : (x : Holding) → ended_at w at x ≡ true → final_of (journal w.history) w.key ≡ ShardEnd
   ended_final x is =
@@ -236,18 +308,24 @@ module _ (w : Spot) (at : ℕ) (spot : IsSpot w at) (laws : HasLaws w.history (c
   none_closed false b e h = refl
 
   -- where a read brought nothing and didn't end the shard, the shard is open, and its row reads its end
-  pub stopped_final : (x : Holding) → IsReady w at x → left_of (journal w.history) (clock_at w at) w.key x.place ≡ [] → reach_at w at x ≡ x.place → ended_at w at x ≡ false → final_of (journal w.history) w.key ≡ x.checkpoint
+  pub stopped_final : (x : Holding) → IsReady w at x → left_of (journal w.history) (clock_at w at) w.key x.place ≡ []
+      → reach_at w at x ≡ x.place → ended_at w at x ≡ false → final_of (journal w.history) w.key ≡ x.checkpoint
   stopped_final x ready none reach is =
-      let left : left_of (journal w.history) (clock_at w at) w.key (reach_at w at x) ≡ [] = ap (left_of (journal w.history) (clock_at w at) w.key) reach ∙ none in
-      ap (λ b. if b then ShardEnd else last_checkpoint (records_of (journal w.history) w.key)) (none_closed (is_closed_at (shard_of (journal w.history) w.key)) (are_none (left_of (journal w.history) (clock_at w at) w.key (reach_at w at x))) (ap are_none left) is)
+      let left : left_of (journal w.history) (clock_at w at) w.key (reach_at w at x) ≡ [] =
+      ap (left_of (journal w.history) (clock_at w at) w.key) reach ∙ none in
+      ap (λ b. if b then ShardEnd else last_checkpoint (records_of (journal w.history) w.key))
+      (none_closed (is_closed_at (shard_of (journal w.history) w.key))
+      (are_none (left_of (journal w.history) (clock_at w at) w.key (reach_at w at x))) (ap are_none left) is)
       ∙ sym (ready.settled none)
 
   -- ---- the steps
 
   abbrev pub MarksOk : (List Turn → Type 0) → (List Turn → Type 0) → ℕ → DrainTenure → Target → ℕ → Type 0
   MarksOk stands stands' by held to n =
-      (w : Spot) (x : Holding) → IsSpot w at → MayMark x to → (x.counter == last_number) ≡ false → x.tenure ≡ held.tenure → x.counter ≡ held.counter
-      → Leads stands by at w.history (Stands w by x) → (n ≡ x.counter + 1) × Leads stands' by at w.history (Stands w by (after_mark x to))
+      (w : Spot) (x : Holding) → IsSpot w at → MayMark x to → (x.counter == last_number) ≡ false
+      → x.tenure ≡ held.tenure → x.counter ≡ held.counter
+      → Leads stands by at w.history (Stands w by x) → (n ≡ x.counter + 1)
+      × Leads stands' by at w.history (Stands w by (after_mark x to))
 
   no_number : (q : ℕ) → Some q ≡ None → ⊥
   no_number q h = cc
@@ -265,44 +343,63 @@ module _ (w : Spot) (at : ℕ) (spot : IsSpot w at) (laws : HasLaws w.history (c
   ended_kept (Some q) x = refl
 
   -- the mark at the last record, where there is one
-  pub marks_some : {E : Type 0} (stands stands' : List Turn → Type 0) (by q : ℕ) (held : DrainTenure) (result : Result ℕ E) (x : Holding) → Marks stands stands' by at held (target.At q) result → IsReady w at x → IsHeld x held → Some q ≡ last_at w at x
+  pub marks_some : {E : Type 0} (stands stands' : List Turn → Type 0) (by q : ℕ) (held : DrainTenure)
+      (result : Result ℕ E) (x : Holding) → Marks stands stands' by at held (target.At q) result → IsReady w at x
+      → IsHeld x held → Some q ≡ last_at w at x
       → Leads stands by at w.history (Stands w by (given_then w at x))
-      → IfOk result (λ n. (n ≡ (marked_then w at x).counter) × Leads stands' by at w.history (Stands w by (marked_then w at x)))
+      → IfOk result (λ n. (n ≡ (marked_then w at x).counter)
+      × Leads stands' by at w.history (Stands w by (marked_then w at x)))
   marks_some stands stands' by q held result x marks ready is last l = by_brought (brought x ready)
     where
-      by_brought : Brought x → IfOk result (λ n. (n ≡ (marked_then w at x).counter) × Leads stands' by at w.history (Stands w by (marked_then w at x)))
+      by_brought : Brought x
+          → IfOk result (λ n. (n ≡ (marked_then w at x).counter)
+          × Leads stands' by at w.history (Stands w by (marked_then w at x)))
       by_brought (Nothing left none reach) = absurd (no_number q (last ∙ none))
       by_brought (Records p at_p next may beyond) =
           let e = same_some p q (sym at_p ∙ sym last) in
-          subst (λ o. IfOk result (λ n. (n ≡ (marked_at o (given_then w at x)).counter) × Leads stands' by at w.history (Stands w by (marked_at o (given_then w at x))))) last
-          (marks w (given_then w at x) spot (subst (λ n. MayMark (given_then w at x) (target.At n)) e may) (some_left x ready) is.tenure is.counter l)
+          subst (λ o. IfOk result (λ n. (n ≡ (marked_at o (given_then w at x)).counter)
+          × Leads stands' by at w.history (Stands w by (marked_at o (given_then w at x))))) last
+          (marks w (given_then w at x) spot (subst (λ n. MayMark (given_then w at x) (target.At n)) e may)
+          (some_left x ready) is.tenure is.counter l)
 
   marked_left : (x : Holding) → IsReady w at x → Brought x → ((marked_then w at x).counter == last_number) ≡ false
-  marked_left x ready (Nothing left none reach) = subst (λ o. ((marked_at o (given_then w at x)).counter == last_number) ≡ false) (sym none) (some_left x ready)
-  marked_left x ready (Records q at_q next may beyond) = subst (λ o. ((marked_at o (given_then w at x)).counter == last_number) ≡ false) (sym at_q) (some_left (after_mark (given_then w at x) (target.At q)) next)
+  marked_left x ready (Nothing left none reach) =
+      subst (λ o. ((marked_at o (given_then w at x)).counter == last_number) ≡ false) (sym none) (some_left x ready)
+  marked_left x ready (Records q at_q next may beyond) =
+      subst (λ o. ((marked_at o (given_then w at x)).counter == last_number) ≡ false) (sym at_q)
+      (some_left (after_mark (given_then w at x) (target.At q)) next)
 
   -- the end is marked
-  pub ends : (stands stands' : List Turn → Type 0) (by n : ℕ) (held : DrainTenure) (x : Holding) → MarksOk stands stands' by held target.End n → IsReady w at x → ended_at w at x ≡ true → IsHeld (marked_then w at x) held
+  pub ends : (stands stands' : List Turn → Type 0) (by n : ℕ) (held : DrainTenure) (x : Holding)
+      → MarksOk stands stands' by held target.End n → IsReady w at x → ended_at w at x ≡ true
+      → IsHeld (marked_then w at x) held
       → Leads stands by at w.history (Stands w by (marked_then w at x)) → IsDrainedHere stands' w by at
   ends stands stands' by n held x marks ready ended is l =
       let y = marked_then w at x in
       let may : y.ended ≡ true = ended_kept (last_at w at x) (given_then w at x) ∙ ended in
-      drained_at stands' by (after_mark y target.End) (marks w y spot may (marked_left x ready (brought x ready)) is.tenure is.counter l).1 (ended_final x ended)
+      drained_at stands' by (after_mark y target.End)
+      (marks w y spot may (marked_left x ready (brought x ready)) is.tenure is.counter l).1 (ended_final x ended)
 
   -- reading goes on
-  pub goes_on : (stands : List Turn → Type 0) (by : ℕ) (held : DrainTenure) (x : Holding) → IsReady w at x → x.place < held.place → IsHeld (marked_then w at x) held
+  pub goes_on : (stands : List Turn → Type 0) (by : ℕ) (held : DrainTenure) (x : Holding) → IsReady w at x
+      → x.place < held.place → IsHeld (marked_then w at x) held
       → Leads stands by at w.history (Stands w by (marked_then w at x)) → ReadsOn stands w by at held
-  goes_on stands by held x ready above is l = record { now = marked_then w at x; leads = l; ready = by_brought (brought x ready); is = is }
+  goes_on stands by held x ready above is l =
+      record { now = marked_then w at x; leads = l; ready = by_brought (brought x ready); is = is }
     where
       no : (p q n m : ℕ) → p < q → n ≡ m → m ≡ p → n ≡ q → ⊥
       no p q n m lt e e' e'' = omega (arith, lt, e, e', e'')
 
       by_brought : Brought x → IsReady w at (marked_then w at x)
-      by_brought (Nothing left none reach) = absurd (no x.place held.place (marked_then w at x).place (reach_at w at x) above (place_kept (last_at w at x) (given_then w at x)) reach is.place)
-      by_brought (Records q at_q next may beyond) = subst (λ o. IsReady w at (marked_at o (given_then w at x))) (sym at_q) next
+      by_brought (Nothing left none reach) =
+          absurd (no x.place held.place (marked_then w at x).place (reach_at w at x) above
+          (place_kept (last_at w at x) (given_then w at x)) reach is.place)
+      by_brought (Records q at_q next may beyond) =
+          subst (λ o. IsReady w at (marked_at o (given_then w at x))) (sym at_q) next
 
   -- nothing is left in an open shard
-  pub stops : (stands : List Turn → Type 0) (by : ℕ) (held : DrainTenure) (x : Holding) → IsReady w at x → held.place ≤ x.place → ended_at w at x ≡ false → IsHeld (marked_then w at x) held
+  pub stops : (stands : List Turn → Type 0) (by : ℕ) (held : DrainTenure) (x : Holding) → IsReady w at x
+      → held.place ≤ x.place → ended_at w at x ≡ false → IsHeld (marked_then w at x) held
       → Leads stands by at w.history (Stands w by (marked_then w at x)) → IsDrainedHere stands w by at
   stops stands by held x ready le ended is l = by_brought (brought x ready)
     where
@@ -311,13 +408,18 @@ module _ (w : Spot) (at : ℕ) (spot : IsSpot w at) (laws : HasLaws w.history (c
 
       by_brought : Brought x → IsDrainedHere stands w by at
       by_brought (Nothing left none reach) =
-          drained_at stands by (marked_then w at x) l (stopped_final x ready left reach ended ∙ sym (ap (λ o. (marked_at o (given_then w at x)).checkpoint) none))
-      by_brought (Records q at_q next may beyond) = absurd (no x.place held.place (marked_then w at x).place (reach_at w at x) le (place_kept (last_at w at x) (given_then w at x)) beyond is.place)
+          drained_at stands by (marked_then w at x) l (stopped_final x ready left reach ended
+          ∙ sym (ap (λ o. (marked_at o (given_then w at x)).checkpoint) none))
+      by_brought (Records q at_q next may beyond) =
+          absurd (no x.place held.place (marked_then w at x).place (reach_at w at x) le
+          (place_kept (last_at w at x) (given_then w at x)) beyond is.place)
 
   pub waits_for : (x : Holding) → IsReady w at x → (read_then w at x).waiting ≡ read_at w at x ∷ []
   waits_for x ready = ap (λ rs. rs ++ (read_at w at x ∷ [])) ready.none_waits
 
-  pub held_then : (x : Holding) (held : DrainTenure) (reach n : ℕ) → IsHeld x held → reach ≡ reach_at w at x → n ≡ (marked_then w at x).counter → IsHeld (marked_then w at x) (record { tenure = held.tenure; place = reach; counter = n })
+  pub held_then : (x : Holding) (held : DrainTenure) (reach n : ℕ) → IsHeld x held → reach ≡ reach_at w at x
+      → n ≡ (marked_then w at x).counter
+      → IsHeld (marked_then w at x) (record { tenure = held.tenure; place = reach; counter = n })
   held_then x held reach n is same counter = record {
     tenure = tenure_kept (last_at w at x) (given_then w at x) ∙ is.tenure;
     place = place_kept (last_at w at x) (given_then w at x) ∙ sym same;

@@ -1,6 +1,7 @@
--- Where nothing is left from a place on, the checkpoint is at the last record: at the start of a row, and after each batch
--- that is marked at its last record.
-use Rattle.std.proofs.Common.{◌≡◌, ℕ, zero, suc, ◌+◌, ◌-◌, ◌<◌, ◌≤◌, max, Bool, true, false, List, [], ◌∷◌, ◌++◌, length, map, Option, Some, refl, sym, ap, subst, ◌∙◌, arith, inl, inr}
+-- Where nothing is left from a place on, the checkpoint is at the last record: at the start of a row, and after each
+-- batch that is marked at its last record.
+use Rattle.std.proofs.Common.{◌≡◌, ℕ, zero, suc, ◌+◌, ◌-◌, ◌<◌, ◌≤◌, max, Bool, true, false, List, [], ◌∷◌, ◌++◌}
+use Rattle.std.proofs.Common.{length, map, Option, Some, refl, sym, ap, subst, ◌∙◌, arith, inl, inr}
 use Rattle.std.specs.Prelude.{nat_le, cond, slice_get}
 use Rattle.std.specs.Option.{option_map}
 use Rattle.std.proofs.lemmas.List.{append-nil, length-append}
@@ -13,15 +14,18 @@ use Rattle.kds_defs.proofs.Counted.{length_stored}
 use Rattle.kcl_defs.specs.Consumers.{last_number_in}
 use Rattle.kcl_drill.specs.Summed.{last_checkpoint}
 use Rattle.kcl_laws.specs.Recorded.{HasFrom}
-use Rattle.kcl_drill_summary.proofs.BatchLemmas.{IsUp, from, all_from, up_weaker, up_from, up_kept, parts, place_up, from_twice}
+use Rattle.kcl_drill_summary.proofs.BatchLemmas.{IsUp, from, all_from, up_weaker, up_from, up_kept, parts, place_up}
+use Rattle.kcl_drill_summary.proofs.BatchLemmas.{from_twice}
 
 -- ---- at the start
 
-none_first : (p : ℕ) (r : Logged) (rs : List Logged) (b : Bool) → nat_le p r.seq ≡ b → cond b (r ∷ from p rs) (from p rs) ≡ [] → (r.seq < p) × (from p rs ≡ [])
+none_first : (p : ℕ) (r : Logged) (rs : List Logged) (b : Bool) → nat_le p r.seq ≡ b
+    → cond b (r ∷ from p rs) (from p rs) ≡ [] → (r.seq < p) × (from p rs ≡ [])
 none_first p r rs true is none = absurd cc
 none_first p r rs false is none = (above_so p r.seq is, none)
 
-pub settled_at : (q p : ℕ) (rs : List Logged) → IsUp p rs → HasFrom q rs → from (q + 1) rs ≡ [] → At q ≡ last_checkpoint rs
+pub settled_at : (q p : ℕ) (rs : List Logged) → IsUp p rs → HasFrom q rs → from (q + 1) rs ≡ []
+    → At q ≡ last_checkpoint rs
 settled_at q p [] up has none = absurd has
 settled_at q p (r ∷ []) up (inl le) none =
     let below = (none_first (q + 1) r [] (nat_le (q + 1) r.seq) refl none).0 in
@@ -41,21 +45,28 @@ settled_horizon p rs up none = ap last_checkpoint (sym none ∙ all_from 0 rs (u
 
 -- ---- after a batch
 
-from_head : (p : ℕ) (r : Logged) (rs : List Logged) (x : Logged) (xs : List Logged) (b : Bool) → nat_le p r.seq ≡ b → IsUp (r.seq + 1) rs → (from p rs ≡ x ∷ xs → last_checkpoint rs ≡ last_checkpoint (x ∷ xs)) → (rs ≡ [] → from p rs ≡ [])
+from_head : (p : ℕ) (r : Logged) (rs : List Logged) (x : Logged) (xs : List Logged) (b : Bool) → nat_le p r.seq ≡ b
+    → IsUp (r.seq + 1) rs → (from p rs ≡ x ∷ xs → last_checkpoint rs ≡ last_checkpoint (x ∷ xs))
+    → (rs ≡ [] → from p rs ≡ [])
     → cond b (r ∷ from p rs) (from p rs) ≡ x ∷ xs → last_checkpoint (r ∷ rs) ≡ last_checkpoint (x ∷ xs)
 from_head p r rs x xs true is up so none are =
-    ap last_checkpoint (sym (ap (λ ys. r ∷ ys) (all_from p rs (up_weaker p (r.seq + 1) rs (omega (arith, le_so p r.seq is)) up))) ∙ are)
+    ap last_checkpoint (sym
+    (ap (λ ys. r ∷ ys) (all_from p rs (up_weaker p (r.seq + 1) rs (omega (arith, le_so p r.seq is)) up))) ∙ are)
 from_head p r [] x xs false is up so none are = absurd cc
 from_head p r (s ∷ rs) x xs false is up so none are = so are
 
-last_from : (p m : ℕ) (rs : List Logged) (x : Logged) (xs : List Logged) → IsUp m rs → from p rs ≡ x ∷ xs → last_checkpoint rs ≡ last_checkpoint (x ∷ xs)
+last_from : (p m : ℕ) (rs : List Logged) (x : Logged) (xs : List Logged) → IsUp m rs → from p rs ≡ x ∷ xs
+    → last_checkpoint rs ≡ last_checkpoint (x ∷ xs)
 last_from p m [] x xs up are = absurd cc
 last_from p m (r ∷ rs) x xs up are =
-    from_head p r rs x xs (nat_le p r.seq) refl up.1 (λ so. last_from p (r.seq + 1) rs x xs up.1 so) (λ none. ap (from p) none) are
+    from_head p r rs x xs (nat_le p r.seq) refl up.1 (λ so. last_from p (r.seq + 1) rs x xs up.1 so)
+    (λ none. ap (from p) none) are
 
 -- a batch that is not empty, marked at its last record
-settled_batch : (limit room place m : ℕ) (rs : List Logged) (x : Logged) (xs : List Logged) → IsUp m rs → beginning limit room (from place rs) ≡ x ∷ xs
-    → from (place_after place (numbers_of (beginning limit room (from place rs)))) rs ≡ [] → last_checkpoint (beginning limit room (from place rs)) ≡ last_checkpoint rs
+settled_batch : (limit room place m : ℕ) (rs : List Logged) (x : Logged) (xs : List Logged) → IsUp m rs
+    → beginning limit room (from place rs) ≡ x ∷ xs
+    → from (place_after place (numbers_of (beginning limit room (from place rs)))) rs ≡ []
+    → last_checkpoint (beginning limit room (from place rs)) ≡ last_checkpoint rs
 settled_batch limit room place m rs x xs up is none =
     let ls = from place rs in
     let bs = beginning limit room ls in
@@ -81,7 +92,8 @@ last_of x (y ∷ ys) = last_of y ys
 
 number_is : (x : Logged) (xs : List Logged) → last_number_in (map stored (x ∷ xs)) ≡ Some (last_seq x xs)
 number_is x xs =
-    let e : length (map stored (x ∷ xs)) - 1 ≡ length xs = less (length (map stored xs)) (length xs) (length_stored xs) in
+    let e : length (map stored (x ∷ xs)) - 1 ≡ length xs =
+    less (length (map stored xs)) (length xs) (length_stored xs) in
     ap (seq_at (x ∷ xs)) e ∙ last_of x xs
   where
     less : (n m : ℕ) → n ≡ m → suc n - 1 ≡ m
@@ -107,7 +119,8 @@ up_beginning zero room p rs up = tt
 up_beginning (suc limit) room p [] up = tt
 up_beginning (suc limit) room p (r ∷ rs) up =
     let rest = up_beginning limit (room - r.bytes) (r.seq + 1) rs up.1 in
-    cond_both (nat_le r.bytes room) (r ∷ beginning limit (room - r.bytes) rs) [] (IsUp p) (λ fits. (up.0, rest)) (λ full. tt)
+    cond_both (nat_le r.bytes room) (r ∷ beginning limit (room - r.bytes) rs) [] (IsUp p) (λ fits. (up.0, rest))
+    (λ full. tt)
 
 pub record IsBatchTo (start place : ℕ) (rs bs : List Logged) (q : ℕ) : Type 0 where
   pub number : last_number_in (map stored bs) ≡ Some q
@@ -116,7 +129,8 @@ pub record IsBatchTo (start place : ℕ) (rs bs : List Logged) (q : ℕ) : Type 
   pub settled : from (q + 1) rs ≡ [] → At q ≡ last_checkpoint rs
   pub fewer : length (from (q + 1) rs) + 1 ≤ length (from place rs)
 
-fewer_by : (ls bs rest : List Logged) (x : Logged) (xs : List Logged) → ls ≡ bs ++ rest → bs ≡ x ∷ xs → length rest + 1 ≤ length ls
+fewer_by : (ls bs rest : List Logged) (x : Logged) (xs : List Logged) → ls ≡ bs ++ rest → bs ≡ x ∷ xs
+    → length rest + 1 ≤ length ls
 fewer_by ls bs rest x xs are is =
     let n : length ls ≡ length bs + length rest = ap length are ∙ length-append bs rest in
     let m : length bs ≡ suc (length xs) = ap length is in
@@ -125,21 +139,27 @@ fewer_by ls bs rest x xs are is =
 both_above : (place start q : ℕ) → place ≤ q → start ≤ q → max place start ≤ q
 both_above place start q le le' = omega (arith, le, le')
 
-pub batched : (limit room start place : ℕ) (rs : List Logged) (x : Logged) (xs : List Logged) → IsUp start rs → beginning limit room (from place rs) ≡ x ∷ xs → IsBatchTo start place rs (beginning limit room (from place rs)) (last_seq x xs)
+pub batched : (limit room start place : ℕ) (rs : List Logged) (x : Logged) (xs : List Logged) → IsUp start rs
+    → beginning limit room (from place rs) ≡ x ∷ xs
+    → IsBatchTo start place rs (beginning limit room (from place rs)) (last_seq x xs)
 batched limit room start place rs x xs up is =
     let ls = from place rs in
     let bs = beginning limit room ls in
     let q = last_seq x xs in
     let up' = up_from place start rs up in
-    let reach : place_after place (numbers_of bs) ≡ q + 1 = ap (λ ys. place_after place (numbers_of ys)) is ∙ reach_is place x xs in
+    let reach : place_after place (numbers_of bs) ≡ q + 1 =
+    ap (λ ys. place_after place (numbers_of ys)) is ∙ reach_is place x xs in
     let first = subst (IsUp place) is (up_beginning limit room place ls up') in
     let later = subst (IsUp start) is (up_beginning limit room start ls (up_kept place start rs up)) in
-    let rest : from (place_after place (numbers_of bs)) ls ≡ from (q + 1) rs = from_twice place (place_after place (numbers_of bs)) rs (place_up limit room place ls up') ∙ ap (λ p. from p rs) reach in
+    let rest : from (place_after place (numbers_of bs)) ls ≡ from (q + 1) rs =
+    from_twice place (place_after place (numbers_of bs)) rs (place_up limit room place ls up')
+    ∙ ap (λ p. from p rs) reach in
     record {
       number = ap (λ ys. last_number_in (map stored ys)) is ∙ number_is x xs;
       reach = reach;
       above = both_above place start q (above_is place x xs first) (above_is start x xs later);
-      settled = λ none. sym (ap last_checkpoint is ∙ checkpoint_is x xs) ∙ settled_batch limit room place start rs x xs up is (ap (λ p. from p rs) reach ∙ none);
+      settled = λ none. sym (ap last_checkpoint is ∙ checkpoint_is x xs)
+          ∙ settled_batch limit room place start rs x xs up is (ap (λ p. from p rs) reach ∙ none);
       fewer = fewer_by ls bs (from (q + 1) rs) x xs (parts limit room place ls up' ∙ ap (λ ys. bs ++ ys) rest) is;
     }
 
@@ -147,4 +167,5 @@ pub fewer_from : (p : ℕ) (rs : List Logged) → length (from p rs) ≤ length 
 fewer_from p [] = omega arith
 fewer_from p (r ∷ rs) =
     let le = fewer_from p rs in
-    cond_both (nat_le p r.seq) (r ∷ from p rs) (from p rs) (λ xs. length xs ≤ suc (length rs)) (λ is. omega (arith, le)) (λ not. omega (arith, le))
+    cond_both (nat_le p r.seq) (r ∷ from p rs) (from p rs) (λ xs. length xs ≤ suc (length rs)) (λ is. omega (arith, le))
+    (λ not. omega (arith, le))

@@ -25,13 +25,14 @@ pub record IsWhole (log : Journal) (c s : ℕ) : Type 0 where
   pub above : (sh : ℕ) → AreAbove (trim_floor log c s) (records log s sh)
   pub listed : AllByRecursion (λ (x : ShardState). is_closed_below (trim_floor log c s) x ≡ false) (shards log s)
 
--- the history is of fewer than 2^32 turns; at the clock after the moment nothing of a live stream is trimmed or expired; and
--- each row that is there begins at the trim horizon
+-- the history is of fewer than 2^32 turns; at the clock after the moment nothing of a live stream is trimmed or
+-- expired; and each row that is there begins at the trim horizon
 pub record CanDrain (h : List Turn) (at : ℕ) : Type 0 where
   pub lawful : IsHistory h
   pub few : length h < 2 ^ 32
   pub whole : (s : ℕ) → is_live (journal h) s ≡ true → IsWhole (journal h) (max (clock h) at) s
-  pub horizon : (key : ShardRef) (r : Row) → row (journal h) key ≡ Some r → origin_of (journal h) key ≡ Some origin.TrimHorizon
+  pub horizon : (key : ShardRef) (r : Row) → row (journal h) key ≡ Some r
+      → origin_of (journal h) key ≡ Some origin.TrimHorizon
 
 -- ---- the shard of a key
 

@@ -19,8 +19,8 @@ listed_keys h at = listed_in (journal h) (max (clock h) at) (live_streams (journ
 abbrev pub HasRow : Journal → ShardRef → Type 0
 HasRow log key = (r : Row) × (row log key ≡ Some r)
 
--- each row stands where it stood or begins at the trim horizon; those that were there are there, and so are those of the
--- first keys
+-- each row stands where it stood or begins at the trim horizon; those that were there are there, and so are those of
+-- the first keys
 pub record AreMade (h : List Turn) (keys : List ShardRef) (among : List Row) (i : ℕ) (log : Journal) : Type 0 where
   pub fresh : (key : ShardRef) (r : Row) → row log key ≡ Some r → IsFresh h key r
   pub kept : (key : ShardRef) (r : Row) → row_in among key ≡ Some r → HasRow log key

@@ -27,4 +27,5 @@ pub record HasLaws (h : List Turn) (c : ℕ) : Type 0 where
   pub few : AreFewRecords h
   pub live : (s : ℕ) → is_live (journal h) s ≡ true → (1 ≤ s) × (s ≤ made_count (journal h))
   pub streams : (more : List Turn) → AreOnLeases more → HasSameStreams (journal (more ++ h)) (journal h)
-  pub floors : (more : List Turn) → AreOnLeases more → clock (more ++ h) ≤ c → HasSameFloors c (journal (more ++ h)) (journal h)
+  pub floors : (more : List Turn) → AreOnLeases more → clock (more ++ h) ≤ c
+      → HasSameFloors c (journal (more ++ h)) (journal h)

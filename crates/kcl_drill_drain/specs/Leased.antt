@@ -34,5 +34,7 @@ abbrev pub turn_of : ℕ → ℕ → Command → Turn
 turn_of by at what = record { by = by; at = at; what = what }
 
 -- the answer is that of the definitions after any history that the machine stood for, and the turn is added to it
-abbrev pub Answers : {E : Type 0} → (List Turn → Type 0) → (List Turn → Type 0) → Turn → Result (Result Reply Refusal) E → Type 0
-Answers stands stands' turn result = (now : List Turn) → stands now → IfOk result (λ a. (a ≡ answer now turn) × stands' (turn ∷ now))
+abbrev pub Answers : {E : Type 0} → (List Turn → Type 0) → (List Turn → Type 0) → Turn → Result (Result Reply Refusal) E
+    → Type 0
+Answers stands stands' turn result = (now : List Turn) → stands now
+    → IfOk result (λ a. (a ≡ answer now turn) × stands' (turn ∷ now))

@@ -1,5 +1,6 @@
 -- How far the draining of one row has come.
-use Rattle.std.specs.Prelude.{ℕ, ◌≡◌, ◌+◌, ◌<◌, ◌≤◌, ◌^◌, max, Bool, false, List, [], ◌∷◌, length, map, slice_get, Option, Some, None}
+use Rattle.std.specs.Prelude.{ℕ, ◌≡◌, ◌+◌, ◌<◌, ◌≤◌, ◌^◌, max, Bool, false, List, [], ◌∷◌, length, map, slice_get}
+use Rattle.std.specs.Prelude.{Option, Some, None}
 use Rattle.kds_base.specs.declared.lease_key.ShardRef.{ShardRef}
 use Rattle.kds_defs.specs.declared.command.Target.TheVariants as target
 use Rattle.kds_defs.specs.declared.command.Turn.{Turn}
@@ -65,13 +66,14 @@ pub record Stands (w : Spot) (by : ℕ) (x : Holding) (log : Journal) : Type 0 w
   pub own : x.by ≡ by
   pub of_key : x.key ≡ w.key
 
--- all that it read is given; where nothing is left, its row's checkpoint is at the last record; a mark at a record that is
--- left is above the least one; and there are counters for all that is left
+-- all that it read is given; where nothing is left, its row's checkpoint is at the last record; a mark at a record that
+-- is left is above the least one; and there are counters for all that is left
 pub record IsReady (w : Spot) (at : ℕ) (x : Holding) : Type 0 where
   pub none_waits : x.waiting ≡ []
   pub given : x.done ≡ x.place
   pub going : is_end x.checkpoint ≡ false
-  pub settled : left_of (journal w.history) (clock_at w at) w.key x.place ≡ [] → x.checkpoint ≡ last_checkpoint (records_of (journal w.history) w.key)
+  pub settled : left_of (journal w.history) (clock_at w at) w.key x.place ≡ []
+      → x.checkpoint ≡ last_checkpoint (records_of (journal w.history) w.key)
   pub low : least x.checkpoint x.floor ≤ max x.place (start_of (shard_of (journal w.history) w.key))
   pub budget : x.counter + length (left_of (journal w.history) (clock_at w at) w.key x.place)
       ≤ length w.history + 1 + length (records_of (journal w.history) w.key)

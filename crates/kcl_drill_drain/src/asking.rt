@@ -22,7 +22,8 @@ pub fn ask<M: Machine>(
     requires lawful { IsLawfulCommand what }
     ensures ok { Answers (M.stands_for machine.old) (M.stands_for machine.new) (turn_of by at what) result }
     ensures moment { at < 2 ^ 62 }
-    ensures leased { (h : List Asked) → HasLeased (M.stands_for machine.old) by at h → HasLeased (M.stands_for machine.new) by at h }
+    ensures leased { (h : List Asked) → HasLeased (M.stands_for machine.old) by at h
+        → HasLeased (M.stands_for machine.new) by at h }
 {
     let _ms = at.ms();
     machine.apply(Turn { by, at, what })

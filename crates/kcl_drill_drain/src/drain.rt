@@ -22,7 +22,8 @@ fn make_missing<M: Machine>(
     survey: &Answer,
 ) -> Result<(), Memory>
     ensures ok { Makes (M.stands_for machine.old) (M.stands_for machine.new) by at survey.now result }
-    ensures leased { (h : List Asked) → HasLeased (M.stands_for machine.old) by at h → HasLeased (M.stands_for machine.new) by at h }
+    ensures leased { (h : List Asked) → HasLeased (M.stands_for machine.old) by at h
+        → HasLeased (M.stands_for machine.new) by at h }
 {
     match survey {
         Ok(Reply::Survey { shards, rows }) => {
@@ -41,7 +42,8 @@ fn drain_listed<M: Machine>(
     survey: &Answer,
 ) -> Result<(), Memory>
     ensures ok { Drains (M.stands_for machine.old) (M.stands_for machine.new) by at survey.now result }
-    ensures leased { (h : List Asked) → HasLeased (M.stands_for machine.old) by at h → HasLeased (M.stands_for machine.new) by at h }
+    ensures leased { (h : List Asked) → HasLeased (M.stands_for machine.old) by at h
+        → HasLeased (M.stands_for machine.new) by at h }
 {
     match survey {
         Ok(Reply::Survey { shards, rows }) => {
@@ -60,7 +62,8 @@ fn drain_listed<M: Machine>(
 /// The error means out of memory. Even then, all commands that the machine has answered since the call began are
 /// commands on leases, with the sender `by` and the time `at`.
 pub fn lone_drain<M: Machine>(machine: &mut M, by: u32, at: Moment) -> Result<(), Memory>
-    ensures drained { (h : List Asked) → M.stands_for machine.old h → CanDrain h at → OnOk result (HasDrained (M.stands_for machine.new) by at h) }
+    ensures drained { (h : List Asked) → M.stands_for machine.old h → CanDrain h at
+        → OnOk result (HasDrained (M.stands_for machine.new) by at h) }
     ensures begun { (h : List Asked) → M.stands_for machine.old h → HasLeased (M.stands_for machine.new) by at h }
 {
     laws::drain_laws();

@@ -21,7 +21,8 @@ fn make_row<M: Machine>(
     seen: Option<Row>,
 ) -> Result<(), Memory>
     ensures ok { MakesRow (M.stands_for machine.old) (M.stands_for machine.new) by at key seen result }
-    ensures leased { (h : List Asked) → HasLeased (M.stands_for machine.old) by at h → HasLeased (M.stands_for machine.new) by at h }
+    ensures leased { (h : List Asked) → HasLeased (M.stands_for machine.old) by at h
+        → HasLeased (M.stands_for machine.new) by at h }
 {
     laws::drain_laws();
     if seen.is_none() {
@@ -40,7 +41,8 @@ pub fn make_keys<M: Machine>(
     among: &[Row],
 ) -> Result<(), Memory>
     ensures ok { MakesKeys (M.stands_for machine.old) (M.stands_for machine.new) by at keys.now among.now result }
-    ensures leased { (h : List Asked) → HasLeased (M.stands_for machine.old) by at h → HasLeased (M.stands_for machine.new) by at h }
+    ensures leased { (h : List Asked) → HasLeased (M.stands_for machine.old) by at h
+        → HasLeased (M.stands_for machine.new) by at h }
 {
     for key in keys {
         make_row(machine, by, at, *key, row_among(among, key))?;

@@ -67,7 +67,8 @@ fn mark_last<M: Machine>(
     last: Option<Seq>,
 ) -> Result<u64, Memory>
     ensures ok { MarksLast (M.stands_for machine.old) (M.stands_for machine.new) by at held.now last result }
-    ensures leased { (h : List Asked) → HasLeased (M.stands_for machine.old) by at h → HasLeased (M.stands_for machine.new) by at h }
+    ensures leased { (h : List Asked) → HasLeased (M.stands_for machine.old) by at h
+        → HasLeased (M.stands_for machine.new) by at h }
 {
     laws::drain_laws();
     match last {
@@ -89,7 +90,8 @@ fn finish_or_continue<M: Machine>(
     ended: bool,
 ) -> Result<Option<DrainTenure>, Memory>
     ensures ok { Settles (M.stands_for machine.old) (M.stands_for machine.new) by at place held ended result }
-    ensures leased { (h : List Asked) → HasLeased (M.stands_for machine.old) by at h → HasLeased (M.stands_for machine.new) by at h }
+    ensures leased { (h : List Asked) → HasLeased (M.stands_for machine.old) by at h
+        → HasLeased (M.stands_for machine.new) by at h }
     ensures rises { IfOk result (λ o. IfSome o (λ next. place < next.place)) }
 {
     laws::drain_laws();
@@ -113,7 +115,8 @@ fn deliver<M: Machine>(
     fetch: &Fetch,
 ) -> Result<Option<DrainTenure>, Memory>
     ensures ok { Delivers (M.stands_for machine.old) (M.stands_for machine.new) by at held.now fetch.now result }
-    ensures leased { (h : List Asked) → HasLeased (M.stands_for machine.old) by at h → HasLeased (M.stands_for machine.new) by at h }
+    ensures leased { (h : List Asked) → HasLeased (M.stands_for machine.old) by at h
+        → HasLeased (M.stands_for machine.new) by at h }
     ensures rises { IfOk result (λ o. IfSome o (λ next. held.now.place < next.place)) }
 {
     laws::drain_laws();
@@ -137,7 +140,8 @@ fn read_batch<M: Machine>(
     tally: &mut Tally,
 ) -> Result<Option<DrainTenure>, Memory>
     ensures ok { StepsOn (M.stands_for machine.old) (M.stands_for machine.new) by at held.now result }
-    ensures leased { (h : List Asked) → HasLeased (M.stands_for machine.old) by at h → HasLeased (M.stands_for machine.new) by at h }
+    ensures leased { (h : List Asked) → HasLeased (M.stands_for machine.old) by at h
+        → HasLeased (M.stands_for machine.new) by at h }
     ensures rises { IfOk result (λ o. IfSome o (λ next. held.now.place < next.place)) }
 {
     let answer = read(machine, by, at, held)?;
@@ -155,7 +159,8 @@ pub fn read_on<M: Machine>(
     from: DrainTenure,
 ) -> Result<(), Memory>
     ensures ok { ReadsToEnd (M.stands_for machine.old) (M.stands_for machine.new) by at from result }
-    ensures leased { (h : List Asked) → HasLeased (M.stands_for machine.old) by at h → HasLeased (M.stands_for machine.new) by at h }
+    ensures leased { (h : List Asked) → HasLeased (M.stands_for machine.old) by at h
+        → HasLeased (M.stands_for machine.new) by at h }
 {
     let mut tally = Tally::new();
     let mut held = from;

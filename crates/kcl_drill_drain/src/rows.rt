@@ -21,7 +21,8 @@ fn drain_taken<M: Machine>(
     counter: u64,
 ) -> Result<(), Memory>
     ensures ok { DrainsTaken (M.stands_for machine.old) (M.stands_for machine.new) by at key counter result }
-    ensures leased { (h : List Asked) → HasLeased (M.stands_for machine.old) by at h → HasLeased (M.stands_for machine.new) by at h }
+    ensures leased { (h : List Asked) → HasLeased (M.stands_for machine.old) by at h
+        → HasLeased (M.stands_for machine.new) by at h }
 {
     match take(machine, by, at, key, counter)? {
         Some(held) => {
@@ -42,7 +43,8 @@ fn drain_row<M: Machine>(
     row: Option<Row>,
 ) -> Result<(), Memory>
     ensures ok { DrainsRow (M.stands_for machine.old) (M.stands_for machine.new) by at key row result }
-    ensures leased { (h : List Asked) → HasLeased (M.stands_for machine.old) by at h → HasLeased (M.stands_for machine.new) by at h }
+    ensures leased { (h : List Asked) → HasLeased (M.stands_for machine.old) by at h
+        → HasLeased (M.stands_for machine.new) by at h }
 {
     laws::drain_laws();
     match row {
@@ -67,7 +69,8 @@ pub fn drain_keys<M: Machine>(
     among: &[Row],
 ) -> Result<(), Memory>
     ensures ok { DrainsKeys (M.stands_for machine.old) (M.stands_for machine.new) by at keys.now among.now result }
-    ensures leased { (h : List Asked) → HasLeased (M.stands_for machine.old) by at h → HasLeased (M.stands_for machine.new) by at h }
+    ensures leased { (h : List Asked) → HasLeased (M.stands_for machine.old) by at h
+        → HasLeased (M.stands_for machine.new) by at h }
 {
     for key in keys {
         drain_row(machine, by, at, *key, row_among(among, key))?;

@@ -57,7 +57,8 @@ pub fn take<M: Machine>(
     counter: u64,
 ) -> Result<Option<DrainTenure>, Memory>
     ensures ok { Takes (M.stands_for machine.old) (M.stands_for machine.new) by at key counter result }
-    ensures leased { (h : List Asked) → HasLeased (M.stands_for machine.old) by at h → HasLeased (M.stands_for machine.new) by at h }
+    ensures leased { (h : List Asked) → HasLeased (M.stands_for machine.old) by at h
+        → HasLeased (M.stands_for machine.new) by at h }
 {
     laws::drain_laws();
     kcl_drill_laws::held_answers();
@@ -80,7 +81,8 @@ pub fn open<M: Machine>(
     held: &DrainTenure,
 ) -> Result<(), Memory>
     ensures ok { Opens (M.stands_for machine.old) (M.stands_for machine.new) by at held.now result }
-    ensures leased { (h : List Asked) → HasLeased (M.stands_for machine.old) by at h → HasLeased (M.stands_for machine.new) by at h }
+    ensures leased { (h : List Asked) → HasLeased (M.stands_for machine.old) by at h
+        → HasLeased (M.stands_for machine.new) by at h }
 {
     laws::drain_laws();
     kcl_drill_laws::held_answers();
@@ -98,7 +100,8 @@ pub fn read<M: Machine>(
     held: &DrainTenure,
 ) -> Result<Answer, Memory>
     ensures ok { Reads (M.stands_for machine.old) (M.stands_for machine.new) by at held.now result }
-    ensures leased { (h : List Asked) → HasLeased (M.stands_for machine.old) by at h → HasLeased (M.stands_for machine.new) by at h }
+    ensures leased { (h : List Asked) → HasLeased (M.stands_for machine.old) by at h
+        → HasLeased (M.stands_for machine.new) by at h }
 {
     laws::drain_laws();
     kcl_drill_laws::held_answers();
@@ -119,7 +122,8 @@ pub fn give<M: Machine>(
     held: &DrainTenure,
 ) -> Result<(), Memory>
     ensures ok { Gives (M.stands_for machine.old) (M.stands_for machine.new) by at held.now result }
-    ensures leased { (h : List Asked) → HasLeased (M.stands_for machine.old) by at h → HasLeased (M.stands_for machine.new) by at h }
+    ensures leased { (h : List Asked) → HasLeased (M.stands_for machine.old) by at h
+        → HasLeased (M.stands_for machine.new) by at h }
 {
     kcl_drill_laws::held_answers();
     kcl_drill_laws::held_states();
@@ -138,7 +142,8 @@ pub fn mark<M: Machine>(
     to: Target,
 ) -> Result<u64, Memory>
     ensures ok { Marks (M.stands_for machine.old) (M.stands_for machine.new) by at held.now to result }
-    ensures leased { (h : List Asked) → HasLeased (M.stands_for machine.old) by at h → HasLeased (M.stands_for machine.new) by at h }
+    ensures leased { (h : List Asked) → HasLeased (M.stands_for machine.old) by at h
+        → HasLeased (M.stands_for machine.new) by at h }
 {
     laws::drain_laws();
     kcl_drill_laws::held_answers();

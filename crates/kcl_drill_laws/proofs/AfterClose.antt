@@ -12,7 +12,8 @@ use Rattle.kcl_drill_laws.specs.Closed.{AreLeased}
 
 pub clock_same : (by at : ℕ) (more h : List Turn) → at ≤ clock h → AreLeased by at more → clock (more ++ h) ≡ clock h
 clock_same by at [] h below are = refl
-clock_same by at (t ∷ more) h below are = both (clock (more ++ h)) (clock h) t.at (clock_same by at more h below are.1) are.0.1 below
+clock_same by at (t ∷ more) h below are =
+    both (clock (more ++ h)) (clock h) t.at (clock_same by at more h below are.1) are.0.1 below
   where
     both : (n m k : ℕ) → n ≡ m → k ≡ at → at ≤ m → max n k ≡ m
     both n m k e is le = omega (arith, e, is, le)
@@ -20,13 +21,15 @@ clock_same by at (t ∷ more) h below are = both (clock (more ++ h)) (clock h) t
 services_same : (by at : ℕ) (more h : List Turn) → AreLeased by at more → service_turns (more ++ h) ≡ service_turns h
 services_same by at [] h are = refl
 services_same by at (t ∷ more) h are =
-    ap (λ b. cond b (t ∷ service_turns (more ++ h)) (service_turns (more ++ h))) are.0.2 ∙ services_same by at more h are.1
+    ap (λ b. cond b (t ∷ service_turns (more ++ h)) (service_turns (more ++ h))) are.0.2
+    ∙ services_same by at more h are.1
 
 history_more : (by at : ℕ) (more h : List Turn) → AreLeased by at more → IsHistory h → IsHistory (more ++ h)
 history_more by at [] h are is = is
 history_more by at (t ∷ more) h are is = (are.0.3, history_more by at more h are.1 is)
 
-pub still_drill : (number records by at : ℕ) (more h : List Turn) → IsDrill h number records → at ≤ clock h → AreLeased by at more
+pub still_drill : (number records by at : ℕ) (more h : List Turn) → IsDrill h number records → at ≤ clock h
+    → AreLeased by at more
     → IsDrill (more ++ h) number records
 still_drill number records by at more h is below are =
     record {

@@ -1,5 +1,6 @@
 -- How far a tenure has come after each of its lines.
-use Rattle.std.proofs.Common.{◌≡◌, ℕ, ◌+◌, ◌≤◌, List, [], ◌∷◌, ◌++◌, drop, length, take, zero, suc, Option, Some, refl, ap, ◌∙◌, arith}
+use Rattle.std.proofs.Common.{◌≡◌, ℕ, ◌+◌, ◌≤◌, List, [], ◌∷◌, ◌++◌, drop, length, take, zero, suc, Option, Some, refl}
+use Rattle.std.proofs.Common.{ap, ◌∙◌, arith}
 use Rattle.std.specs.Prelude.{◌==◌, if◌then◌else◌}
 use Rattle.std.specs.Option.{option_map}
 use Rattle.std.proofs.lemmas.List.{drop-append-le, length_push, take-append-le}
@@ -8,14 +9,18 @@ use Rattle.kds_base.proofs.Facts.{is_itself}
 use Rattle.kds_defs.specs.declared.command.Target.{Target}
 use Rattle.kds_defs.specs.declared.reply.Row.{Row}
 use Rattle.kds_defs.specs.Journal.{Journal}
-use Rattle.kds_defs.specs.Leases.{TenureState, ReadDone, checkpoint_in, delivered, given_reads, is_key, key_of, last_ended, marked_row, new_tenure, place_after_reads, place_of, row, taken_count, taken_row, tenure, with_given, with_opened, with_read}
+use Rattle.kds_defs.specs.Leases.{TenureState, ReadDone, checkpoint_in, delivered, given_reads, is_key, key_of}
+use Rattle.kds_defs.specs.Leases.{last_ended, marked_row, new_tenure, place_after_reads, place_of, row, taken_count}
+use Rattle.kds_defs.specs.Leases.{taken_row, tenure, with_given, with_opened, with_read}
 use Rattle.kds_defs.specs.Records.{place_after}
 use Rattle.kds_defs.proofs.Keys.{key_itself}
-use Rattle.kcl_drill_laws.specs.Holding.{Holding, Holds, after_give, after_mark, after_read, begun_from, given_line, marked_line, opened_line, read_line, taken_line}
+use Rattle.kcl_drill_laws.specs.Holding.{Holding, Holds, after_give, after_mark, after_read, begun_from, given_line}
+use Rattle.kcl_drill_laws.specs.Holding.{marked_line, opened_line, read_line, taken_line}
 
 -- ---- lists of reads
 
-places_append : (p : ℕ) (rs : List ReadDone) (r : ReadDone) → place_after_reads p (rs ++ r ∷ []) ≡ place_after (place_after_reads p rs) r.numbers
+places_append : (p : ℕ) (rs : List ReadDone) (r : ReadDone)
+    → place_after_reads p (rs ++ r ∷ []) ≡ place_after (place_after_reads p rs) r.numbers
 places_append p [] r = refl
 places_append p (q ∷ rs) r = places_append (place_after p q.numbers) rs r
 
@@ -25,19 +30,22 @@ last_one (q ∷ []) r = refl
 last_one (q ∷ s ∷ rs) r = last_one (s ∷ rs) r
 
 -- one more of them is the first of those after
-take_more : (n : ℕ) (rs : List ReadDone) (r : ReadDone) (rest : List ReadDone) → drop n rs ≡ r ∷ rest → take (suc n) rs ≡ take n rs ++ r ∷ []
+take_more : (n : ℕ) (rs : List ReadDone) (r : ReadDone) (rest : List ReadDone) → drop n rs ≡ r ∷ rest
+    → take (suc n) rs ≡ take n rs ++ r ∷ []
 take_more zero [] r rest is = absurd cc
 take_more zero (q ∷ rs) r rest is = let e : q ≡ r = cc in ap (λ x. x ∷ []) e
 take_more (suc n) [] r rest is = absurd cc
 take_more (suc n) (q ∷ rs) r rest is = ap (λ qs. q ∷ qs) (take_more n rs r rest is)
 
-drop_more : (n : ℕ) (rs : List ReadDone) (r : ReadDone) (rest : List ReadDone) → drop n rs ≡ r ∷ rest → drop (suc n) rs ≡ rest
+drop_more : (n : ℕ) (rs : List ReadDone) (r : ReadDone) (rest : List ReadDone) → drop n rs ≡ r ∷ rest
+    → drop (suc n) rs ≡ rest
 drop_more zero [] r rest is = absurd cc
 drop_more zero (q ∷ rs) r rest is = let e : rs ≡ rest = cc in e
 drop_more (suc n) [] r rest is = absurd cc
 drop_more (suc n) (q ∷ rs) r rest is = drop_more n rs r rest is
 
-some_more : (n : ℕ) (rs : List ReadDone) (r : ReadDone) (rest : List ReadDone) → drop n rs ≡ r ∷ rest → suc n ≤ length rs
+some_more : (n : ℕ) (rs : List ReadDone) (r : ReadDone) (rest : List ReadDone) → drop n rs ≡ r ∷ rest
+    → suc n ≤ length rs
 some_more zero [] r rest is = absurd cc
 some_more zero (q ∷ rs) r rest is = omega arith
 some_more (suc n) [] r rest is = absurd cc
@@ -45,37 +53,47 @@ some_more (suc n) (q ∷ rs) r rest is = let e = some_more n rs r rest is in ome
 
 -- ---- the given reads after one more is given
 
-pub one_more_given : (T : TenureState) (r : ReadDone) (rest : List ReadDone) → drop T.given T.reads ≡ r ∷ rest → given_reads (with_given T) ≡ given_reads T ++ r ∷ []
+pub one_more_given : (T : TenureState) (r : ReadDone) (rest : List ReadDone) → drop T.given T.reads ≡ r ∷ rest
+    → given_reads (with_given T) ≡ given_reads T ++ r ∷ []
 one_more_given T r rest is =
     let e : T.given + 1 ≡ suc T.given = omega arith in
     ap (λ n. take n T.reads) e ∙ take_more T.given T.reads r rest is
 
-pub given_place : (T : TenureState) (r : ReadDone) (rest : List ReadDone) → drop T.given T.reads ≡ r ∷ rest → delivered (with_given T) ≡ place_after (delivered T) r.numbers
-given_place T r rest is = ap (place_after_reads (place_of T.start)) (one_more_given T r rest is) ∙ places_append (place_of T.start) (given_reads T) r
+pub given_place : (T : TenureState) (r : ReadDone) (rest : List ReadDone) → drop T.given T.reads ≡ r ∷ rest
+    → delivered (with_given T) ≡ place_after (delivered T) r.numbers
+given_place T r rest is = ap (place_after_reads (place_of T.start)) (one_more_given T r rest is)
+    ∙ places_append (place_of T.start) (given_reads T) r
 
 -- ---- a taking and an opening
 
-pub begun_tenure : (log : Journal) (c by owner : ℕ) (key : ShardRef) (r : Row) → row log key ≡ Some r → tenure (taken_line log c by key r owner ∷ log) (taken_count log + 1) ≡ Some (new_tenure by key r.checkpoint)
+pub begun_tenure : (log : Journal) (c by owner : ℕ) (key : ShardRef) (r : Row) → row log key ≡ Some r
+    → tenure (taken_line log c by key r owner ∷ log) (taken_count log + 1) ≡ Some (new_tenure by key r.checkpoint)
 begun_tenure log c by owner key r there =
-    ap (λ b. if b then Some (new_tenure by key (checkpoint_in (row log key))) else tenure log (taken_count log + 1)) (is_itself (taken_count log + 1))
+    ap (λ b. if b then Some (new_tenure by key (checkpoint_in (row log key))) else tenure log (taken_count log + 1))
+    (is_itself (taken_count log + 1))
     ∙ ap (λ k. Some (new_tenure by key k)) (ap checkpoint_in there)
 
-pub begun_row : (log : Journal) (c by owner : ℕ) (key : ShardRef) (r : Row) → row log key ≡ Some r → row (taken_line log c by key r owner ∷ log) key ≡ Some (taken_row (taken_count log + 1) owner r)
+pub begun_row : (log : Journal) (c by owner : ℕ) (key : ShardRef) (r : Row) → row log key ≡ Some r
+    → row (taken_line log c by key r owner ∷ log) key ≡ Some (taken_row (taken_count log + 1) owner r)
 begun_row log c by owner key r there =
-    ap (λ b. if b then option_map (taken_row (taken_count log + 1) owner) (row log key) else row log key) (key_itself key)
+    ap (λ b. if b then option_map (taken_row (taken_count log + 1) owner) (row log key) else row log key)
+    (key_itself key)
     ∙ ap (option_map (taken_row (taken_count log + 1) owner)) there
 
-told : (t : ℕ) (o : Option TenureState) (T : TenureState) (f : TenureState → TenureState) → o ≡ Some T → (if t == t then option_map f o else o) ≡ Some (f T)
+told : (t : ℕ) (o : Option TenureState) (T : TenureState) (f : TenureState → TenureState) → o ≡ Some T
+    → (if t == t then option_map f o else o) ≡ Some (f T)
 told t o T f is = ap (λ b. if b then option_map f o else o) (is_itself t) ∙ ap (option_map f) is
 
-pub begun_holds : (log : Journal) (c d by owner : ℕ) (key : ShardRef) (r : Row) → row log key ≡ Some r → Holds (opened_line log d by ∷ taken_line log c by key r owner ∷ log) (begun_from log by key r)
+pub begun_holds : (log : Journal) (c d by owner : ℕ) (key : ShardRef) (r : Row) → row log key ≡ Some r
+    → Holds (opened_line log d by ∷ taken_line log c by key r owner ∷ log) (begun_from log by key r)
 begun_holds log c d by owner key r there =
     let t = taken_count log + 1 in
     let now = taken_line log c by key r owner ∷ log in
     record {
       tenure = record {
         state = with_opened (new_tenure by key r.checkpoint);
-        begun = told t (tenure now t) (new_tenure by key r.checkpoint) with_opened (begun_tenure log c by owner key r there);
+        begun = told t (tenure now t) (new_tenure by key r.checkpoint) with_opened
+            (begun_tenure log c by owner key r there);
         took = ap (λ b. if b then Some key else key_of log t) (is_itself t);
         own = refl;
         of_key = refl;
@@ -98,7 +116,8 @@ begun_holds log c d by owner key r there =
 
 -- ---- a read, a giving, a mark
 
-pub read_holds : (log : Journal) (c limit : ℕ) (x : Holding) (r : ReadDone) → Holds log x → Holds (read_line c x limit r ∷ log) (after_read x r)
+pub read_holds : (log : Journal) (c limit : ℕ) (x : Holding) (r : ReadDone) → Holds log x
+    → Holds (read_line c x limit r ∷ log) (after_read x r)
 read_holds log c limit x r holds =
     let has = holds.tenure in
     let held = holds.row in
@@ -112,15 +131,24 @@ read_holds log c limit x r holds =
         of_key = has.of_key;
         opened = has.opened;
         up_to = places_append (place_of T.start) T.reads r ∙ ap (λ p. place_after p r.numbers) has.up_to;
-        given_to = ap (place_after_reads (place_of T.start)) (take-append-le T.given T.reads (r ∷ []) has.some) ∙ has.given_to;
+        given_to = ap (place_after_reads (place_of T.start)) (take-append-le T.given T.reads (r ∷ []) has.some)
+            ∙ has.given_to;
         some = omega (arith, has.some, length_push T.reads r);
         waits = drop-append-le T.given T.reads (r ∷ []) has.some ∙ ap (λ qs. qs ++ r ∷ []) has.waits;
         last = ap last_ended (take-append-le T.given T.reads (r ∷ []) has.some) ∙ has.last;
       };
-      row = record { now = held.now; there = held.there; of_tenure = held.of_tenure; counted = held.counted; checkpoint = held.checkpoint; floor = held.floor };
+      row = record {
+        now = held.now;
+        there = held.there;
+        of_tenure = held.of_tenure;
+        counted = held.counted;
+        checkpoint = held.checkpoint;
+        floor = held.floor;
+      };
     }
 
-pub give_holds : (log : Journal) (c : ℕ) (x : Holding) (r : ReadDone) (rest : List ReadDone) → Holds log x → x.waiting ≡ r ∷ rest → Holds (given_line c x ∷ log) (after_give x r rest)
+pub give_holds : (log : Journal) (c : ℕ) (x : Holding) (r : ReadDone) (rest : List ReadDone) → Holds log x
+    → x.waiting ≡ r ∷ rest → Holds (given_line c x ∷ log) (after_give x r rest)
 give_holds log c x r rest holds first =
     let has = holds.tenure in
     let held = holds.row in
@@ -141,18 +169,40 @@ give_holds log c x r rest holds first =
         waits = ap (λ n. drop n T.reads) e ∙ drop_more T.given T.reads r rest is;
         last = ap last_ended (one_more_given T r rest is) ∙ last_one (given_reads T) r;
       };
-      row = record { now = held.now; there = held.there; of_tenure = held.of_tenure; counted = held.counted; checkpoint = held.checkpoint; floor = held.floor };
+      row = record {
+        now = held.now;
+        there = held.there;
+        of_tenure = held.of_tenure;
+        counted = held.counted;
+        checkpoint = held.checkpoint;
+        floor = held.floor;
+      };
     }
 
-pub mark_holds : (log : Journal) (c : ℕ) (x : Holding) (to : Target) → Holds log x → Holds (marked_line c x to ∷ log) (after_mark x to)
+pub mark_holds : (log : Journal) (c : ℕ) (x : Holding) (to : Target) → Holds log x
+    → Holds (marked_line c x to ∷ log) (after_mark x to)
 mark_holds log c x to holds =
     let has = holds.tenure in
     let held = holds.row in
     record {
-      tenure = record { state = has.state; begun = has.begun; took = has.took; own = has.own; of_key = has.of_key; opened = has.opened; up_to = has.up_to; given_to = has.given_to; some = has.some; waits = has.waits; last = has.last };
+      tenure = record {
+        state = has.state;
+        begun = has.begun;
+        took = has.took;
+        own = has.own;
+        of_key = has.of_key;
+        opened = has.opened;
+        up_to = has.up_to;
+        given_to = has.given_to;
+        some = has.some;
+        waits = has.waits;
+        last =
+            has.last;
+      };
       row = record {
         now = marked_row to held.now;
-        there = ap (λ b. if b then option_map (marked_row to) (row log x.key) else row log x.key) (ap (λ o. is_key o x.key) has.took ∙ key_itself x.key) ∙ ap (option_map (marked_row to)) held.there;
+        there = ap (λ b. if b then option_map (marked_row to) (row log x.key) else row log x.key)
+            (ap (λ o. is_key o x.key) has.took ∙ key_itself x.key) ∙ ap (option_map (marked_row to)) held.there;
         of_tenure = held.of_tenure;
         counted = ap (λ m. m + 1) held.counted;
         checkpoint = refl;

@@ -1,5 +1,6 @@
 -- Each turn adds one line of a lease at most, and each such line raises a row's counter by one at most.
-use Rattle.std.proofs.Common.{◌≡◌, ℕ, ◌+◌, ◌≤◌, Bool, true, false, List, [], ◌∷◌, length, Option, Some, None, refl, arith}
+use Rattle.std.proofs.Common.{◌≡◌, ℕ, ◌+◌, ◌≤◌, Bool, true, false, List, [], ◌∷◌, length, Option, Some, None, refl}
+use Rattle.std.proofs.Common.{arith}
 use Rattle.std.specs.Prelude.{Result, if◌then◌else◌}
 use Rattle.std.specs.List.{AllByRecursion}
 use Rattle.std.specs.Option.{option_map}
@@ -16,7 +17,8 @@ use Rattle.kds_defs.specs.Decision.{with◌or◌then◌}
 use Rattle.kds_defs.specs.Histories.{clock, decide, decision, journal, lines_of}
 use Rattle.kds_defs.specs.Journal.{Line, Journal, with_lines}
 use Rattle.kds_defs.specs.Keys.{same_key}
-use Rattle.kds_defs.specs.Leases.{counter_in, freed_row, is_key, key_of, made_row, marked_row, renewed_row, row, row_after, taken_count, taken_count_after, taken_row}
+use Rattle.kds_defs.specs.Leases.{counter_in, freed_row, is_key, key_of, made_row, marked_row, renewed_row, row}
+use Rattle.kds_defs.specs.Leases.{row_after, taken_count, taken_count_after, taken_row}
 use Rattle.kds_defs.specs.ScaleCommands.{steps_to}
 use Rattle.kds_defs.proofs.Walk.{Outcome, Refuses, Answers, Adds, Stores, Scales, each_put, each_step, walk}
 use Rattle.kcl_drill.specs.Apart.{is_stream_entry}
@@ -48,13 +50,16 @@ one : (e : Entry) → weight e + 0 ≤ 1
 one (entry.Made stream name shards) = omega arith
 one _ = omega arith
 
-few : (log : Journal) (c by : ℕ) (what : Command) (lines : List Line) (answer : Result Reply Refusal) → Outcome log c by what lines answer → leases lines ≤ 1
+few : (log : Journal) (c by : ℕ) (what : Command) (lines : List Line) (answer : Result Reply Refusal)
+    → Outcome log c by what lines answer → leases lines ≤ 1
 few log c by _ _ _ (Refuses what r may) = omega arith
 few log c by _ _ _ (Answers what r shows) = omega arith
 few log c by _ _ _ (Adds what line r tells) = one line.what
-few log c by _ _ _ (Stores name items s named fits) = none_of _ (each_put (λ line. weight line.what ≡ 0) c by s items log (λ before n item among. refl))
+few log c by _ _ _ (Stores name items s named fits) =
+    none_of _ (each_put (λ line. weight line.what ≡ 0) c by s items log (λ before n item among. refl))
 few log c by _ _ _ (Scales name goal s named room fits) =
-    none_of _ (each_step (λ line. weight line.what ≡ 0) c by s (steps_to log s goal) log (λ sh other n child. refl) (λ sh at n low high. refl))
+    none_of _ (each_step (λ line. weight line.what ≡ 0) c by s (steps_to log s goal) log (λ sh other n child. refl)
+    (λ sh at n low high. refl))
 
 decided_few : (log : Journal) (c by : ℕ) (what : Command) → leases (lines_of (decide log c by what)) ≤ 1
 decided_few log c by what = few log c by what _ _ (walk log c by what)
@@ -68,7 +73,8 @@ turns_few (turn ∷ h) =
 
 -- ---- the counter of a row, and the number of tenures
 
-raised : (f : Row → Row) (b : Bool) (o : Option Row) (n : ℕ) → ((x : Row) → (f x).counter ≡ x.counter + 1) → counter_in o ≤ n
+raised : (f : Row → Row) (b : Bool) (o : Option Row) (n : ℕ) → ((x : Row) → (f x).counter ≡ x.counter + 1)
+    → counter_in o ≤ n
     → counter_in (if b then option_map f o else o) ≤ 1 + n
 raised f true None n keeps le = omega arith
 raised f true (Some x) n keeps le = omega (arith, keeps x, le)
@@ -77,13 +83,18 @@ raised f false o n keeps le = omega (arith, le)
 counter_by : (log : Journal) (line : Line) (e : Entry) (key : ShardRef) (o : Option Row) (n : ℕ) → counter_in o ≤ n
     → counter_in (row_after log line e key o) ≤ weight e + n
 counter_by log line (entry.LeaseMade k from) key o n le =
-    cond_both (same_key k key) (Some (made_row log line.clock key from)) o (λ p. counter_in p ≤ 1 + n) (λ own. omega arith) (λ other. omega (arith, le))
+    cond_both (same_key k key) (Some (made_row log line.clock key from)) o (λ p. counter_in p ≤ 1 + n)
+    (λ own. omega arith) (λ other. omega (arith, le))
 counter_by log line (entry.LeaseCut k counter) key o n le =
     cond_both (same_key k key) None o (λ p. counter_in p ≤ 1 + n) (λ own. omega arith) (λ other. omega (arith, le))
-counter_by log line (entry.Taken k tenure counter owner) key o n le = raised (taken_row (taken_count log + 1) owner) (same_key k key) o n (λ x. refl) le
-counter_by log line (entry.Renewed tenure counter) key o n le = raised renewed_row (is_key (key_of log tenure) key) o n (λ x. refl) le
-counter_by log line (entry.Freed tenure counter) key o n le = raised freed_row (is_key (key_of log tenure) key) o n (λ x. refl) le
-counter_by log line (entry.Marked tenure counter to) key o n le = raised (marked_row to) (is_key (key_of log tenure) key) o n (λ x. refl) le
+counter_by log line (entry.Taken k tenure counter owner) key o n le =
+    raised (taken_row (taken_count log + 1) owner) (same_key k key) o n (λ x. refl) le
+counter_by log line (entry.Renewed tenure counter) key o n le =
+    raised renewed_row (is_key (key_of log tenure) key) o n (λ x. refl) le
+counter_by log line (entry.Freed tenure counter) key o n le =
+    raised freed_row (is_key (key_of log tenure) key) o n (λ x. refl) le
+counter_by log line (entry.Marked tenure counter to) key o n le =
+    raised (marked_row to) (is_key (key_of log tenure) key) o n (λ x. refl) le
 counter_by log line _ key o n le = omega (arith, le)
 
 counter_few : (log : Journal) (key : ShardRef) → counter_in (row log key) ≤ leases log

@@ -1,5 +1,6 @@
 -- The closed history of a drill.
-use Rattle.std.proofs.Common.{◌≡◌, ℕ, zero, suc, ◌+◌, ◌*◌, ◌<◌, ◌≤◌, false, List, [], ◌∷◌, ◌++◌, length, map, Option, Some, None, refl, sym, ap}
+use Rattle.std.proofs.Common.{◌≡◌, ℕ, zero, suc, ◌+◌, ◌*◌, ◌<◌, ◌≤◌, false, List, [], ◌∷◌, ◌++◌, length, map, Option}
+use Rattle.std.proofs.Common.{Some, None, refl, sym, ap}
 use Rattle.std.proofs.Common.{subst, ◌∙◌, arith, append_assoc, le_refl, length-append, length-take, take_all}
 use Rattle.std.specs.Prelude.{◌==◌, ◌^◌, reverse, drop, take}
 use Rattle.std.specs.List.{AllByRecursion}
@@ -20,10 +21,12 @@ use Rattle.kcl_drill.specs.declared.plan.Plan.{Plan}
 use Rattle.kcl_drill.specs.declared.plan.Plan.TheVariants.{Split, Merge}
 use Rattle.kcl_drill.specs.Apart.{LEAST_RETENTION}
 use Rattle.kcl_drill.specs.Fed.{IsFed, commands_in}
-use Rattle.kcl_drill.specs.Generated.{Opens, draw, drill_name, first_open, from_record, generated, opens_then, plan, with_plan}
+use Rattle.kcl_drill.specs.Generated.{Opens, draw, drill_name, first_open, from_record, generated, opens_then, plan}
+use Rattle.kcl_drill.specs.Generated.{with_plan}
 use Rattle.kcl_drill_threads.specs.Asking.{HasAsked, HasBegun, turn_of, turns_of}
 use Rattle.kcl_drill_threads.specs.Feeding.{HasFed, HasFedSoFar}
-use Rattle.kcl_drill_laws.specs.Closed.{AreDrillTurns, IsClosed, IsDrillCommand, IsFew, IsMemberAccount, IsStopped, all_accounts}
+use Rattle.kcl_drill_laws.specs.Closed.{AreDrillTurns, IsClosed, IsDrillCommand, IsFew, IsMemberAccount, IsStopped}
+use Rattle.kcl_drill_laws.specs.Closed.{all_accounts}
 use Rattle.kcl_drill_laws.proofs.Accounts.{all_turns, clock_by, count_of, few_turns}
 
 -- ---- the turns of commands
@@ -32,52 +35,67 @@ commands_of : (by : ℕ) (cs : List Command) → commands_in (map (turn_of by) c
 commands_of by [] = refl
 commands_of by (c ∷ cs) = ap (λ xs. c ∷ xs) (commands_of by cs)
 
-all_asked : (P : Turn → Type 0) (by : ℕ) (cs : List Command) → AllByRecursion (λ what. P (turn_of by what)) cs → AllByRecursion P (map (turn_of by) cs)
+all_asked : (P : Turn → Type 0) (by : ℕ) (cs : List Command) → AllByRecursion (λ what. P (turn_of by what)) cs
+    → AllByRecursion P (map (turn_of by) cs)
 all_asked P by [] are = tt
 all_asked P by (c ∷ cs) are = (are.0, all_asked P by cs are.1)
 
-all_last : (P : Command → Type 0) (xs : List Command) (x : Command) → AllByRecursion P xs → P x → AllByRecursion P (xs ++ x ∷ [])
+all_last : (P : Command → Type 0) (xs : List Command) (x : Command) → AllByRecursion P xs → P x
+    → AllByRecursion P (xs ++ x ∷ [])
 all_last P [] x are is = (is, tt)
 all_last P (y ∷ xs) x are is = (are.0, all_last P xs x are.1 is)
 
 all_reverse : (P : Command → Type 0) (xs : List Command) → AllByRecursion P xs → AllByRecursion P (reverse xs)
 all_reverse P [] are = tt
-all_reverse P (x ∷ xs) are = subst (AllByRecursion P) (sym (reverse-append (x ∷ []) xs)) (all_last P (reverse xs) x (all_reverse P xs are.1) are.0)
+all_reverse P (x ∷ xs) are =
+    subst (AllByRecursion P) (sym (reverse-append (x ∷ []) xs))
+    (all_last P (reverse xs) x (all_reverse P xs are.1) are.0)
 
 always : (P : Command → Type 0) (xs : List Command) → ((what : Command) → P what) → AllByRecursion P xs
 always P [] is = tt
 always P (x ∷ xs) is = (is x, always P xs is)
 
-plan_is : (o : Option Plan) (more : List Command) → AllByRecursion IsDrillCommand more → AllByRecursion IsDrillCommand (with_plan o more)
+plan_is : (o : Option Plan) (more : List Command) → AllByRecursion IsDrillCommand more
+    → AllByRecursion IsDrillCommand (with_plan o more)
 plan_is None more are = are
 plan_is (Some (Split x)) more are = (tt, are)
 plan_is (Some (Merge x y)) more are = (tt, are)
 
 records_are : (i left x : ℕ) (opens : Opens) → AllByRecursion IsDrillCommand (from_record i left x opens)
 records_are i zero x opens = tt
-records_are i (suc left) x opens =
-    (tt, plan_is (plan (i + 1) (draw x) opens) _ (records_are (i + 1) left (draw x) (opens_then opens (plan (i + 1) (draw x) opens))))
+records_are i (suc left) x opens = (
+  tt,
+  plan_is (plan (i + 1) (draw x) opens) _
+      (records_are (i + 1) left (draw x) (opens_then opens (plan (i + 1) (draw x) opens))),
+)
 
 -- ---- the turns of members
 
 at_most : (P : Turn → Type 0) (n : ℕ) (turns : List Turn) → length turns ≤ n → AreOnLeasesAt 50 turns
     → ((t : Turn) → t.at ≤ n * 50 → is_service t.what ≡ false → P t) → AllByRecursion P turns
 at_most P n [] few on is = tt
-at_most P n (t ∷ turns) few on is = (is t (omega (arith, few, on.0.0)) on.0.1, at_most P n turns (omega (arith, few)) on.1 is)
+at_most P n (t ∷ turns) few on is =
+    (is t (omega (arith, few, on.0.0)) on.0.1, at_most P n turns (omega (arith, few)) on.1 is)
 
-member_turns : (P : Turn → Type 0) (records : ℕ) (members : List Account) → records ≤ 1000000 → AllByRecursion (IsMemberAccount records) members
-    → ((t : Turn) → t.at ≤ 30600 * 50 → is_service t.what ≡ false → P t) → AllByRecursion (λ a. AllByRecursion P a.turns) members
+member_turns : (P : Turn → Type 0) (records : ℕ) (members : List Account) → records ≤ 1000000
+    → AllByRecursion (IsMemberAccount records) members
+    → ((t : Turn) → t.at ≤ 30600 * 50 → is_service t.what ≡ false → P t)
+    → AllByRecursion (λ a. AllByRecursion P a.turns) members
 member_turns P records [] limit ran is = tt
-member_turns P records (a ∷ rest) limit ran is =
-    (at_most P 30600 a.turns (omega (arith, ran.0.most, limit)) ran.0.moments is, member_turns P records rest limit ran.1 is)
+member_turns P records (a ∷ rest) limit ran is = (
+  at_most P 30600 a.turns (omega (arith, ran.0.most, limit)) ran.0.moments is,
+  member_turns P records rest limit ran.1 is,
+)
 
-members_count : (records : ℕ) (members : List Account) → records ≤ 1000000 → AllByRecursion (IsFew records) members → count_of members ≤ length members * 30600
+members_count : (records : ℕ) (members : List Account) → records ≤ 1000000 → AllByRecursion (IsFew records) members
+    → count_of members ≤ length members * 30600
 members_count records [] limit ran = omega arith
 members_count records (a ∷ rest) limit ran =
     let more = members_count records rest limit ran.1 in
     omega (arith, ran.0, limit, more)
 
-are_few : (records : ℕ) (members : List Account) → AllByRecursion (IsMemberAccount records) members → AllByRecursion (IsFew records) members
+are_few : (records : ℕ) (members : List Account) → AllByRecursion (IsMemberAccount records) members
+    → AllByRecursion (IsFew records) members
 are_few records [] ran = tt
 are_few records (a ∷ rest) ran = (ran.0.most, are_few records rest ran.1)
 
@@ -107,17 +125,22 @@ few_begun by n cs own e =
 -- ---- a history that was stopped
 
 begun : (cs : List Command) (p : Standing) → HasAsked cs p → HasBegun cs p
-begun cs p asked = (length cs, subst (λ made. HasAsked made p) (sym (take_all (length cs) cs (le_refl (length cs)))) asked)
+begun cs p asked = (
+  length cs,
+  subst (λ made. HasAsked made p) (sym (take_all (length cs) cs (le_refl (length cs)))) asked,
+)
 
 -- those who made all commands have made the first of them
-pub fed_so_far : (number records : ℕ) (root feeder : Standing) → HasFed number records root feeder → HasFedSoFar number records root feeder
+pub fed_so_far : (number records : ℕ) (root feeder : Standing) → HasFed number records root feeder
+    → HasFedSoFar number records root feeder
 fed_so_far number records root feeder fed = record {
   of_root = begun (take 1 (generated number records)) root fed.of_root;
   of_feeder = begun (drop 1 (generated number records)) feeder fed.of_feeder;
   after = λ some. fed.after;
 }
 
-pub is_short_stopped : (number records : ℕ) (root feeder : Standing) (members : List Account) (h : List Turn) → IsStopped number records root feeder members h
+pub is_short_stopped : (number records : ℕ) (root feeder : Standing) (members : List Account) (h : List Turn)
+    → IsStopped number records root feeder members h
     → length h < 2 ^ 32
 is_short_stopped number records root feeder members h is =
     let rest : List Command = from_record 0 records number first_open in
@@ -132,10 +155,12 @@ is_short_stopped number records root feeder members h is =
 
 none_before : (n : ℕ) (front seen : List Turn) → turns_by n (front ++ seen) ≡ [] → turns_by n seen ≡ []
 none_before n front seen none =
-    let total : length (turns_by n front ++ turns_by n seen) ≡ 0 = ap length (sym (filter-append (is_by n) front seen) ∙ none) in
+    let total : length (turns_by n front ++ turns_by n seen) ≡ 0 =
+    ap length (sym (filter-append (is_by n) front seen) ∙ none) in
     nil_from_length (turns_by n seen) (omega (arith, total, length-append (turns_by n front) (turns_by n seen)))
 
-module _ (number records : ℕ) (root feeder : Standing) (members : List Account) (h : List Turn) (is : IsClosed number records root feeder members h) where
+module _ (number records : ℕ) (root feeder : Standing) (members : List Account) (h : List Turn)
+    (is : IsClosed number records root feeder members h) where
   abbrev create : Command
   create = command.Create drill_name FIRST_SHARDS
 
@@ -146,7 +171,8 @@ module _ (number records : ℕ) (root feeder : Standing) (members : List Account
   none_older [] e =
       let front = is.seen.0 ++ (is.fed.after.newer ++ root.own) in
       let whole : h ≡ front ++ is.fed.after.older =
-      is.seen.1 ∙ ap (λ ts. is.seen.0 ++ ts) (is.fed.after.around ∙ sym (append_assoc is.fed.after.newer root.own is.fed.after.older))
+      is.seen.1 ∙ ap (λ ts. is.seen.0 ++ ts) (is.fed.after.around
+      ∙ sym (append_assoc is.fed.after.newer root.own is.fed.after.older))
       ∙ sym (append_assoc is.seen.0 (is.fed.after.newer ++ root.own) is.fed.after.older) in
       none_before feeder.by front is.fed.after.older (ap (turns_by feeder.by) (sym whole) ∙ is.own.1.0 ∙ e)
   none_older (t ∷ own) e = is.fed.after.none (omega (arith, ap length e))
@@ -160,7 +186,8 @@ module _ (number records : ℕ) (root feeder : Standing) (members : List Account
   not_feeder : (what : Command) → IsOther (turn_of feeder.by what)
   not_feeder what a b = let t = sym b ∙ is_itself feeder.by in absurd cc
 
-  each_turn : (P : Turn → Type 0) → P (turn_of root.by create) → AllByRecursion (λ what. P (turn_of feeder.by what)) rest
+  each_turn : (P : Turn → Type 0) → P (turn_of root.by create)
+      → AllByRecursion (λ what. P (turn_of feeder.by what)) rest
       → AllByRecursion (λ a. AllByRecursion P a.turns) members → AllByRecursion P h
   each_turn P of_root of_feeder of_members =
       let first : AllByRecursion P root.own = subst (AllByRecursion P) (sym is.fed.of_root) (of_root, tt) in
@@ -168,7 +195,8 @@ module _ (number records : ℕ) (root feeder : Standing) (members : List Account
       (all_asked P feeder.by (reverse rest) (all_reverse (λ what. P (turn_of feeder.by what)) rest of_feeder)) in
       all_turns P (all_accounts root feeder members) h is.own is.all (first, (others, of_members))
 
-  leased : (P : Turn → Type 0) → ((t : Turn) → t.at ≤ 30600 * 50 → is_service t.what ≡ false → P t) → AllByRecursion (λ a. AllByRecursion P a.turns) members
+  leased : (P : Turn → Type 0) → ((t : Turn) → t.at ≤ 30600 * 50 → is_service t.what ≡ false → P t)
+      → AllByRecursion (λ a. AllByRecursion P a.turns) members
   leased P of = member_turns P records members is.limit is.ran of
 
   pub is_fed : IsFed number records root.by feeder.by h
@@ -179,8 +207,10 @@ module _ (number records : ℕ) (root feeder : Standing) (members : List Account
         older = is.fed.after.older;
         around =
             is.seen.1
-            ∙ ap (λ ts. is.seen.0 ++ ts) (is.fed.after.around ∙ ap (λ own. is.fed.after.newer ++ (own ++ is.fed.after.older)) is.fed.of_root)
-            ∙ sym (append_assoc is.seen.0 is.fed.after.newer (turn_of root.by (command.Create drill_name FIRST_SHARDS) ∷ is.fed.after.older));
+            ∙ ap (λ ts. is.seen.0 ++ ts) (is.fed.after.around
+            ∙ ap (λ own. is.fed.after.newer ++ (own ++ is.fed.after.older)) is.fed.of_root)
+            ∙ sym (append_assoc is.seen.0 is.fed.after.newer (turn_of root.by (command.Create drill_name FIRST_SHARDS)
+            ∷ is.fed.after.older));
         of_root = refl;
         made = ap commands_in (is.own.0 ∙ is.fed.of_root);
         fed = ap commands_in (is.own.1.0 ∙ is.fed.of_feeder) ∙ commands_of feeder.by (reverse rest);
@@ -201,13 +231,16 @@ module _ (number records : ℕ) (root feeder : Standing) (members : List Account
 
   pub is_below : clock h < LEAST_RETENTION
   is_below =
-      let most = clock_by 1530000 h (each_turn (λ t. t.at ≤ 1530000) (omega arith) (always (λ what. 0 ≤ 1530000) rest (λ _. omega arith))
+      let most = clock_by 1530000 h
+      (each_turn (λ t. t.at ≤ 1530000) (omega arith) (always (λ what. 0 ≤ 1530000) rest (λ _. omega arith))
       (leased (λ t. t.at ≤ 1530000) (λ t below service. below))) in
       omega (arith, most)
 
-  horizons : (xs : List Account) → AllByRecursion (IsMemberAccount records) xs → AllByRecursion (λ a. AreDrillTurns a.turns) xs
+  horizons : (xs : List Account) → AllByRecursion (IsMemberAccount records) xs
+      → AllByRecursion (λ a. AreDrillTurns a.turns) xs
   horizons [] ran = tt
   horizons (a ∷ xs) ran = (ran.0.horizon, horizons xs ran.1)
 
   pub are_drill_turns : AreDrillTurns h
-  are_drill_turns = each_turn (λ t. IsDrillCommand t.what) tt (records_are 0 records number first_open) (horizons members is.ran)
+  are_drill_turns = each_turn (λ t. IsDrillCommand t.what) tt (records_are 0 records number first_open)
+      (horizons members is.ran)

@@ -1,7 +1,8 @@
 -- Turns on leases leave the streams as they are.
 use Rattle.std.proofs.Common.{◌≡◌, ℕ, ◌≤◌, false, List, [], ◌∷◌, ◌++◌, None, refl, ◌∙◌, arith}
 use Rattle.std.specs.List.{AllByRecursion, filter, find}
-use Rattle.kds_defs.proofs.Elsewhere.{SameStream, count_same, floor_same, of_no_stream, same_again, same_along, same_stream}
+use Rattle.kds_defs.proofs.Elsewhere.{SameStream, count_same, floor_same, of_no_stream, same_again, same_along}
+use Rattle.kds_defs.proofs.Elsewhere.{same_stream}
 use Rattle.kds_defs.specs.declared.command.Command.{Command}
 use Rattle.kds_defs.specs.declared.command.Turn.{Turn}
 use Rattle.kds_defs.specs.Histories.{clock, decide, decision, journal, lines_of}
@@ -16,14 +17,17 @@ use Rattle.kcl_drill_laws.specs.Leasing.{AreOnLeases, HasSameStreams}
 abbrev AreLeases : ℕ → List Line → Type 0
 AreLeases c ls = AllByRecursion (λ l. (stream_of l.what ≡ None) × (l.clock ≡ c)) ls
 
-lease_line : (log : Journal) (c by : ℕ) (what : Command) (line : Line) → IsAdded log c by what line → is_service what ≡ false
+lease_line : (log : Journal) (c by : ℕ) (what : Command) (line : Line) → IsAdded log c by what line
+    → is_service what ≡ false
     → (stream_of line.what ≡ None) × (line.clock ≡ c)
 lease_line log c by _ _ (Alone _ _ _ (Makes key from)) is = (refl, refl)
 lease_line log c by _ _ _ is = (cc, refl)
 
-lease_adds : (log : Journal) (c by : ℕ) (what : Command) → is_service what ≡ false → AreLeases c (lines_of (decide log c by what))
+lease_adds : (log : Journal) (c by : ℕ) (what : Command) → is_service what ≡ false
+    → AreLeases c (lines_of (decide log c by what))
 lease_adds log c by what is =
-    each_line (λ l. (stream_of l.what ≡ None) × (l.clock ≡ c)) log c by what (λ line added. lease_line log c by what line added is)
+    each_line (λ l. (stream_of l.what ≡ None) × (l.clock ≡ c)) log c by what
+    (λ line added. lease_line log c by what line added is)
 
 -- ---- what such lines leave
 
@@ -32,22 +36,26 @@ record SameReadings (log log' : Journal) : Type 0 where
   count : made_count log ≡ made_count log'
   each : (s : ℕ) → SameStream log log' s
 
-line_same : (log log' : Journal) (line : Line) → stream_of line.what ≡ None → SameReadings log log' → SameReadings (line ∷ log) log'
+line_same : (log log' : Journal) (line : Line) → stream_of line.what ≡ None → SameReadings log log'
+    → SameReadings (line ∷ log) log'
 line_same log log' line none same = record {
   count = count_same line.what (made_count log) none ∙ same.count;
   each = λ s. same_along (line ∷ log) log log' s (same_stream log line s (of_no_stream line.what s none)) (same.each s);
 }
 
-lines_same : (c : ℕ) (ls : List Line) (log log' : Journal) → AreLeases c ls → SameReadings log log' → SameReadings (with_lines ls log) log'
+lines_same : (c : ℕ) (ls : List Line) (log log' : Journal) → AreLeases c ls → SameReadings log log'
+    → SameReadings (with_lines ls log) log'
 lines_same c [] log log' are same = same
-lines_same c (line ∷ ls) log log' are same = lines_same c ls (line ∷ log) log' are.1 (line_same log log' line are.0.0 same)
+lines_same c (line ∷ ls) log log' are same =
+    lines_same c ls (line ∷ log) log' are.1 (line_same log log' line are.0.0 same)
 
 turns_same : (more h : List Turn) → AreOnLeases more → SameReadings (journal (more ++ h)) (journal h)
 turns_same [] h are = record { count = refl; each = same_again (journal h) }
 turns_same (turn ∷ more) h are =
     let log = journal (more ++ h) in
     let at = clock (turn ∷ (more ++ h)) in
-    lines_same at (lines_of (decision log at turn)) log (journal h) (lease_adds log at turn.by turn.what are.0) (turns_same more h are.1)
+    lines_same at (lines_of (decision log at turn)) log (journal h) (lease_adds log at turn.by turn.what are.0)
+    (turns_same more h are.1)
 
 -- ---- the streams
 
@@ -69,10 +77,12 @@ streams_same more h are =
 
 -- ---- what is trimmed
 
-pub live_stays : (more h : List Turn) → AreOnLeases more → (s : ℕ) → is_live (journal (more ++ h)) s ≡ is_live (journal h) s
+pub live_stays : (more h : List Turn) → AreOnLeases more → (s : ℕ)
+    → is_live (journal (more ++ h)) s ≡ is_live (journal h) s
 live_stays more h are s = ((turns_same more h are).each s).live
 
-trim_lines : (d : ℕ) (ls : List Line) (log : Journal) (c s : ℕ) → AreLeases d ls → d ≤ c → trim_floor (with_lines ls log) c s ≡ trim_floor log c s
+trim_lines : (d : ℕ) (ls : List Line) (log : Journal) (c s : ℕ) → AreLeases d ls → d ≤ c
+    → trim_floor (with_lines ls log) c s ≡ trim_floor log c s
 trim_lines d [] log c s are le = refl
 trim_lines d (line ∷ ls) log c s are le =
     let same = same_stream log line s (of_no_stream line.what s are.0.0) in

@@ -31,10 +31,14 @@ AreSoMade ls = AllByRecursion (λ line. IsSoMade line.what) ls
 
 -- ---- what a command adds
 
-pub counts_so : (log : Journal) (key : ShardRef) (from : Origin) → from ≡ origin.TrimHorizon → counting_origin log key from ≡ origin.TrimHorizon
-counts_so log key from is = cond_both (follows_parent log key) origin.TrimHorizon from (λ o. o ≡ origin.TrimHorizon) (λ follows. refl) (λ new. is)
+pub counts_so : (log : Journal) (key : ShardRef) (from : Origin) → from ≡ origin.TrimHorizon
+    → counting_origin log key from ≡ origin.TrimHorizon
+counts_so log key from is =
+    cond_both (follows_parent log key) origin.TrimHorizon from (λ o. o ≡ origin.TrimHorizon) (λ follows. refl)
+    (λ new. is)
 
-command_adds : (log : Journal) (c by : ℕ) (what : Command) (line : Line) → IsAdded log c by what line → IsDrillCommand what → IsSoMade line.what
+command_adds : (log : Journal) (c by : ℕ) (what : Command) (line : Line) → IsAdded log c by what line
+    → IsDrillCommand what → IsSoMade line.what
 command_adds log c by _ _ (Alone _ _ _ (walks.Makes key from)) is = counts_so log key from is
 command_adds log c by _ _ _ is = tt
 
@@ -53,7 +57,8 @@ either_so : (b : Bool) (x y : Option Origin) → IsNoneOrSo x → IsNoneOrSo y �
 either_so true x y is other = is
 either_so false x y is other = other
 
-after_so : (e : Entry) (key : ShardRef) (o : Option Origin) → IsSoMade e → IsNoneOrSo o → IsNoneOrSo (origin_after e key o)
+after_so : (e : Entry) (key : ShardRef) (o : Option Origin) → IsSoMade e → IsNoneOrSo o
+    → IsNoneOrSo (origin_after e key o)
 unfolding IsNoneOrSo
 after_so (entry.LeaseMade k from) key o is before = either_so (same_key k key) (Some from) o (inr (ap Some is)) before
 after_so (entry.LeaseCut k counter) key o is before = either_so (same_key k key) None o (inl refl) before
@@ -71,7 +76,8 @@ Removes = (log : Journal) (key : ShardRef) → making (last_bound log key) ≡ N
 abbrev pub Makes : Type 0
 Makes = (log : Journal) (key : ShardRef) (m : Making) → making (last_bound log key) ≡ Some m → IsToldRow log key m
 
-by_making : (log : Journal) (key : ShardRef) (r : Row) → Removes → Makes → IsNoneOrSo (origin_of log key) → row log key ≡ Some r → (m : Option Making)
+by_making : (log : Journal) (key : ShardRef) (r : Row) → Removes → Makes → IsNoneOrSo (origin_of log key)
+    → row log key ≡ Some r → (m : Option Making)
     → making (last_bound log key) ≡ m → origin_of log key ≡ Some origin.TrimHorizon
 unfolding IsNoneOrSo
 by_making log key r removes makes (inr is) there m e = is
@@ -80,4 +86,5 @@ by_making log key r removes makes (inl none) there (Some m) e = let told = (make
 
 pub from_horizon : Removes → Makes → (h : List Turn) → AreDrillTurns h → AreFromHorizon (journal h)
 from_horizon removes makes h are key r there =
-    by_making (journal h) key r removes makes (origin_so (journal h) key (journal_so h are)) there (making (last_bound (journal h) key)) refl
+    by_making (journal h) key r removes makes (origin_so (journal h) key (journal_so h are)) there
+    (making (last_bound (journal h) key)) refl

@@ -53,18 +53,21 @@ one : (e : Entry) → weight e + 0 ≤ 500
 one (entry.Put stream shard number hash bytes key_bytes) = omega arith
 one _ = omega arith
 
-few : (log : Journal) (c by : ℕ) (what : Command) (lines : List Line) (answer : Result Reply Refusal) → Outcome log c by what lines answer
+few : (log : Journal) (c by : ℕ) (what : Command) (lines : List Line) (answer : Result Reply Refusal)
+    → Outcome log c by what lines answer
     → IsLawfulCommand what → puts lines ≤ 500
 few log c by _ _ _ (Refuses what r may) lawful = omega arith
 few log c by _ _ _ (Answers what r shows) lawful = omega arith
 few log c by _ _ _ (Adds what line r tells) lawful = one line.what
 few log c by _ _ _ (Stores name items s named fits) lawful = omega (arith, few_puts items log c by s, lawful.1.few)
 few log c by _ _ _ (Scales name goal s named room fits) lawful =
-    let none = each_step (λ line. weight line.what ≡ 0) c by s (steps_to log s goal) log (λ sh other n child. refl) (λ sh at n low high. refl) in
+    let none = each_step (λ line. weight line.what ≡ 0) c by s (steps_to log s goal) log (λ sh other n child. refl)
+    (λ sh at n low high. refl) in
     let n = no_steps (step_lines log c by s (steps_to log s goal)) none in
     omega (arith, n)
 
-decided_few : (log : Journal) (c by : ℕ) (what : Command) → IsLawfulCommand what → puts (lines_of (decide log c by what)) ≤ 500
+decided_few : (log : Journal) (c by : ℕ) (what : Command) → IsLawfulCommand what
+    → puts (lines_of (decide log c by what)) ≤ 500
 decided_few log c by what lawful = few log c by what _ _ (walk log c by what) lawful
 
 turns_few : (h : List Turn) → IsHistory h → puts (journal h) ≤ 500 * length h
@@ -76,9 +79,16 @@ turns_few (turn ∷ h) lawful =
 
 -- ---- the records of a shard
 
-records_by : (l : Line) (e : Entry) (s sh n : ℕ) (rs : List Logged) → length rs ≤ n → length (records_after l e s sh rs) ≤ weight e + n
+records_by : (l : Line) (e : Entry) (s sh n : ℕ) (rs : List Logged) → length rs ≤ n
+    → length (records_after l e s sh rs) ≤ weight e + n
 records_by l (entry.Put stream shard number hash bytes key_bytes) s sh n rs le =
-    let r : Logged = record { seq = number; arrival = l.clock; bytes = bytes + key_bytes; key = l.key; payload = l.payload } in
+    let r : Logged = record {
+      seq = number;
+      arrival = l.clock;
+      bytes = bytes + key_bytes;
+      key = l.key;
+      payload = l.payload;
+    } in
     cond_both ((stream == s) && (shard == sh)) (rs ++ r ∷ []) rs (λ xs. length xs ≤ 1 + n)
     (λ here. omega (arith, length_push rs r, le)) (λ elsewhere. omega (arith, le))
 records_by l _ s sh n rs le = omega (arith, le)

@@ -1,4 +1,5 @@
--- The history of a drill's hall, once all its passes were joined and it was closed. Lists of turns have the newest first.
+-- The history of a drill's hall, once all its passes were joined and it was closed. Lists of turns have the newest
+-- first.
 use Rattle.std.specs.Prelude.{◌≡◌, ℕ, ◌+◌, ◌*◌, ◌/◌, ◌≤◌, ◌==◌, false, List, ◌∷◌, length, Some}
 use Rattle.std.specs.List.{AllByRecursion}
 use Rattle.kds_defs.specs.declared.command.Command.{Command}
@@ -45,8 +46,10 @@ pub record IsMemberAccount (records : ℕ) (a : Account) : Type 0 where
 abbrev pub all_accounts : Standing → Standing → List Account → List Account
 all_accounts root feeder members = account root.by root.own ∷ account feeder.by feeder.own ∷ members
 
--- The root and the feeder made the generator's commands, the members ran, and the history has their turns and no others.
-pub record IsClosed (number records : ℕ) (root feeder : Standing) (members : List Account) (h : List Turn) : Type 0 where
+-- The root and the feeder made the generator's commands, the members ran, and the history has their turns and no
+-- others.
+pub record IsClosed (number records : ℕ) (root feeder : Standing) (members : List Account) (h : List Turn) :
+    Type 0 where
   pub limit : records ≤ MOST_RECORDS
   pub few : length members ≤ MOST_WORKERS
   pub apart : (root.by == feeder.by) ≡ false
@@ -57,9 +60,10 @@ pub record IsClosed (number records : ℕ) (root feeder : Standing) (members : L
   pub all : AreAllBy (all_accounts root feeder members) h
   pub own : IsSplitInto (all_accounts root feeder members) h
 
--- The root and the feeder made the first of the generator's commands, the members so many turns at most, and the history
--- has their turns and no others.
-pub record IsStopped (number records : ℕ) (root feeder : Standing) (members : List Account) (h : List Turn) : Type 0 where
+-- The root and the feeder made the first of the generator's commands, the members so many turns at most, and the
+-- history has their turns and no others.
+pub record IsStopped (number records : ℕ) (root feeder : Standing) (members : List Account) (h : List Turn) :
+    Type 0 where
   pub limit : records ≤ MOST_RECORDS
   pub few : length members ≤ MOST_WORKERS
   pub fed : HasFedSoFar number records root feeder
@@ -69,7 +73,8 @@ pub record IsStopped (number records : ℕ) (root feeder : Standing) (members : 
 
 -- lawful turns of an actor at a moment, on leases
 abbrev pub AreLeased : ℕ → ℕ → List Turn → Type 0
-AreLeased by at more = AllByRecursion (λ turn. (turn.by ≡ by) × (turn.at ≡ at) × (is_service turn.what ≡ false) × IsLawful turn) more
+AreLeased by at more =
+    AllByRecursion (λ turn. (turn.by ≡ by) × (turn.at ≡ at) × (is_service turn.what ≡ false) × IsLawful turn) more
 
 -- each row that is there lets reading begin at the trim horizon
 abbrev pub AreFromHorizon : Journal → Type 0

@@ -1,5 +1,6 @@
 -- A tenure that its actor alone uses: how far it has come, and its row (Kinesis Client Library, leases).
-use Rattle.std.specs.Prelude.{ℕ, ◌≡◌, ◌+◌, ◌≤◌, ◌==◌, Bool, true, false, nat_le, nat_lt, List, [], ◌∷◌, ◌++◌, drop, length, Some}
+use Rattle.std.specs.Prelude.{ℕ, ◌≡◌, ◌+◌, ◌≤◌, ◌==◌, Bool, true, false, nat_le, nat_lt, List, [], ◌∷◌, ◌++◌, drop}
+use Rattle.std.specs.Prelude.{length, Some}
 use Rattle.kds_base.specs.declared.lease_key.Checkpoint.{Checkpoint}
 use Rattle.kds_base.specs.declared.lease_key.ShardRef.{ShardRef}
 use Rattle.kds_defs.specs.declared.command.Target.{Target}
@@ -12,7 +13,8 @@ use Rattle.kds_defs.specs.Journal.{Line, Journal, plain_line}
 use Rattle.kds_defs.specs.Keys.{is_listed_key}
 use Rattle.kds_defs.specs.LeaseCommands.{give, mark, open_shard, past_parents, read, read_reply, take_lease}
 use Rattle.kds_defs.specs.RowWrites.{least}
-use Rattle.kds_defs.specs.Leases.{ReadDone, TenureState, checkpoint_at, delivered, given_reads, is_end, key_of, last_ended, place_of, reach, row, taken_count, tenure}
+use Rattle.kds_defs.specs.Leases.{ReadDone, TenureState, checkpoint_at, delivered, given_reads, is_end, key_of}
+use Rattle.kds_defs.specs.Leases.{last_ended, place_of, reach, row, taken_count, tenure}
 use Rattle.kds_defs.specs.Records.{batch, numbers_of, place_after}
 use Rattle.kds_defs.specs.Shards.{shard_at}
 use Rattle.kds_defs.specs.StreamCommands.{last_number}
@@ -63,12 +65,14 @@ pub record Holds (log : Journal) (x : Holding) : Type 0 where
 -- a number that was given, at or above the checkpoint or the floor, of a row that is not at the end; or the end, once
 -- it was given
 abbrev pub MayMark : Holding → Target → Type 0
-MayMark x (target.At q) = (is_end x.checkpoint ≡ false) × (nat_le x.done q ≡ false) × (nat_lt q (least x.checkpoint x.floor) ≡ false)
+MayMark x (target.At q) = (is_end x.checkpoint ≡ false) × (nat_le x.done q ≡ false)
+    × (nat_lt q (least x.checkpoint x.floor) ≡ false)
 MayMark x target.End = x.ended ≡ true
 
 -- the row of a key, which is not at its end, can be taken: no counter is spent
 abbrev pub MayTake : Journal → Row → Type 0
-MayTake log r = (is_end r.checkpoint ≡ false) × ((r.counter == last_number) ≡ false) × ((taken_count log == last_number) ≡ false)
+MayTake log r = (is_end r.checkpoint ≡ false) × ((r.counter == last_number) ≡ false)
+    × ((taken_count log == last_number) ≡ false)
 
 -- no parent of the key's shard is unread
 abbrev pub ArePast : Journal → ℕ → ShardRef → Type 0
@@ -111,16 +115,19 @@ MayOpen log c key = (is_listed_key log c key ≡ true) × ArePast log c key
 -- right after the taking, at the clock d
 abbrev pub IsOpenedSo : Journal → ℕ → ℕ → ℕ → ℕ → ShardRef → Row → Type 0
 IsOpenedSo log c d by owner key r =
-    open_shard (taken_line log d by key r owner ∷ log) c by (taken_count log + 1) ≡ Accepted (opened_line log c by ∷ []) reply.Done
+    open_shard (taken_line log d by key r owner ∷ log) c by (taken_count log + 1)
+    ≡ Accepted (opened_line log c by ∷ []) reply.Done
 
 abbrev pub IsReadSo : Journal → ℕ → Holding → ℕ → Type 0
 IsReadSo log c x limit = read log c x.by x.tenure x.place limit ≡ read_here log c x limit
 
 abbrev pub IsGivenSo : Journal → ℕ → Holding → ReadDone → Type 0
-IsGivenSo log c x r = give log c x.by x.tenure ≡ Accepted (given_line c x ∷ []) (reply.Given (place_after x.done r.numbers))
+IsGivenSo log c x r =
+    give log c x.by x.tenure ≡ Accepted (given_line c x ∷ []) (reply.Given (place_after x.done r.numbers))
 
 abbrev pub IsMarkedSo : Journal → ℕ → Holding → Target → Type 0
-IsMarkedSo log c x to = mark log c x.by x.tenure x.counter to ≡ Accepted (marked_line c x to ∷ []) (reply.Counter (x.counter + 1))
+IsMarkedSo log c x to =
+    mark log c x.by x.tenure x.counter to ≡ Accepted (marked_line c x to ∷ []) (reply.Counter (x.counter + 1))
 
 -- ---- how far it has come then
 

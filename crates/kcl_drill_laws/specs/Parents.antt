@@ -17,7 +17,8 @@ IsParentClosed xs n (Some p) = (p < n) × (is_closed_at (slice_get xs p) ≡ tru
 
 -- so it is for both parents of each of these shards
 abbrev pub AreParentsClosed : List ShardState → Type 0
-AreParentsClosed xs = AllByRecursion (λ (x : ShardState). IsParentClosed xs x.no x.parent × IsParentClosed xs x.no x.adjacent) xs
+AreParentsClosed xs =
+    AllByRecursion (λ (x : ShardState). IsParentClosed xs x.no x.parent × IsParentClosed xs x.no x.adjacent) xs
 
 -- no row's counter, and no tenure's number, is above the number of turns
 pub record AreCounted (h : List Turn) : Type 0 where

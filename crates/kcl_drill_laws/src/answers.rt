@@ -11,7 +11,9 @@ ghost use Rattle.kds_defs.specs.Journal.{Journal};
 ghost use Rattle.kds_defs.specs.Keys.{is_listed_key};
 ghost use Rattle.kds_defs.specs.Leases.{ReadDone, row};
 ghost use Rattle.kds_defs.specs.StreamCommands.{last_number};
-ghost use Rattle.kcl_drill_laws.specs.Holding.{Holding, Holds, IsGivenSo, IsMarkedSo, IsOpenedSo, IsReadSo, IsTakenSo, MayMark, MayOpen, MayTake, after_give, after_mark, after_read, begun_from};
+ghost use Rattle.kcl_drill_laws.specs.Holding.{Holding, Holds, IsGivenSo, IsMarkedSo, IsOpenedSo, IsReadSo, IsTakenSo};
+ghost use Rattle.kcl_drill_laws.specs.Holding.{MayMark, MayOpen, MayTake, after_give, after_mark, after_read};
+ghost use Rattle.kcl_drill_laws.specs.Holding.{begun_from};
 ghost use Rattle.kcl_drill_laws.specs.Holding.{given_line, marked_line, opened_line, read_line, taken_line};
 ghost use Rattle.kcl_drill_laws.specs.Parents.{AreCounted, AreFewRecords, AreParentsClosed};
 ghost use Rattle.kds_defs.specs.Lawful.{IsHistory};
@@ -33,9 +35,11 @@ pub fn held_answers()
         → MayOpen (taken_line log d by key r owner ∷ log) c key → IsOpenedSo log c d by owner key r }
     ensures read { (log : Journal) (c limit : ℕ) (x : Holding) → Holds log x → length x.waiting < PENDING_READS
         → is_listed_key log c x.key ≡ true → IsReadSo log c x limit }
-    ensures give { (log : Journal) (c : ℕ) (x : Holding) (r : ReadDone) (rest : List ReadDone) → Holds log x → x.waiting ≡ r ∷ rest
+    ensures give { (log : Journal) (c : ℕ) (x : Holding) (r : ReadDone) (rest : List ReadDone) → Holds log x
+        → x.waiting ≡ r ∷ rest
         → IsGivenSo log c x r }
-    ensures mark { (log : Journal) (c : ℕ) (x : Holding) (to : Target) → Holds log x → MayMark x to → (x.counter == last_number) ≡ false
+    ensures mark { (log : Journal) (c : ℕ) (x : Holding) (to : Target) → Holds log x → MayMark x to
+        → (x.counter == last_number) ≡ false
         → IsMarkedSo log c x to }
 {}
 
@@ -47,9 +51,11 @@ pub fn held_states()
         → Holds (opened_line log d by ∷ taken_line log c by key r owner ∷ log) (begun_from log by key r) }
     ensures read { (log : Journal) (c limit : ℕ) (x : Holding) (r : ReadDone) → Holds log x
         → Holds (read_line c x limit r ∷ log) (after_read x r) }
-    ensures given { (log : Journal) (c : ℕ) (x : Holding) (r : ReadDone) (rest : List ReadDone) → Holds log x → x.waiting ≡ r ∷ rest
+    ensures given { (log : Journal) (c : ℕ) (x : Holding) (r : ReadDone) (rest : List ReadDone) → Holds log x
+        → x.waiting ≡ r ∷ rest
         → Holds (given_line c x ∷ log) (after_give x r rest) }
-    ensures marked { (log : Journal) (c : ℕ) (x : Holding) (to : Target) → Holds log x → Holds (marked_line c x to ∷ log) (after_mark x to) }
+    ensures marked { (log : Journal) (c : ℕ) (x : Holding) (to : Target) → Holds log x
+        → Holds (marked_line c x to ∷ log) (after_mark x to) }
 {}
 
 /// Commands on leases don't change the streams: their names, shards, records, next sequence numbers and retention

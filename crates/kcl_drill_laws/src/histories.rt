@@ -54,7 +54,8 @@ pub fn horizon()
 pub fn drained()
     ensures drill { (number records by at : ℕ) (more h : List Turn) → IsDrill h number records → at ≤ clock h
         → AreLeased by at more → IsDrill (more ++ h) number records }
-    ensures clock { (by at : ℕ) (more h : List Turn) → at ≤ clock h → AreLeased by at more → clock (more ++ h) ≡ clock h }
+    ensures clock { (by at : ℕ) (more h : List Turn) → at ≤ clock h → AreLeased by at more
+        → clock (more ++ h) ≡ clock h }
 {}
 
 /// After a drill's history, the records of the drill's stream can be counted: the stream exists, and none of its

@@ -19,7 +19,8 @@ CountFrom from (a ∷ xs) = (a.by ≡ from) × CountFrom (from + 1) xs
 
 module _ {M P F G : Type 0} (hall : Place) where
   -- no other pass was joined into a worker's
-  pub each_alone : (from : ℕ) (ms : List (Member M P F G)) → HavePasses hall from ms → flat_map accounts_in ms ≡ map account_in ms
+  pub each_alone : (from : ℕ) (ms : List (Member M P F G)) → HavePasses hall from ms
+      → flat_map accounts_in ms ≡ map account_in ms
   each_alone from [] are = refl
   each_alone from (m ∷ ms) are =
       ap (λ (xs : List Account). (account m.pass.by m.pass.own ∷ xs) ++ flat_map accounts_in ms) are.0.alone
@@ -29,7 +30,8 @@ module _ {M P F G : Type 0} (hall : Place) where
   counted from [] are = tt
   counted from (m ∷ ms) are = (are.0.by, counted (from + 1) ms are.1)
 
-  pub all_there : (from : ℕ) (ms : List (Member M P F G)) → HavePasses hall from ms → All (λ m. m.pass.hall ≡ hall.id) ms
+  pub all_there : (from : ℕ) (ms : List (Member M P F G)) → HavePasses hall from ms
+      → All (λ m. m.pass.hall ≡ hall.id) ms
   all_there from [] are k d below = absurd (omega (arith, below))
   all_there from (m ∷ ms) are zero d below = are.0.at
   all_there from (m ∷ ms) are (suc k) d below = all_there (from + 1) ms are.1 k d (omega (arith, below))
@@ -39,7 +41,8 @@ module _ {M P F G : Type 0} where
   count_accounts [] = refl
   count_accounts (m ∷ ms) = ap suc (count_accounts ms)
 
-  pub of_accounts : (Q : Account → Type 0) (ms : List (Member M P F G)) → AllByRecursion (λ m. Q (account_in m)) ms → AllByRecursion Q (map account_in ms)
+  pub of_accounts : (Q : Account → Type 0) (ms : List (Member M P F G)) → AllByRecursion (λ m. Q (account_in m)) ms
+      → AllByRecursion Q (map account_in ms)
   of_accounts Q [] of = tt
   of_accounts Q (m ∷ ms) of = (of.0, of_accounts Q ms of.1)
 
@@ -50,7 +53,8 @@ has_some from n [] are least most = absurd (omega (arith, least, most))
 has_some from n (a ∷ xs) are least most =
     dite (ℕ_discrete from n)
     (λ is. let one = has_one n a (are.0 ∙ is) in omega (arith, one))
-    (λ ne. let more = has_some (from + 1) n xs are.1 (omega (arith, least, ne)) (omega (arith, most)) in omega (arith, more))
+    (λ ne. let more = has_some (from + 1) n xs are.1 (omega (arith, least, ne)) (omega (arith, most)) in
+    omega (arith, more))
 
 -- the numbers 1, 2 and those of the workers
 pub has_each : (root feeder : Standing) (xs : List Account) → root.by ≡ 1 → feeder.by ≡ 2 → CountFrom 3 xs
@@ -60,4 +64,5 @@ has_each root feeder xs first second are n least most =
     (λ is. let one = has_one n (account root.by root.own) (first ∙ is) in omega (arith, one))
     (λ not1. dite (ℕ_discrete 2 n)
     (λ is. let one = has_one n (account feeder.by feeder.own) (second ∙ is) in omega (arith, one))
-    (λ not2. let more = has_some 3 n xs are (omega (arith, least, not1, not2)) (omega (arith, most)) in omega (arith, more)))
+    (λ not2. let more = has_some 3 n xs are (omega (arith, least, not1, not2)) (omega (arith, most)) in
+    omega (arith, more)))

@@ -1,5 +1,6 @@
 -- What is known of a drill's history once its hall was closed.
-use Rattle.std.proofs.Common.{◌≡◌, ℕ, ◌<◌, ◌^◌, List, [], ◌∷◌, ◌++◌, length, map, sym, ap, subst, ◌∙◌, arith, length-append}
+use Rattle.std.proofs.Common.{◌≡◌, ℕ, ◌<◌, ◌^◌, List, [], ◌∷◌, ◌++◌, length, map, sym, ap, subst, ◌∙◌, arith}
+use Rattle.std.proofs.Common.{length-append}
 use Rattle.std.specs.Prelude.{◌==◌}
 use Rattle.std.specs.List.{AllByRecursion}
 use Rattle.kds_defs.specs.declared.command.Turn.{Turn}
@@ -19,26 +20,33 @@ use Rattle.kcl_drill_run.proofs.Accounts.{count_accounts, counted, each_alone, h
 
 -- what the laws `closed` and `stopped` say
 pub record HasLaws : Type 0 where
-  pub drill : (number records : ℕ) (root feeder : Standing) (members : List Account) (h : List Turn) → IsClosed number records root feeder members h
+  pub drill : (number records : ℕ) (root feeder : Standing) (members : List Account) (h : List Turn)
+      → IsClosed number records root feeder members h
       → IsDrill h number records
-  pub horizon : (number records : ℕ) (root feeder : Standing) (members : List Account) (h : List Turn) → IsClosed number records root feeder members h
+  pub horizon : (number records : ℕ) (root feeder : Standing) (members : List Account) (h : List Turn)
+      → IsClosed number records root feeder members h
       → AreFromHorizon (journal h)
 
 abbrev pub StoppedIsShort : Type 0
-StoppedIsShort = (number records : ℕ) (root feeder : Standing) (members : List Account) (h : List Turn) → IsStopped number records root feeder members h
+StoppedIsShort = (number records : ℕ) (root feeder : Standing) (members : List Account) (h : List Turn)
+    → IsStopped number records root feeder members h
     → length h < 2 ^ 32
 
 -- what is seen is no longer than what goes on with it
 short_of : (h seen : List Turn) → Continues h seen → length h < 2 ^ 32 → length seen < 2 ^ 32
 short_of h seen more short = omega (arith, short, ap length more.1, length-append more.0 seen)
 
-short_members : {M P F G : Type 0} (h last : List Turn) (ms : List (Member M P F G)) → Continues h last → length h < 2 ^ 32
+short_members : {M P F G : Type 0} (h last : List Turn) (ms : List (Member M P F G)) → Continues h last
+    → length h < 2 ^ 32
     → AllByRecursion (λ m. Continues last m.pass.seen) ms → AllByRecursion (λ m. IsShort m.pass) ms
 short_members h last [] more short are = tt
-short_members h last (m ∷ ms) more short are =
-    (short_of h m.pass.seen (continues_all h last m.pass.seen more are.0) short, short_members h last ms more short are.1)
+short_members h last (m ∷ ms) more short are = (
+  short_of h m.pass.seen (continues_all h last m.pass.seen more are.0) short,
+  short_members h last ms more short are.1,
+)
 
-module _ (hall : Place) (number records : ℕ) (p : Participants) (is : HaveStopped hall number records p) (last : Standing) (taken : HasTaken p last) where
+module _ (hall : Place) (number records : ℕ) (p : Participants) (is : HaveStopped hall number records p)
+    (last : Standing) (taken : HasTaken p last) where
   -- the workers' accounts
   abbrev xs : List Account
   xs = map account_in p.members.items
@@ -51,14 +59,17 @@ module _ (hall : Place) (number records : ℕ) (p : Participants) (is : HaveStop
       ap (λ n. account n last.own ∷ last.joined) taken.by
       ∙ ap (λ turns. account p.root.by turns ∷ last.joined) taken.own
       ∙ ap (λ (as' : List Account). account p.root.by p.root.own ∷ as') taken.joined
-      ∙ ap (λ (ys : List Account). account p.root.by p.root.own ∷ (p.root.joined ++ (accounts_of p.feeder ++ ys))) (each_alone hall 3 p.members.items is.passes)
+      ∙ ap (λ (ys : List Account). account p.root.by p.root.own ∷ (p.root.joined ++ (accounts_of p.feeder ++ ys)))
+      (each_alone hall 3 p.members.items is.passes)
       ∙ ap (λ (js : List Account). account p.root.by p.root.own ∷ (js ++ (accounts_of p.feeder ++ xs))) is.alone.0
-      ∙ ap (λ (js : List Account). account p.root.by p.root.own ∷ account p.feeder.by p.feeder.own ∷ (js ++ xs)) is.alone.1
+      ∙ ap (λ (js : List Account). account p.root.by p.root.own ∷ account p.feeder.by p.feeder.own ∷ (js ++ xs))
+      is.alone.1
 
   pub has_all : HasAll hall.passes last
   has_all n least most =
       subst (λ (accounts : List Account). 0 < times n accounts) (sym accounts_are)
-      (has_each p.root p.feeder xs is.by.0 is.by.1 (counted hall 3 p.members.items is.passes) n least (omega (arith, most, is.all, long)))
+      (has_each p.root p.feeder xs is.by.0 is.by.1 (counted hall 3 p.members.items is.passes) n least
+      (omega (arith, most, is.all, long)))
 
   module _ (h : List Turn) (all : AreAllBy (accounts_of last) h) (own : IsSplitInto (accounts_of last) h) where
     is_stopped : IsStopped number records p.root p.feeder xs h
@@ -82,8 +93,10 @@ module _ (hall : Place) (number records : ℕ) (p : Participants) (is : HaveStop
         members = short_members h last.seen p.members.items seen is_short taken.seen_members;
       }
 
-module _ (hall : Place) (number records : ℕ) (p : Participants) (ran : HaveRun hall number records p) (last : Standing) (taken : HasTaken p last)
-    (h : List Turn) (lawful : IsHistory h) (seen : Continues h last.seen) (all : AreAllBy (accounts_of last) h) (own : IsSplitInto (accounts_of last) h) where
+module _ (hall : Place) (number records : ℕ) (p : Participants) (ran : HaveRun hall number records p) (last : Standing)
+    (taken : HasTaken p last)
+    (h : List Turn) (lawful : IsHistory h) (seen : Continues h last.seen) (all : AreAllBy (accounts_of last) h)
+    (own : IsSplitInto (accounts_of last) h) where
   is_closed : IsClosed number records p.root p.feeder (map account_in p.members.items) h
   is_closed =
       let is = is_stopped hall number records p ran.stopped last taken h all own in
@@ -99,7 +112,8 @@ module _ (hall : Place) (number records : ℕ) (p : Participants) (ran : HaveRun
         own = is.own;
       }
 
-  pub has_drilled : (laws : HasLaws) (law : StoppedIsShort) (w : WorldValue) → StandsFor w h → HasDrilled number records w
+  pub has_drilled : (laws : HasLaws) (law : StoppedIsShort) (w : WorldValue) → StandsFor w h
+      → HasDrilled number records w
   has_drilled laws law w stands =
       let members : List Account = map account_in p.members.items in
       record {

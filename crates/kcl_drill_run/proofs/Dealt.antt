@@ -1,5 +1,6 @@
 -- The passes of a new hall, dealt out.
-use Rattle.std.proofs.Common.{◌≡◌, ℕ, zero, suc, ◌+◌, ◌≤◌, List, [], ◌∷◌, ◌++◌, length, refl, sym, ap, subst, ◌∙◌, arith}
+use Rattle.std.proofs.Common.{◌≡◌, ℕ, zero, suc, ◌+◌, ◌≤◌, List, [], ◌∷◌, ◌++◌, length, refl, sym, ap, subst, ◌∙◌}
+use Rattle.std.proofs.Common.{arith}
 use Rattle.std.specs.Prelude.{slice_index_or}
 use Rattle.std.specs.List.{remove}
 use Rattle.kcl_live.specs.declared.crew.Member.{Member}
@@ -11,7 +12,8 @@ use Rattle.kcl_drill_run.specs.declared.participants.Participants.{Participants}
 
 module _ {M G : Type 0} where
   -- one more worker, with one more pass
-  pub one_more : (name : ℕ) (ps : List Standing) (ms : List (Member M Stock Kind G)) (p : Standing) (m : Member M Stock Kind G) → AreMembersOf name ps ms
+  pub one_more : (name : ℕ) (ps : List Standing) (ms : List (Member M Stock Kind G)) (p : Standing)
+      (m : Member M Stock Kind G) → AreMembersOf name ps ms
       → IsMemberOf (name + length ms) p m → AreMembersOf name (ps ++ p ∷ []) (ms ++ m ∷ [])
   one_more name [] [] p m are is = let e : name + 0 ≡ name = omega arith in (subst (λ n. IsMemberOf n p m) e is, tt)
   one_more name [] (y ∷ ms) p m are is = absurd are
@@ -20,7 +22,8 @@ module _ {M G : Type 0} where
       let e : name + suc (length ms) ≡ name + 1 + length ms = omega arith in
       (are.0, one_more (name + 1) ps ms p m are.1 (subst (λ n. IsMemberOf n p m) e is))
 
-  pub as_many : (name : ℕ) (ps : List Standing) (ms : List (Member M Stock Kind G)) → AreMembersOf name ps ms → length ms ≡ length ps
+  pub as_many : (name : ℕ) (ps : List Standing) (ms : List (Member M Stock Kind G)) → AreMembersOf name ps ms
+      → length ms ≡ length ps
   as_many name [] [] are = refl
   as_many name [] (y ∷ ms) are = absurd are
   as_many name (x ∷ ps) [] are = absurd are
@@ -28,7 +31,8 @@ module _ {M G : Type 0} where
 
 -- ---- the first two passes, and the others
 
-first_two : (hall : Place) (n : ℕ) → new_passes hall 1 (n + 2) ≡ new_pass hall.id 1 ∷ new_pass hall.id 2 ∷ new_passes hall 3 n
+first_two : (hall : Place) (n : ℕ) → new_passes hall 1 (n + 2) ≡ new_pass hall.id 1 ∷ new_pass hall.id 2
+    ∷ new_passes hall 3 n
 first_two hall n = let e : n + 2 ≡ suc (suc n) = omega arith in ap (new_passes hall 1) e
 
 pub count_new : (hall : Place) (from n : ℕ) → length (new_passes hall from n) ≡ n
@@ -40,7 +44,8 @@ pub record IsTaken (from left : List Standing) (x : Standing) : Type 0 where
   pub value : x ≡ slice_index_or from 0 x
   pub left_are : left ≡ remove from 0
 
-module _ (hall : Place) (workers : ℕ) (all some rest : List Standing) (new : all ≡ new_passes hall 1 (workers + 2)) where
+module _ (hall : Place) (workers : ℕ) (all some rest : List Standing)
+    (new : all ≡ new_passes hall 1 (workers + 2)) where
   are_all : all ≡ new_pass hall.id 1 ∷ new_pass hall.id 2 ∷ new_passes hall 3 workers
   are_all = new ∙ first_two hall workers
 
@@ -52,7 +57,8 @@ module _ (hall : Place) (workers : ℕ) (all some rest : List Standing) (new : a
       are_rest : rest ≡ new_passes hall 3 workers
       are_rest = second.left_are ∙ ap (λ xs. remove xs 0) are_some
 
-      pub dealt : (p : Participants) → p.root ≡ root → p.feeder ≡ feeder → AreMembersOf 1 rest p.members.items → hall.passes ≡ workers + 2 → workers ≤ 64
+      pub dealt : (p : Participants) → p.root ≡ root → p.feeder ≡ feeder → AreMembersOf 1 rest p.members.items
+          → hall.passes ≡ workers + 2 → workers ≤ 64
           → AreDealt hall p × (length p.members.items ≡ workers)
       dealt p root_is feeder_is are passes few =
           let ms = p.members.items in

@@ -1,5 +1,6 @@
 -- From a drill's history to its text.
-use Rattle.std.proofs.Common.{◌≡◌, ℕ, ◌<◌, ◌≤◌, ◌^◌, max, false, List, [], ◌∷◌, ◌++◌, length, Option, Some, None, refl, sym, ap, subst, ◌∙◌, append_assoc}
+use Rattle.std.proofs.Common.{◌≡◌, ℕ, ◌<◌, ◌≤◌, ◌^◌, max, false, List, [], ◌∷◌, ◌++◌, length, Option, Some, None, refl}
+use Rattle.std.proofs.Common.{sym, ap, subst, ◌∙◌, append_assoc}
 use Rattle.std.proofs.Common.{arith}
 use Rattle.std.specs.Prelude.{nat_lt}
 use Rattle.std.specs.List.{AllByRecursion}
@@ -32,7 +33,8 @@ not_closed : (floor : ℕ) (o : Option Closing) → floor ≡ 0 → was_closed_b
 not_closed floor None is = refl
 not_closed floor (Some closing) is = not_below closing.clock floor is
 
-none_closed : (floor : ℕ) (xs : List ShardState) → floor ≡ 0 → AllByRecursion (λ (x : ShardState). is_closed_below floor x ≡ false) xs
+none_closed : (floor : ℕ) (xs : List ShardState) → floor ≡ 0
+    → AllByRecursion (λ (x : ShardState). is_closed_below floor x ≡ false) xs
 none_closed floor [] is = tt
 none_closed floor (x ∷ xs) is = (not_closed floor x.closing is, none_closed floor xs is)
 
@@ -40,8 +42,10 @@ none_closed floor (x ∷ xs) is = (not_closed floor x.closing is, none_closed fl
 same_clock : (c at : ℕ) → at ≡ 0 → max c at ≡ c
 same_clock c at is = omega (arith, is)
 
-module _ (untrimmed : (h : List Turn) (c s : ℕ) → IsHistory h → clock h ≤ c → c < LEAST_RETENTION → trim_floor (journal h) c s ≡ 0) where
-  pub can_drain : (h : List Turn) (number records at : ℕ) → at ≡ 0 → IsDrill h number records → length h < 2 ^ 32 → AreFromHorizon (journal h) → CanDrain h at
+module _ (untrimmed : (h : List Turn) (c s : ℕ) → IsHistory h → clock h ≤ c → c < LEAST_RETENTION
+    → trim_floor (journal h) c s ≡ 0) where
+  pub can_drain : (h : List Turn) (number records at : ℕ) → at ≡ 0 → IsDrill h number records → length h < 2 ^ 32
+      → AreFromHorizon (journal h) → CanDrain h at
   can_drain h number records at zero is few horizon =
       let c = max (clock h) at in
       let late : clock h ≤ c = omega (arith, same_clock (clock h) at zero) in
@@ -57,7 +61,8 @@ module _ (untrimmed : (h : List Turn) (c s : ℕ) → IsHistory h → clock h �
 
 -- what the laws say of a drill's history
 pub record HasLaws : Type 0 where
-  pub drill : (number records by at : ℕ) (more h : List Turn) → IsDrill h number records → at ≤ clock h → AreLeased by at more
+  pub drill : (number records by at : ℕ) (more h : List Turn) → IsDrill h number records → at ≤ clock h
+      → AreLeased by at more
       → IsDrill (more ++ h) number records
   pub summed : (h : List Turn) (number records : ℕ) → IsDrill h number records → CanSum h (clock h)
   pub text : (h : List Turn) (number records : ℕ) → IsDrill h number records → AreDrained (journal h) (clock h)
@@ -71,10 +76,12 @@ pub record IsReady (stands : List Turn → Type 0) (by at number records : ℕ) 
   pub text : summary_text (journal turns) (max (clock turns) at) ≡ drill_text number records
 
 -- a machine that stands for a history and further turns, and then answers turns that only read
-pub later : (stands : List Turn → Type 0) (by at : ℕ) (h more : List Turn) → HasRead stands by at (more ++ h) → (all : List Turn) × stands (all ++ h)
+pub later : (stands : List Turn → Type 0) (by at : ℕ) (h more : List Turn) → HasRead stands by at (more ++ h)
+    → (all : List Turn) × stands (all ++ h)
 later stands by at h more r = (r.more ++ more, subst stands (sym (append_assoc r.more more h)) r.stands_now)
 
-pub ready : (laws : HasLaws) (stands : List Turn → Type 0) (h : List Turn) (number records by at then : ℕ) → at ≡ 0 → then ≡ 0 → IsDrill h number records
+pub ready : (laws : HasLaws) (stands : List Turn → Type 0) (h : List Turn) (number records by at then : ℕ) → at ≡ 0
+    → then ≡ 0 → IsDrill h number records
     → HasDrained stands by at h → IsReady stands by then number records
 ready laws stands h number records by at then zero zero_then is d =
     let turns = d.more ++ h in

@@ -33,8 +33,10 @@ crowd_spent : (before root feeder : Standing) → IsCrowdErr before root feeder 
 crowd_spent before root feeder (inl asked) = inl (ask_full before root asked.2)
 crowd_spent before root feeder (inr fed) = inr (feed_full feeder fed.1)
 
-pub crowd_full : (before : Standing) (p : Participants) (e : TurnErr) → IsCrowdErr before p.root p.feeder e → e ≡ failed.Spent → AreFull p
-crowd_full before p e err is = either (crowd_spent before p.root p.feeder (subst (IsCrowdErr before p.root p.feeder) is err))
+pub crowd_full : (before : Standing) (p : Participants) (e : TurnErr) → IsCrowdErr before p.root p.feeder e
+    → e ≡ failed.Spent → AreFull p
+crowd_full before p e err is =
+    either (crowd_spent before p.root p.feeder (subst (IsCrowdErr before p.root p.feeder) is err))
   where
     either : IsFull p.root ⊎ IsFull p.feeder → AreFull p
     either (inl root) = inl root
@@ -51,20 +53,24 @@ module _ {M P F G : Type 0} (stands : P → List Call → Type 0) (turns : ℕ) 
   one_full : (b a : Member M P F G) → HasEnded stands turns 50 b a → a.outcome ≡ Err failed.Spent → IsFull a.pass
   one_full b a ended is = cut_full a (subst (λ o. IfErr o (WasCut stands a.worker a.pass)) is ended.err)
 
-  pub members_full : (e : TurnErr) (before after : List (Member M P F G)) → e ≡ failed.Spent → length after ≡ length before
+  pub members_full : (e : TurnErr) (before after : List (Member M P F G)) → e ≡ failed.Spent
+      → length after ≡ length before
       → HaveEnded stands turns before after → SomeFailed e after → SomeIsFull after
   members_full e before [] is same ended some = absurd some
   members_full e [] (a ∷ after) is same ended some = absurd (omega (arith, same))
-  members_full e (b ∷ before) (a ∷ after) is same ended (inl one) = inl (one_full b a (ended 0 b (omega arith)) (subst (λ x. a.outcome ≡ Err x) is one))
+  members_full e (b ∷ before) (a ∷ after) is same ended (inl one) =
+      inl (one_full b a (ended 0 b (omega arith)) (subst (λ x. a.outcome ≡ Err x) is one))
   members_full e (b ∷ before) (a ∷ after) is same ended (inr more) =
-      inr (members_full e before after is (omega (arith, same)) (λ i m below. ended (suc i) m (omega (arith, below))) more)
+      inr (members_full e before after is (omega (arith, same)) (λ i m below. ended (suc i) m (omega (arith, below)))
+      more)
 
 -- ---- passes that have seen few turns are not full
 
 few_not_full : (p : Standing) → IsShort p → IsFull p → ⊥
 few_not_full p short full = absurd (omega (arith, short, full))
 
-members_not_full : {M P F G : Type 0} (ms : List (Member M P F G)) → AllByRecursion (λ m. IsShort m.pass) ms → SomeIsFull ms → ⊥
+members_not_full : {M P F G : Type 0} (ms : List (Member M P F G)) → AllByRecursion (λ m. IsShort m.pass) ms
+    → SomeIsFull ms → ⊥
 members_not_full [] short full = full
 members_not_full (m ∷ ms) short (inl one) = few_not_full m.pass short.0 one
 members_not_full (m ∷ ms) short (inr more) = members_not_full ms short.1 more

@@ -7,7 +7,8 @@ use Rattle.kcl_live.specs.declared.crew.Member.{Member}
 use Rattle.kcl_drill_run.specs.Running.{accounts_in}
 
 module _ {M P F G : Type 0} where
-  pub joined_more : (old now total : List Account) (m : Member M P F G) (rest items : List (Member M P F G)) → now ≡ old ++ accounts_in m → items ≡ m ∷ rest
+  pub joined_more : (old now total : List Account) (m : Member M P F G) (rest items : List (Member M P F G))
+      → now ≡ old ++ accounts_in m → items ≡ m ∷ rest
       → old ++ flat_map accounts_in items ≡ total → now ++ flat_map accounts_in rest ≡ total
   joined_more old now total m rest items e step before =
       ap (λ xs. xs ++ flat_map accounts_in rest) e
@@ -15,5 +16,6 @@ module _ {M P F G : Type 0} where
       ∙ ap (λ ms. old ++ flat_map accounts_in ms) (sym step)
       ∙ before
 
-  pub all_rest : (Q : Member M P F G → Type 0) (m : Member M P F G) (rest items : List (Member M P F G)) → items ≡ m ∷ rest → All Q items → All Q rest
+  pub all_rest : (Q : Member M P F G → Type 0) (m : Member M P F G) (rest items : List (Member M P F G))
+      → items ≡ m ∷ rest → All Q items → All Q rest
   all_rest Q m rest items step all = λ k d below. (subst (All Q) step all) (suc k) d (omega (arith, below))

@@ -1,5 +1,6 @@
 -- What the threads of a drill have done.
-use Rattle.std.proofs.Common.{◌≡◌, ◌⊎◌, inl, inr, ℕ, zero, suc, ◌+◌, ◌≤◌, List, [], ◌∷◌, length, sym, ap, subst, ◌∙◌, arith, Result, Ok, Err}
+use Rattle.std.proofs.Common.{◌≡◌, ◌⊎◌, inl, inr, ℕ, zero, suc, ◌+◌, ◌≤◌, List, [], ◌∷◌, length, sym, ap, subst, ◌∙◌}
+use Rattle.std.proofs.Common.{arith, Result, Ok, Err}
 use Rattle.std.specs.Prelude.{◌/◌, IfErr, IsOk, OnOk}
 use Rattle.std.specs.List.{All, AllByRecursion}
 use Rattle.kcl_drill_laws.proofs.Drills.{fed_so_far}
@@ -25,7 +26,8 @@ use Rattle.kcl_drill_run.specs.declared.participants.Participants.{Participants}
 
 -- what the law `horizon` says
 abbrev pub FromHorizon : Type 0
-FromHorizon = (by : ℕ) (made : WorkerMade) (past : WorkerPast) → made.settings.from ≡ origin.TrimHorizon → AreDrillTurns (turns_in by made past)
+FromHorizon = (by : ℕ) (made : WorkerMade) (past : WorkerPast) → made.settings.from ≡ origin.TrimHorizon
+    → AreDrillTurns (turns_in by made past)
 
 of_ok : {A E : Type 0} (r : Result A E) (X : Type 0) → IsOk r → OnOk r X → X
 of_ok (Ok a) X is x = x
@@ -44,19 +46,22 @@ then_err (Err e) P Q f p = f e p
 
 module _ {M G : Type 0} (hall : Place) where
   -- they may be run
-  pub all_ready : (name from n : ℕ) (ms : List (Member M Stock Kind G)) → AreMembersOf name (new_passes hall from n) ms → All (IsReady StockStandsFor hall) ms
+  pub all_ready : (name from n : ℕ) (ms : List (Member M Stock Kind G)) → AreMembersOf name (new_passes hall from n) ms
+      → All (IsReady StockStandsFor hall) ms
   all_ready name from n [] are k d below = absurd (omega (arith, below))
   all_ready name from zero (m ∷ ms) are k d below = absurd are
   all_ready name from (suc n) (m ∷ ms) are zero d below =
       (ap (λ (p : Standing). p.hall) are.0.pass_is, ap (λ (p : Standing). p.own) are.0.pass_is, are.0.stands)
-  all_ready name from (suc n) (m ∷ ms) are (suc k) d below = all_ready (name + 1) (from + 1) n ms are.1 k d (omega (arith, below))
+  all_ready name from (suc n) (m ∷ ms) are (suc k) d below =
+      all_ready (name + 1) (from + 1) n ms are.1 k d (omega (arith, below))
 
   module _ (records : ℕ) where
     -- it ran, or is as it was
     abbrev EndedOrNot : Member M Stock Kind G → Member M Stock Kind G → Type 0
     EndedOrNot b a = HasEnded StockStandsFor (200 + records / 100) 50 b a ⊎ (a ≡ b)
 
-    one_passed : (name from : ℕ) (b a : Member M Stock Kind G) → IsMemberOf name (new_pass hall.id from) b → EndedOrNot b a
+    one_passed : (name from : ℕ) (b a : Member M Stock Kind G) → IsMemberOf name (new_pass hall.id from) b
+        → EndedOrNot b a
         → HasPass hall from a × IsFew records (account_in a)
     one_passed name from b a is (inl ended) = (
       record {
@@ -77,7 +82,8 @@ module _ {M G : Type 0} (hall : Place) where
           omega (arith, none),
         )
 
-    pub all_passed : (name from n : ℕ) (before after : List (Member M Stock Kind G)) → AreMembersOf name (new_passes hall from n) before
+    pub all_passed : (name from n : ℕ) (before after : List (Member M Stock Kind G))
+        → AreMembersOf name (new_passes hall from n) before
         → length after ≡ length before
         → HaveEndedOrNot StockStandsFor (200 + records / 100) before after
         → HavePasses hall from after × AllByRecursion (λ m. IsFew records (account_in m)) after
@@ -87,47 +93,62 @@ module _ {M G : Type 0} (hall : Place) where
     all_passed name from zero (b ∷ before) (a ∷ after) are same ended = absurd are
     all_passed name from (suc n) (b ∷ before) (a ∷ after) are same ended =
         let one = one_passed name from b a are.0 (ended 0 b (omega arith)) in
-        let more = all_passed (name + 1) (from + 1) n before after are.1 (omega (arith, same)) (λ i m below. ended (suc i) m (omega (arith, below))) in
+        let more = all_passed (name + 1) (from + 1) n before after are.1 (omega (arith, same))
+        (λ i m below. ended (suc i) m (omega (arith, below))) in
         ((one.0, more.0), (one.1, more.1))
 
     module _ (law : FromHorizon) where
-      one_made : (name from : ℕ) (b a : Member M Stock Kind G) → IsMemberOf name (new_pass hall.id from) b → IsOk a.outcome
+      one_made : (name from : ℕ) (b a : Member M Stock Kind G) → IsMemberOf name (new_pass hall.id from) b
+          → IsOk a.outcome
           → HasEnded StockStandsFor (200 + records / 100) 50 b a → IsMemberAccount records (account_in a)
       one_made name from b a is ran ended =
           let run = of_ok a.outcome (HasRun StockStandsFor a.worker a.pass) ran ended.ok in
-          let made : a.worker.made.settings.from ≡ origin.TrimHorizon = ap (λ (m : WorkerMade). m.settings.from) (ended.made ∙ is.made) in
+          let made : a.worker.made.settings.from ≡ origin.TrimHorizon =
+          ap (λ (m : WorkerMade). m.settings.from) (ended.made ∙ is.made) in
           record {
             moments = ended.moments;
             most = ended.most;
             horizon = subst AreDrillTurns (sym run.driven.own_are) (law a.pass.by a.worker.made run.past made);
           }
 
-      pub all_made : (name from n : ℕ) (before after : List (Member M Stock Kind G)) → AreMembersOf name (new_passes hall from n) before
+      pub all_made : (name from n : ℕ) (before after : List (Member M Stock Kind G))
+          → AreMembersOf name (new_passes hall from n) before
           → length after ≡ length before → AllEnded after
-          → HaveEnded StockStandsFor (200 + records / 100) before after → AllByRecursion (λ m. IsMemberAccount records (account_in m)) after
+          → HaveEnded StockStandsFor (200 + records / 100) before after
+          → AllByRecursion (λ m. IsMemberAccount records (account_in m)) after
       all_made name from n [] [] are same ran ended = tt
       all_made name from n [] (a ∷ after) are same ran ended = absurd (omega (arith, same))
       all_made name from n (b ∷ before) [] are same ran ended = absurd (omega (arith, same))
       all_made name from zero (b ∷ before) (a ∷ after) are same ran ended = absurd are
       all_made name from (suc n) (b ∷ before) (a ∷ after) are same ran ended = (
         one_made name from b a are.0 ran.0 (ended 0 b (omega arith)),
-        all_made (name + 1) (from + 1) n before after are.1 (omega (arith, same)) ran.1 (λ i m below. ended (suc i) m (omega (arith, below))),
+        all_made (name + 1) (from + 1) n before after are.1 (omega (arith, same)) ran.1
+            (λ i m below. ended (suc i) m (omega (arith, below))),
       )
 
 -- ---- all of them
 
-module _ (hall : Place) (number records : ℕ) (before after : Participants) (dealt : AreDealt hall before) (limit : records ≤ 1000000)
+module _ (hall : Place) (number records : ℕ) (before after : Participants) (dealt : AreDealt hall before)
+    (limit : records ≤ 1000000)
     (root : IsKept before.root after.root) (feeder : IsKept before.feeder after.feeder)
     (same : length after.members.items ≡ length before.members.items) where
   pub have_stopped : HasFedSoFar number records after.root after.feeder
-      → HaveEndedOrNot StockStandsFor (200 + records / 100) before.members.items after.members.items → HaveStopped hall number records after
+      → HaveEndedOrNot StockStandsFor (200 + records / 100) before.members.items after.members.items
+      → HaveStopped hall number records after
   have_stopped begun ended =
-      let passed = all_passed hall records 1 3 (length before.members.items) before.members.items after.members.items dealt.members same ended in
+      let passed = all_passed hall records 1 3 (length before.members.items) before.members.items after.members.items
+      dealt.members same ended in
       record {
         limit = limit;
-        at = (root.hall ∙ ap (λ (p : Standing). p.hall) dealt.root, feeder.hall ∙ ap (λ (p : Standing). p.hall) dealt.feeder);
+        at = (
+          root.hall ∙ ap (λ (p : Standing). p.hall) dealt.root,
+          feeder.hall ∙ ap (λ (p : Standing). p.hall) dealt.feeder,
+        );
         by = (root.by ∙ ap (λ (p : Standing). p.by) dealt.root, feeder.by ∙ ap (λ (p : Standing). p.by) dealt.feeder);
-        alone = (root.joined ∙ ap (λ (p : Standing). p.joined) dealt.root, feeder.joined ∙ ap (λ (p : Standing). p.joined) dealt.feeder);
+        alone = (
+          root.joined ∙ ap (λ (p : Standing). p.joined) dealt.root,
+          feeder.joined ∙ ap (λ (p : Standing). p.joined) dealt.feeder,
+        );
         begun = begun;
         passes = passed.0;
         turns = passed.1;
@@ -138,11 +159,13 @@ module _ (hall : Place) (number records : ℕ) (before after : Participants) (de
   module _ (fed : HasFed number records after.root after.feeder)
       (ended : HaveEnded StockStandsFor (200 + records / 100) before.members.items after.members.items) where
     pub have_stopped_all : HaveStopped hall number records after
-    have_stopped_all = have_stopped (fed_so_far number records after.root after.feeder fed) (λ i m below. inl (ended i m below))
+    have_stopped_all = have_stopped (fed_so_far number records after.root after.feeder fed)
+        (λ i m below. inl (ended i m below))
 
     pub have_run : (law : FromHorizon) → AllEnded after.members.items → HaveRun hall number records after
     have_run law ran = record {
       stopped = have_stopped_all;
       fed = fed;
-      made = all_made hall records law 1 3 (length before.members.items) before.members.items after.members.items dealt.members same ran ended;
+      made = all_made hall records law 1 3 (length before.members.items) before.members.items after.members.items
+          dealt.members same ran ended;
     }

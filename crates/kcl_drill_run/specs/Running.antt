@@ -31,8 +31,8 @@ abbrev pub HavePasses : {M P F G : Type 0} → Place → ℕ → List (Member M 
 HavePasses hall from [] = Unit {0}
 HavePasses hall from (m ∷ ms) = HasPass hall from m × HavePasses hall (from + 1) ms
 
--- The root and the feeder made the first of the generator's commands, and the workers so many turns at most. The hall has
--- their passes and no others.
+-- The root and the feeder made the first of the generator's commands, and the workers so many turns at most. The hall
+-- has their passes and no others.
 pub record HaveStopped (hall : Place) (number records : ℕ) (p : Participants) : Type 0 where
   pub limit : records ≤ MOST_RECORDS
   pub at : (p.root.hall ≡ hall.id) × (p.feeder.hall ≡ hall.id)

@@ -34,7 +34,8 @@ fn join_all(hall: &Hall<World>, participants: Participants) -> Pass<World>
 /// because of an error. In every case, each pass has seen fewer than 2^32 commands.
 pub fn close(hall: Hall<World>, participants: Participants) -> World
     requires stopped { (number : ℕ) × (records : ℕ) × HaveStopped hall number records participants }
-    ensures drilled { (number records : ℕ) → HaveRun hall number records participants → HasDrilled number records result }
+    ensures drilled { (number records : ℕ) → HaveRun hall number records participants
+        → HasDrilled number records result }
     ensures short { AreShort participants }
 {
     kcl_drill_laws::closed();

@@ -20,9 +20,11 @@ const NOBODY: u32 = 0;
 /// sent at moment 0, so the machine's clock doesn't advance. The error means out of memory. The call only adds commands
 /// to the machine's history, even if it returns an error.
 pub fn drained_text<M: Machine>(alloc: Global, machine: &mut M) -> Result<Octets, Memory>
-    ensures text { (number records : ℕ) (h : List Turn) → M.stands_for machine.old h → IsDrill h number records → length h < 2 ^ 32
+    ensures text { (number records : ℕ) (h : List Turn) → M.stands_for machine.old h → IsDrill h number records
+        → length h < 2 ^ 32
         → AreFromHorizon (journal h) → IfOk result (λ text. text ≡ drill_text number records) }
-    ensures leased { (h : List Turn) → M.stands_for machine.old h → (more : List Turn) × M.stands_for machine.new (more ++ h) }
+    ensures leased { (h : List Turn) → M.stands_for machine.old h → (more : List Turn)
+        × M.stands_for machine.new (more ++ h) }
 {
     kcl_drill::one_text();
     kcl_drill::untrimmed();

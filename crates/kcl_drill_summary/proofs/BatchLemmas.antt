@@ -1,5 +1,6 @@
 -- What is left of rising records after a batch.
-use Rattle.std.proofs.Common.{◌≡◌, ℕ, zero, suc, ◌+◌, ◌-◌, ◌<◌, ◌≤◌, Bool, true, false, List, [], ◌∷◌, ◌++◌, map, refl, sym, ap, ◌∙◌, arith}
+use Rattle.std.proofs.Common.{◌≡◌, ℕ, zero, suc, ◌+◌, ◌-◌, ◌<◌, ◌≤◌, Bool, true, false, List, [], ◌∷◌, ◌++◌, map, refl}
+use Rattle.std.proofs.Common.{sym, ap, ◌∙◌, arith}
 use Rattle.std.specs.Prelude.{not, nat_le, nat_lt, ◌&&◌, cond, if◌then◌else◌}
 use Rattle.std.specs.List.{AllByRecursion, filter}
 use Rattle.std.proofs.lemmas.Bool.Decides.{nat_tests}
@@ -33,7 +34,8 @@ up_kept p m (r ∷ rs) up =
     cond_both (nat_le p r.seq) (r ∷ from p rs) (from p rs) (IsUp m) (λ stays. (up.0, rest))
     (λ goes. up_weaker m (r.seq + 1) (from p rs) (omega (arith, up.0)) rest)
 
-up_head : (p : ℕ) (r : Logged) (rs : List Logged) (b : Bool) → nat_le p r.seq ≡ b → IsUp (r.seq + 1) rs → IsUp p (from p rs) → IsUp p (cond b (r ∷ from p rs) (from p rs))
+up_head : (p : ℕ) (r : Logged) (rs : List Logged) (b : Bool) → nat_le p r.seq ≡ b → IsUp (r.seq + 1) rs
+    → IsUp p (from p rs) → IsUp p (cond b (r ∷ from p rs) (from p rs))
 up_head p r rs true is up rest = (le_so p r.seq is, up_kept p (r.seq + 1) rs up)
 up_head p r rs false is up rest = rest
 
@@ -47,40 +49,49 @@ all_from p (r ∷ rs) up =
     ap (λ b. cond b (r ∷ from p rs) (from p rs)) (is_le p r.seq up.0)
     ∙ ap (λ xs. r ∷ xs) (all_from p rs (up_weaker p (r.seq + 1) rs (omega (arith, up.0)) up.1))
 
-pub place_up : (limit room p : ℕ) (rs : List Logged) → IsUp p rs → p ≤ place_after p (numbers_of (beginning limit room rs))
+pub place_up : (limit room p : ℕ) (rs : List Logged) → IsUp p rs
+    → p ≤ place_after p (numbers_of (beginning limit room rs))
 place_up zero room p rs up = omega arith
 place_up (suc limit) room p [] up = omega arith
 place_up (suc limit) room p (r ∷ rs) up =
     let rest = place_up limit (room - r.bytes) (r.seq + 1) rs up.1 in
-    cond_both (nat_le r.bytes room) (r ∷ beginning limit (room - r.bytes) rs) [] (λ bs. p ≤ place_after p (numbers_of bs))
+    cond_both (nat_le r.bytes room) (r ∷ beginning limit (room - r.bytes) rs) []
+    (λ bs. p ≤ place_after p (numbers_of bs))
     (λ fits. omega (arith, up.0, rest)) (λ full. omega arith)
 
-part_head : (p : ℕ) (r : Logged) (rs bs : List Logged) (b : Bool) → p ≤ r.seq → IsUp (r.seq + 1) rs → r.seq + 1 ≤ place_after (r.seq + 1) (numbers_of bs) → rs ≡ bs ++ from (place_after (r.seq + 1) (numbers_of bs)) rs
+part_head : (p : ℕ) (r : Logged) (rs bs : List Logged) (b : Bool) → p ≤ r.seq → IsUp (r.seq + 1) rs
+    → r.seq + 1 ≤ place_after (r.seq + 1) (numbers_of bs) → rs ≡ bs ++ from (place_after (r.seq + 1) (numbers_of bs)) rs
     → r ∷ rs ≡ (if b then r ∷ bs else []) ++ from (place_after p (numbers_of (if b then r ∷ bs else []))) (r ∷ rs)
 part_head p r rs bs true le up above rest =
     let place = place_after (r.seq + 1) (numbers_of bs) in
     ap (λ xs. r ∷ xs) rest
-    ∙ ap (λ b. r ∷ (bs ++ cond b (r ∷ from place rs) (from place rs))) (sym (is_above place r.seq (omega (arith, above))))
+    ∙ ap (λ b. r ∷ (bs ++ cond b (r ∷ from place rs) (from place rs)))
+    (sym (is_above place r.seq (omega (arith, above))))
 part_head p r rs bs false le up above rest = sym (all_from p (r ∷ rs) (le, up))
 
 -- a batch, and those from the place after it on, are all
-pub parts : (limit room p : ℕ) (rs : List Logged) → IsUp p rs → rs ≡ beginning limit room rs ++ from (place_after p (numbers_of (beginning limit room rs))) rs
+pub parts : (limit room p : ℕ) (rs : List Logged) → IsUp p rs
+    → rs ≡ beginning limit room rs ++ from (place_after p (numbers_of (beginning limit room rs))) rs
 parts zero room p rs up = sym (all_from p rs up)
 parts (suc limit) room p [] up = refl
 parts (suc limit) room p (r ∷ rs) up =
     part_head p r rs (beginning limit (room - r.bytes) rs) (nat_le r.bytes room) up.0 up.1
     (place_up limit (room - r.bytes) (r.seq + 1) rs up.1) (parts limit (room - r.bytes) (r.seq + 1) rs up.1)
 
-twice_head : (p place : ℕ) (r : Logged) (rs : List Logged) → p ≤ place → (b d : Bool) → nat_le p r.seq ≡ b → nat_le place r.seq ≡ d → from place (from p rs) ≡ from place rs
+twice_head : (p place : ℕ) (r : Logged) (rs : List Logged) → p ≤ place → (b d : Bool) → nat_le p r.seq ≡ b
+    → nat_le place r.seq ≡ d → from place (from p rs) ≡ from place rs
     → from place (cond b (r ∷ from p rs) (from p rs)) ≡ cond d (r ∷ from place rs) (from place rs)
-twice_head p place r rs le true true is at so = ap (λ b. cond b (r ∷ from place (from p rs)) (from place (from p rs))) at ∙ ap (λ xs. r ∷ xs) so
-twice_head p place r rs le true false is at so = ap (λ b. cond b (r ∷ from place (from p rs)) (from place (from p rs))) at ∙ so
+twice_head p place r rs le true true is at so =
+    ap (λ b. cond b (r ∷ from place (from p rs)) (from place (from p rs))) at ∙ ap (λ xs. r ∷ xs) so
+twice_head p place r rs le true false is at so =
+    ap (λ b. cond b (r ∷ from place (from p rs)) (from place (from p rs))) at ∙ so
 twice_head p place r rs le false true is at so = absurd (omega (arith, le, le_so place r.seq at, above_so p r.seq is))
 twice_head p place r rs le false false is at so = so
 
 pub from_twice : (p place : ℕ) (rs : List Logged) → p ≤ place → from place (from p rs) ≡ from place rs
 from_twice p place [] le = refl
-from_twice p place (r ∷ rs) le = twice_head p place r rs le (nat_le p r.seq) (nat_le place r.seq) refl refl (from_twice p place rs le)
+from_twice p place (r ∷ rs) le =
+    twice_head p place r rs le (nat_le p r.seq) (nat_le place r.seq) refl refl (from_twice p place rs le)
 
 -- where nothing of them is trimmed, those that are left are those from a number on
 pub left_all : (floor p : ℕ) (rs : List Logged) → AreAbove floor rs → left_among floor p rs ≡ from p rs
@@ -94,13 +105,18 @@ left_all floor p (r ∷ rs) are =
 pub sized_from : (p : ℕ) (rs : List Logged) → AreSized rs → AreSized (from p rs)
 sized_from p rs are = all_filter IsSized (λ (r : Logged). nat_le p r.seq) rs are
 
-pub stuck : (limit p : ℕ) (rs : List Logged) → IsUp p rs → AreSized rs → nat_lt p (place_after p (numbers_of (beginning (suc limit) 10485760 rs))) ≡ false → rs ≡ []
+pub stuck : (limit p : ℕ) (rs : List Logged) → IsUp p rs → AreSized rs
+    → nat_lt p (place_after p (numbers_of (beginning (suc limit) 10485760 rs))) ≡ false → rs ≡ []
 stuck limit p [] up are is = refl
-stuck limit p (r ∷ rs) up are is = absurd (either (nat_le r.bytes 10485760) (is_le r.bytes 10485760 (omega (arith, are.0.1))) is)
+stuck limit p (r ∷ rs) up are is =
+    absurd (either (nat_le r.bytes 10485760) (is_le r.bytes 10485760 (omega (arith, are.0.1))) is)
   where
-    either : (b : Bool) → b ≡ true → nat_lt p (place_after p (numbers_of (if b then r ∷ beginning limit (10485760 - r.bytes) rs else []))) ≡ false → ⊥
+    either : (b : Bool) → b ≡ true
+        → nat_lt p (place_after p (numbers_of (if b then r ∷ beginning limit (10485760 - r.bytes) rs else []))) ≡ false
+        → ⊥
     either false fits h = absurd cc
-    either true fits h = no p (place_after (r.seq + 1) (numbers_of (beginning limit (10485760 - r.bytes) rs))) (omega (arith, up.0, place_up limit (10485760 - r.bytes) (r.seq + 1) rs up.1)) h
+    either true fits h = no p (place_after (r.seq + 1) (numbers_of (beginning limit (10485760 - r.bytes) rs)))
+        (omega (arith, up.0, place_up limit (10485760 - r.bytes) (r.seq + 1) rs up.1)) h
       where
         no : (p q : ℕ) → p < q → nat_lt p q ≡ false → ⊥
         no p q below h = grind (arith, nat_tests)

@@ -1,5 +1,6 @@
 -- One read further: what is counted and what is left stay all the records.
-use Rattle.std.proofs.Common.{◌≡◌, ℕ, ◌+◌, ◌*◌, ◌<◌, ◌≤◌, ◌^◌, Bool, true, false, List, [], ◌∷◌, ◌++◌, length, map, Option, Some, None, refl, sym, ap, subst, ◌∙◌, arith}
+use Rattle.std.proofs.Common.{◌≡◌, ℕ, ◌+◌, ◌*◌, ◌<◌, ◌≤◌, ◌^◌, Bool, true, false, List, [], ◌∷◌, ◌++◌, length, map}
+use Rattle.std.proofs.Common.{Option, Some, None, refl, sym, ap, subst, ◌∙◌, arith}
 use Rattle.std.specs.Prelude.{not, nat_lt, if◌then◌else◌, Result, Ok}
 use Rattle.std.proofs.lemmas.Bool.Decides.{nat_tests}
 use Rattle.std.proofs.lemmas.Bool.{and_parts}
@@ -13,8 +14,10 @@ use Rattle.kds_defs.specs.declared.reply.Reply.{Reply}
 use Rattle.kds_defs.specs.declared.reply.Reply.TheVariants as reply
 use Rattle.kds_defs.specs.Histories.{answer_of, decide}
 use Rattle.kds_defs.specs.Journal.{Journal}
-use Rattle.kds_defs.specs.Listings.{are_none, behind, ends_at, get_records, is_closed_at, is_old, iterator_at, records_reply}
-use Rattle.kds_defs.specs.Records.{Logged, batch, beginning, left_among, left_from, logged, numbers_of, place_after, records, stored}
+use Rattle.kds_defs.specs.Listings.{are_none, behind, ends_at, get_records, is_closed_at, is_old, iterator_at}
+use Rattle.kds_defs.specs.Listings.{records_reply}
+use Rattle.kds_defs.specs.Records.{Logged, batch, beginning, left_among, left_from, logged, numbers_of, place_after}
+use Rattle.kds_defs.specs.Records.{records, stored}
 use Rattle.kds_defs.specs.Shards.{children, is_listed, shard_at, shown, start_of}
 use Rattle.kds_defs.specs.Streams.{is_live, trim_floor}
 use Rattle.kds_defs.proofs.Decisions.{passed_if}
@@ -23,7 +26,8 @@ use Rattle.kcl_laws.specs.Recorded.{AreDrawn, RiseBetween}
 use Rattle.kcl_drill_summary.specs.Counting.{CanCount, CountsTo, GoesOn, next_above}
 use Rattle.kcl_drill.specs.Summed.{bytes_of}
 use Rattle.kcl_drill_summary.specs.Summing.{Absorbs}
-use Rattle.kcl_drill_summary.proofs.BatchLemmas.{AreSized, IsUp, from, up_from, parts, place_up, from_twice, left_all, sized_from, stuck, up_weaker, all_from}
+use Rattle.kcl_drill_summary.proofs.BatchLemmas.{AreSized, IsUp, from, up_from, parts, place_up, from_twice, left_all}
+use Rattle.kcl_drill_summary.proofs.BatchLemmas.{sized_from, stuck, up_weaker, all_from}
 use Rattle.kcl_drill_summary.proofs.BatchLemmas.{bytes_append, bytes_stored}
 
 -- ---- what holds of the records of each shard
@@ -47,15 +51,19 @@ few_records : (log : Journal) (c s sh : ℕ) → CanCount log c s sh → length 
 few_records log c s sh can = let n = few_between _ _ _ can.drawn in omega (arith, n, can.fits)
 
 few_bytes : (log : Journal) (c s sh : ℕ) → CanCount log c s sh → bytes_of (records log s sh) < 2 ^ 128
-few_bytes log c s sh can = let n = few_records log c s sh can in let m = bytes_few (records log s sh) can.sized in omega (arith, n, m)
+few_bytes log c s sh can = let n = few_records log c s sh can in let m = bytes_few (records log s sh) can.sized in
+    omega (arith, n, m)
 
 -- ---- the answer
 
 young : (c issued : ℕ) → issued ≡ c → is_old c issued ≡ false
 young c issued is = grind (arith, nat_tests)
 
-pub replied : (log : Journal) (c : ℕ) (iter : Iter) (limit : ℕ) → CanCount log c iter.stream iter.shard → iter ≡ iterator_at c iter.stream iter.shard iter.position →
-    get_records log c iter limit ≡ records_reply log c iter.stream iter.shard (batch log c iter.stream iter.shard iter.position limit) (place_after iter.position (numbers_of (batch log c iter.stream iter.shard iter.position limit)))
+pub replied : (log : Journal) (c : ℕ) (iter : Iter) (limit : ℕ) → CanCount log c iter.stream iter.shard
+    → iter ≡ iterator_at c iter.stream iter.shard iter.position →
+    get_records log c iter limit
+    ≡ records_reply log c iter.stream iter.shard (batch log c iter.stream iter.shard iter.position limit)
+    (place_after iter.position (numbers_of (batch log c iter.stream iter.shard iter.position limit)))
 replied log c iter limit can is =
     passed_if refusal.Expired (is_old c iter.issued) _ (young c iter.issued (ap (λ (i : Iter). i.issued) is))
     ∙ passed_if refusal.NoStream (not (is_live log iter.stream)) _ (ap not can.live)
@@ -77,44 +85,66 @@ none_so (r ∷ rs) is = absurd cc
 abbrev Adds : ℕ → ℕ → ℕ → ℕ → Type 0
 Adds bound old more new = old + more < bound → new ≡ old + more
 
-total : (bound old more rest all new : ℕ) → old + (more + rest) ≡ all → all < bound → Adds bound old more new → new + rest ≡ all
+total : (bound old more rest all new : ℕ) → old + (more + rest) ≡ all → all < bound → Adds bound old more new
+    → new + rest ≡ all
 total bound old more rest all new is few adds =
     let n = adds (omega (arith, is, few)) in
     omega (arith, is, n)
 
-pub counts_on : (count bytes count' bytes' : ℕ) (ls bs rest all : List Logged) → CountsTo count bytes ls all → ls ≡ bs ++ rest → length all < 2 ^ 64 → bytes_of all < 2 ^ 128
-    → Adds (2 ^ 64) count (length (map stored bs)) count' → Adds (2 ^ 128) bytes (bytes_of (map logged (map stored bs))) bytes' → CountsTo count' bytes' rest all
+pub counts_on : (count bytes count' bytes' : ℕ) (ls bs rest all : List Logged) → CountsTo count bytes ls all
+    → ls ≡ bs ++ rest → length all < 2 ^ 64 → bytes_of all < 2 ^ 128
+    → Adds (2 ^ 64) count (length (map stored bs)) count'
+    → Adds (2 ^ 128) bytes (bytes_of (map logged (map stored bs))) bytes' → CountsTo count' bytes' rest all
 counts_on count bytes count' bytes' ls bs rest all counts are few few_bytes adds adds_bytes = record {
   records = total (2 ^ 64) count (length bs) (length rest) (length all) count'
       (ap (λ n. count + n) (sym (ap length are ∙ length-append bs rest)) ∙ counts.records) few
       (subst (λ n. Adds (2 ^ 64) count n count') (length_stored bs) adds);
-  payload = total (2 ^ 128) bytes (bytes_of bs) (bytes_of rest) (bytes_of all) bytes' (ap (λ n. bytes + n) (sym (ap bytes_of are ∙ bytes_append bs rest)) ∙ counts.payload) few_bytes
+  payload = total (2 ^ 128) bytes (bytes_of bs) (bytes_of rest) (bytes_of all) bytes'
+      (ap (λ n. bytes + n) (sym (ap bytes_of are ∙ bytes_append bs rest)) ∙ counts.payload) few_bytes
       (subst (λ n. Adds (2 ^ 128) bytes n bytes') (bytes_stored bs) adds_bytes);
 }
 
-all_counted : (count bytes : ℕ) (rest all : List Logged) → rest ≡ [] → CountsTo count bytes rest all → (count ≡ length all) × (bytes ≡ bytes_of all)
-all_counted count bytes rest all none counts =
-    (zeros count (length rest) (length all) (ap length none) counts.records, zeros bytes (bytes_of rest) (bytes_of all) (ap bytes_of none) counts.payload)
+all_counted : (count bytes : ℕ) (rest all : List Logged) → rest ≡ [] → CountsTo count bytes rest all
+    → (count ≡ length all) × (bytes ≡ bytes_of all)
+all_counted count bytes rest all none counts = (
+  zeros count (length rest) (length all) (ap length none) counts.records,
+  zeros bytes (bytes_of rest) (bytes_of all) (ap bytes_of none) counts.payload,
+)
   where
     zeros : (n m k : ℕ) → m ≡ 0 → n + m ≡ k → n ≡ k
     zeros n m k is so = omega (arith, is, so)
 
 -- ---- a read
 
-ended : (log : Journal) (c s sh p place count bytes count' bytes' : ℕ) (next' : Option Iter) → CanCount log c s sh → ends_at log c s sh place ≡ true → CountsTo count' bytes' (from place (records log s sh)) (records log s sh) → next' ≡ next_above p None → GoesOn log c s sh count' bytes' next'
+ended : (log : Journal) (c s sh p place count bytes count' bytes' : ℕ) (next' : Option Iter) → CanCount log c s sh
+    → ends_at log c s sh place ≡ true → CountsTo count' bytes' (from place (records log s sh)) (records log s sh)
+    → next' ≡ next_above p None → GoesOn log c s sh count' bytes' next'
 ended log c s sh p place count bytes count' bytes' next' can ends counts is =
-    let none = none_so (left_from log c s sh place) (and_parts (is_closed_at (shard_at log s sh)) (are_none (left_from log c s sh place)) ends).1 in
-    subst (GoesOn log c s sh count' bytes') (sym is) (all_counted count' bytes' (from place (records log s sh)) (records log s sh) (sym (left_is log c s sh place can) ∙ none) counts)
+    let none = none_so (left_from log c s sh place)
+    (and_parts (is_closed_at (shard_at log s sh)) (are_none (left_from log c s sh place)) ends).1 in
+    subst (GoesOn log c s sh count' bytes') (sym is)
+    (all_counted count' bytes' (from place (records log s sh)) (records log s sh)
+    (sym (left_is log c s sh place can) ∙ none) counts)
 
-goes_on : (log : Journal) (c s sh p place count' bytes' : ℕ) (next' : Option Iter) (b : Bool) → CanCount log c s sh → nat_lt p place ≡ b → (nat_lt p place ≡ false → from place (records log s sh) ≡ [])
-    → CountsTo count' bytes' (from place (records log s sh)) (records log s sh) → next' ≡ (if b then Some (iterator_at c s sh place) else None) → GoesOn log c s sh count' bytes' next'
+goes_on : (log : Journal) (c s sh p place count' bytes' : ℕ) (next' : Option Iter) (b : Bool) → CanCount log c s sh
+    → nat_lt p place ≡ b → (nat_lt p place ≡ false → from place (records log s sh) ≡ [])
+    → CountsTo count' bytes' (from place (records log s sh)) (records log s sh)
+    → next' ≡ (if b then Some (iterator_at c s sh place) else None) → GoesOn log c s sh count' bytes' next'
 goes_on log c s sh p place count' bytes' next' true can above stops counts is =
-    subst (GoesOn log c s sh count' bytes') (sym is) (refl, subst (λ rs. CountsTo count' bytes' rs (records log s sh)) (sym (left_is log c s sh place can)) counts)
+    subst (GoesOn log c s sh count' bytes') (sym is) (
+      refl,
+      subst (λ rs. CountsTo count' bytes' rs (records log s sh)) (sym (left_is log c s sh place can)) counts,
+    )
 goes_on log c s sh p place count' bytes' next' false can above stops counts is =
-    subst (GoesOn log c s sh count' bytes') (sym is) (all_counted count' bytes' (from place (records log s sh)) (records log s sh) (stops above) counts)
+    subst (GoesOn log c s sh count' bytes') (sym is)
+    (all_counted count' bytes' (from place (records log s sh)) (records log s sh) (stops above) counts)
 
-pub read_on : (log : Journal) (c by : ℕ) (iter : Iter) (count bytes count' bytes' : ℕ) (next' : Option Iter) (a : Result Reply Refusal) → CanCount log c iter.stream iter.shard
-    → GoesOn log c iter.stream iter.shard count bytes (Some iter) → a ≡ answer_of (decide log c by (command.Records iter 10000)) → Absorbs count bytes iter.position a count' bytes' next' → GoesOn log c iter.stream iter.shard count' bytes' next'
+pub read_on : (log : Journal) (c by : ℕ) (iter : Iter) (count bytes count' bytes' : ℕ) (next' : Option Iter)
+    (a : Result Reply Refusal) → CanCount log c iter.stream iter.shard
+    → GoesOn log c iter.stream iter.shard count bytes (Some iter)
+    → a ≡ answer_of (decide log c by (command.Records iter 10000))
+    → Absorbs count bytes iter.position a count' bytes' next'
+    → GoesOn log c iter.stream iter.shard count' bytes' next'
 read_on log c by iter count bytes count' bytes' next' a can goes is absorbs =
     let up = up_drawn log iter.stream iter.shard can.drawn in
     let s = iter.stream in
@@ -129,37 +159,55 @@ read_on log c by iter count bytes count' bytes' next' a can goes is absorbs =
     let ls_is = left_is log c s sh p can in
     let batch_is : batch log c s sh p 10000 ≡ bs = ap (beginning 10000 BATCH_BYTES) ls_is in
     let so : a ≡ answer_of (records_reply log c s sh bs place) =
-    is ∙ ap answer_of (replied log c iter 10000 can goes.0) ∙ ap (λ xs. answer_of (records_reply log c s sh xs (place_after p (numbers_of xs)))) batch_is in
+    is ∙ ap answer_of (replied log c iter 10000 can goes.0)
+    ∙ ap (λ xs. answer_of (records_reply log c s sh xs (place_after p (numbers_of xs)))) batch_is in
     let rest : from place ls ≡ from place rs = from_twice p place rs (place_up 10000 BATCH_BYTES p ls up') in
     let both : ls ≡ bs ++ from place rs = parts 10000 BATCH_BYTES p ls up' ∙ ap (λ xs. bs ++ xs) rest in
     let counts = subst (λ xs. CountsTo count bytes xs rs) ls_is goes.1 in
-    let stops : nat_lt p place ≡ false → from place rs ≡ [] = λ below. sym rest ∙ ap (from place) (stuck 9999 p ls up' sized below) in
-    let on : Adds (2 ^ 64) count (length (map stored bs)) count' → Adds (2 ^ 128) bytes (bytes_of (map logged (map stored bs))) bytes' → CountsTo count' bytes' (from place rs) rs =
-    counts_on count bytes count' bytes' ls bs (from place rs) rs counts both (few_records log c s sh can) (few_bytes log c s sh can) in
-    by_end log c s sh p place count bytes count' bytes' next' bs a (ends_at log c s sh place) refl can so absorbs on stops
+    let stops : nat_lt p place ≡ false → from place rs ≡ [] =
+    λ below. sym rest ∙ ap (from place) (stuck 9999 p ls up' sized below) in
+    let on : Adds (2 ^ 64) count (length (map stored bs)) count'
+    → Adds (2 ^ 128) bytes (bytes_of (map logged (map stored bs))) bytes'
+    → CountsTo count' bytes' (from place rs) rs =
+    counts_on count bytes count' bytes' ls bs (from place rs) rs counts both (few_records log c s sh can)
+    (few_bytes log c s sh can) in
+    by_end log c s sh p place count bytes count' bytes' next' bs a (ends_at log c s sh place) refl can so absorbs on
+    stops
   where
-    by_end : (log : Journal) (c s sh p place count bytes count' bytes' : ℕ) (next' : Option Iter) (bs : List Logged) (a : Result Reply Refusal) (b : Bool) → ends_at log c s sh place ≡ b → CanCount log c s sh
+    by_end : (log : Journal) (c s sh p place count bytes count' bytes' : ℕ) (next' : Option Iter) (bs : List Logged)
+        (a : Result Reply Refusal) (b : Bool) → ends_at log c s sh place ≡ b → CanCount log c s sh
         → a ≡ answer_of (records_reply log c s sh bs place) → Absorbs count bytes p a count' bytes' next'
-        → (Adds (2 ^ 64) count (length (map stored bs)) count' → Adds (2 ^ 128) bytes (bytes_of (map logged (map stored bs))) bytes' → CountsTo count' bytes' (from place (records log s sh)) (records log s sh))
+        → (Adds (2 ^ 64) count (length (map stored bs)) count'
+        → Adds (2 ^ 128) bytes (bytes_of (map logged (map stored bs))) bytes'
+        → CountsTo count' bytes' (from place (records log s sh)) (records log s sh))
         → (nat_lt p place ≡ false → from place (records log s sh) ≡ []) → GoesOn log c s sh count' bytes' next'
     by_end log c s sh p place count bytes count' bytes' next' bs a true ends can is absorbs on stops =
         let f = absorbs (map stored bs) None (behind c (left_from log c s sh place)) (map shown (children log s sh))
-        (is ∙ ap (λ b. Ok (if b then reply.Records (map stored bs) None (behind c (left_from log c s sh place)) (map shown (children log s sh)) else reply.Records (map stored bs) (Some (iterator_at c s sh place)) (behind c (left_from log c s sh place)) [])) ends) in
+        (is ∙ ap (λ b. Ok (if b then reply.Records (map stored bs) None (behind c (left_from log c s sh place))
+        (map shown (children log s sh)) else reply.Records (map stored bs) (Some (iterator_at c s sh place))
+        (behind c (left_from log c s sh place)) [])) ends) in
         ended log c s sh p place count bytes count' bytes' next' can ends (on f.0 f.1) f.2
     by_end log c s sh p place count bytes count' bytes' next' bs a false ends can is absorbs on stops =
         let f = absorbs (map stored bs) (Some (iterator_at c s sh place)) (behind c (left_from log c s sh place)) []
-        (is ∙ ap (λ b. Ok (if b then reply.Records (map stored bs) None (behind c (left_from log c s sh place)) (map shown (children log s sh)) else reply.Records (map stored bs) (Some (iterator_at c s sh place)) (behind c (left_from log c s sh place)) [])) ends) in
+        (is ∙ ap (λ b. Ok (if b then reply.Records (map stored bs) None (behind c (left_from log c s sh place))
+        (map shown (children log s sh)) else reply.Records (map stored bs) (Some (iterator_at c s sh place))
+        (behind c (left_from log c s sh place)) [])) ends) in
         goes_on log c s sh p place count' bytes' next' (nat_lt p place) can refl stops (on f.0 f.1) f.2
 
 -- ---- from the first record on
 
-pub begins : (log : Journal) (c s sh : ℕ) (iter : Iter) → CanCount log c s sh → iter ≡ iterator_at c s sh 0 → GoesOn log c s sh 0 0 (Some iter)
+pub begins : (log : Journal) (c s sh : ℕ) (iter : Iter) → CanCount log c s sh → iter ≡ iterator_at c s sh 0
+    → GoesOn log c s sh 0 0 (Some iter)
 begins log c s sh iter can is =
     let at : iter.position ≡ 0 = ap (λ (i : Iter). i.position) is in
     let all : left_from log c s sh iter.position ≡ records log s sh =
-    ap (left_from log c s sh) at ∙ left_is log c s sh 0 can ∙ all_from 0 (records log s sh) (up_drawn log s sh can.drawn) in (
+    ap (left_from log c s sh) at ∙ left_is log c s sh 0 can
+    ∙ all_from 0 (records log s sh) (up_drawn log s sh can.drawn) in (
       is ∙ ap (iterator_at c s sh) (sym at),
-      record { records = plus (length (left_from log c s sh iter.position)) _ (ap length all); payload = plus (bytes_of (left_from log c s sh iter.position)) _ (ap bytes_of all) },
+      record {
+        records = plus (length (left_from log c s sh iter.position)) _ (ap length all);
+        payload = plus (bytes_of (left_from log c s sh iter.position)) _ (ap bytes_of all);
+      },
     )
   where
     plus : (n m : ℕ) → n ≡ m → 0 + n ≡ m

@@ -1,5 +1,6 @@
 -- The iterator at the beginning of a shard of the drill's stream.
-use Rattle.std.proofs.Common.{◌≡◌, ℕ, Bool, true, false, List, [], length, arith, Option, Some, None, refl, sym, ap, subst, ◌∙◌}
+use Rattle.std.proofs.Common.{◌≡◌, ℕ, Bool, true, false, List, [], length, arith, Option, Some, None, refl, sym, ap}
+use Rattle.std.proofs.Common.{subst, ◌∙◌}
 use Rattle.std.specs.Prelude.{◌==◌, not, if◌then◌else◌, Result, Ok}
 use Rattle.kds_defs.specs.declared.command.Command.TheVariants as command
 use Rattle.kds_defs.specs.declared.command.Start.TheVariants as start
@@ -24,12 +25,15 @@ use Rattle.kcl_drill.specs.Summed.{bytes_of}
 use Rattle.kcl_drill_summary.specs.declared.counting.Count.{Count}
 use Rattle.kcl_drill_summary.specs.Counting.{CanCount, CountsKey, iterator_in}
 
-listed_there : (log : Journal) (c s : ℕ) (o : Option ShardState) → is_listed_state log c s o ≡ true → (x : ShardState) × (o ≡ Some x)
+listed_there : (log : Journal) (c s : ℕ) (o : Option ShardState) → is_listed_state log c s o ≡ true → (x : ShardState)
+    × (o ≡ Some x)
 listed_there log c s None is = absurd cc
 listed_there log c s (Some x) is = (x, refl)
 
-pub iterated : (log : Journal) (c by s sh : ℕ) (name : List ℕ) (a : Result Reply Refusal) → name ≡ drill_name → stream_named log drill_name ≡ Some s → CanCount log c s sh
-    → a ≡ answer_of (decide log c by (command.GetIterator name sh start.TrimHorizon)) → a ≡ Ok (reply.Iterator (iterator_at c s sh 0))
+pub iterated : (log : Journal) (c by s sh : ℕ) (name : List ℕ) (a : Result Reply Refusal) → name ≡ drill_name
+    → stream_named log drill_name ≡ Some s → CanCount log c s sh
+    → a ≡ answer_of (decide log c by (command.GetIterator name sh start.TrimHorizon))
+    → a ≡ Ok (reply.Iterator (iterator_at c s sh 0))
 iterated log c by s sh name a is named can told =
     let x = listed_there log c s (shard_at log s sh) can.listed in
     told
@@ -52,7 +56,8 @@ unfolding refuse◌if◌else◌ NoneIn
 none_if k r true d so = refl
 none_if k r false d so = so
 
-none_with : {A : Type 0} (k : ℕ) (o : Option A) (r : Refusal) (d : A → Decision) → ((x : A) → NoneIn k (d x)) → NoneIn k (with o or r then d)
+none_with : {A : Type 0} (k : ℕ) (o : Option A) (r : Refusal) (d : A → Decision) → ((x : A) → NoneIn k (d x))
+    → NoneIn k (with o or r then d)
 unfolding with◌or◌then◌ NoneIn
 none_with k None r d so = refl
 none_with k (Some x) r d so = so x
@@ -65,15 +70,20 @@ none_there : (log : Journal) (k c s sh : ℕ) → (s == k) ≡ false → NoneIn 
 none_there log k c s sh other = none_if k _ _ _ (none_with k _ _ _ (λ x. none_if k _ _ _ (none_here k c s sh 0 other)))
 
 -- of another stream there is none
-elsewhere : (log : Journal) (c by s k sh : ℕ) (name : List ℕ) (a : Result Reply Refusal) → name ≡ drill_name → stream_named log drill_name ≡ Some s → (k == s) ≡ false
+elsewhere : (log : Journal) (c by s k sh : ℕ) (name : List ℕ) (a : Result Reply Refusal) → name ≡ drill_name
+    → stream_named log drill_name ≡ Some s → (k == s) ≡ false
     → a ≡ answer_of (decide log c by (command.GetIterator name sh start.TrimHorizon)) → iterator_in a k ≡ None
 unfolding NoneIn
 elsewhere log c by s k sh name a is named other told =
-    ap (λ x. iterator_in x k) (told ∙ ap answer_of (with_some (stream_named log name) refusal.NoStream (λ t. get_iterator log c t sh start.TrimHorizon) s (ap (stream_named log) is ∙ named)))
+    ap (λ x. iterator_in x k) (told
+    ∙ ap answer_of (with_some (stream_named log name) refusal.NoStream
+    (λ t. get_iterator log c t sh start.TrimHorizon) s (ap (stream_named log) is ∙ named)))
     ∙ none_there log k c s sh (turned k s false other)
 
-here : (log : Journal) (c by s k sh : ℕ) (name : List ℕ) (a : Result Reply Refusal) → name ≡ drill_name → stream_named log drill_name ≡ Some s → (k == s) ≡ true → CanCount log c s sh
-    → a ≡ answer_of (decide log c by (command.GetIterator name sh start.TrimHorizon)) → iterator_in a k ≡ Some (iterator_at c s sh 0)
+here : (log : Journal) (c by s k sh : ℕ) (name : List ℕ) (a : Result Reply Refusal) → name ≡ drill_name
+    → stream_named log drill_name ≡ Some s → (k == s) ≡ true → CanCount log c s sh
+    → a ≡ answer_of (decide log c by (command.GetIterator name sh start.TrimHorizon))
+    → iterator_in a k ≡ Some (iterator_at c s sh 0)
 here log c by s k sh name a is named same can told =
     ap (λ x. iterator_in x k) (iterated log c by s sh name a is named can told)
     ∙ ap (λ b. if b then Some (iterator_at c s sh 0) else None) (turned k s true same)
@@ -82,24 +92,37 @@ none_some : (i : Iter) → None ≡ Some i → ⊥
 none_some i h = cc
 
 -- none is found where the key is of another stream, and only there
-pub not_counted : (log : Journal) (c by s : ℕ) (key : ShardRef) (name : List ℕ) (a : Result Reply Refusal) → name ≡ drill_name → stream_named log drill_name ≡ Some s → ((key.stream == s) ≡ true → CanCount log c s key.shard)
-    → a ≡ answer_of (decide log c by (command.GetIterator name key.shard start.TrimHorizon)) → iterator_in a key.stream ≡ None → (key.stream == s) ≡ false
+pub not_counted : (log : Journal) (c by s : ℕ) (key : ShardRef) (name : List ℕ) (a : Result Reply Refusal)
+    → name ≡ drill_name → stream_named log drill_name ≡ Some s → ((key.stream == s) ≡ true → CanCount log c s key.shard)
+    → a ≡ answer_of (decide log c by (command.GetIterator name key.shard start.TrimHorizon))
+    → iterator_in a key.stream ≡ None → (key.stream == s) ≡ false
 not_counted log c by s key name a is named can told none = either (key.stream == s) refl
   where
     either : (b : Bool) → (key.stream == s) ≡ b → (key.stream == s) ≡ false
     either false other = other
-    either true same = absurd (none_some (iterator_at c s key.shard 0) (sym none ∙ here log c by s key.stream key.shard name a is named same (can same) told))
+    either true same = absurd
+        (none_some (iterator_at c s key.shard 0) (sym none
+        ∙ here log c by s key.stream key.shard name a is named same (can same) told))
 
 -- one that is found is that of the key's shard, and what is counted from it is
-pub counted : (log : Journal) (c by s : ℕ) (key : ShardRef) (name : List ℕ) (a : Result Reply Refusal) (iter : Iter) (n : Count) → name ≡ drill_name → stream_named log drill_name ≡ Some s → ((key.stream == s) ≡ true → CanCount log c s key.shard)
-    → a ≡ answer_of (decide log c by (command.GetIterator name key.shard start.TrimHorizon)) → iterator_in a key.stream ≡ Some iter
-    → (CanCount log c iter.stream iter.shard → iter ≡ iterator_at c iter.stream iter.shard 0 → (n.count ≡ length (records log iter.stream iter.shard)) × (n.bytes ≡ bytes_of (records log iter.stream iter.shard)))
+pub counted : (log : Journal) (c by s : ℕ) (key : ShardRef) (name : List ℕ) (a : Result Reply Refusal) (iter : Iter)
+    (n : Count) → name ≡ drill_name → stream_named log drill_name ≡ Some s
+    → ((key.stream == s) ≡ true → CanCount log c s key.shard)
+    → a ≡ answer_of (decide log c by (command.GetIterator name key.shard start.TrimHorizon))
+    → iterator_in a key.stream ≡ Some iter
+    → (CanCount log c iter.stream iter.shard → iter ≡ iterator_at c iter.stream iter.shard 0
+    → (n.count ≡ length (records log iter.stream iter.shard))
+    × (n.bytes ≡ bytes_of (records log iter.stream iter.shard)))
     → CountsKey log s key (Some n)
 counted log c by s key name a iter n is named can told found so = either (key.stream == s) refl
   where
     either : (b : Bool) → (key.stream == s) ≡ b → CountsKey log s key (Some n)
-    either false other = absurd (none_some iter (sym (elsewhere log c by s key.stream key.shard name a is named other told) ∙ found))
+    either false other = absurd
+        (none_some iter (sym (elsewhere log c by s key.stream key.shard name a is named other told) ∙ found))
     either true same =
-        let e = same_some iter (iterator_at c s key.shard 0) (sym found ∙ here log c by s key.stream key.shard name a is named same (can same) told) in
-        let n_is = subst (λ (i : Iter). (CanCount log c i.stream i.shard → i ≡ iterator_at c i.stream i.shard 0 → (n.count ≡ length (records log i.stream i.shard)) × (n.bytes ≡ bytes_of (records log i.stream i.shard)))) e so (can same) refl in
+        let e = same_some iter (iterator_at c s key.shard 0) (sym found
+        ∙ here log c by s key.stream key.shard name a is named same (can same) told) in
+        let n_is = subst (λ (i : Iter). (CanCount log c i.stream i.shard → i ≡ iterator_at c i.stream i.shard 0
+        → (n.count ≡ length (records log i.stream i.shard))
+        × (n.bytes ≡ bytes_of (records log i.stream i.shard)))) e so (can same) refl in
         (same, n_is.0, n_is.1)

@@ -11,7 +11,8 @@ use Rattle.kds_defs.proofs.Walk.{Outcome, Refuses, Answers, Adds, Creates, walk}
 use Rattle.kcl_drill_summary.specs.Reading.{AreReads, HasRead, is_reading}
 
 -- such a turn adds no line
-none_by : (log : Journal) (c by : ℕ) (what : Command) (lines : List Line) (answer : Result Reply Refusal) → Outcome log c by what lines answer
+none_by : (log : Journal) (c by : ℕ) (what : Command) (lines : List Line) (answer : Result Reply Refusal)
+    → Outcome log c by what lines answer
     → is_reading what ≡ true → lines ≡ []
 none_by log c by _ _ _ (Refuses what r may) is = refl
 none_by log c by _ _ _ (Answers what r shows) is = refl
@@ -24,7 +25,8 @@ no_lines log c by what is = none_by log c by what _ _ (walk log c by what) is
 clocks : (m c at now : ℕ) → at ≡ now → max c now ≡ max m now → max (max c at) now ≡ max m now
 clocks m c at now is so = omega (arith, is, so)
 
-pub leaves : (by at : ℕ) (more h : List Turn) → AreReads by at more → (journal (more ++ h) ≡ journal h) × (max (clock (more ++ h)) at ≡ max (clock h) at)
+pub leaves : (by at : ℕ) (more h : List Turn) → AreReads by at more → (journal (more ++ h) ≡ journal h)
+    × (max (clock (more ++ h)) at ≡ max (clock h) at)
 leaves by at [] h are = (refl, refl)
 leaves by at (turn ∷ more) h are =
     let rest = leaves by at more h are.1 in
@@ -36,23 +38,27 @@ leaves by at (turn ∷ more) h are =
 abbrev pub turn_of : ℕ → ℕ → Command → Turn
 turn_of by at what = record { by = by; at = at; what = what }
 
-pub answer_is : (by at : ℕ) (more h : List Turn) (what : Command) → AreReads by at more → answer (more ++ h) (turn_of by at what) ≡ answer_of (decide (journal h) (max (clock h) at) by what)
+pub answer_is : (by at : ℕ) (more h : List Turn) (what : Command) → AreReads by at more
+    → answer (more ++ h) (turn_of by at what) ≡ answer_of (decide (journal h) (max (clock h) at) by what)
 answer_is by at more h what are =
     let l = leaves by at more h are in
     ap (λ log. answer_of (decide log (max (clock (more ++ h)) at) by what)) l.0
     ∙ ap (λ c. answer_of (decide (journal h) c by what)) l.1
 
-pub asked : {E : Type 0} (stands : List Turn → Type 0) (stands' : List Turn → Type 0) (by at : ℕ) (h : List Turn) (what : Command) (r : Result (Result Reply Refusal) E) → (has : HasRead stands by at h)
+pub asked : {E : Type 0} (stands : List Turn → Type 0) (stands' : List Turn → Type 0) (by at : ℕ) (h : List Turn)
+    (what : Command) (r : Result (Result Reply Refusal) E) → (has : HasRead stands by at h)
     → IfOk r (λ a. (a ≡ answer (has.more ++ h) (turn_of by at what)) × stands' (turn_of by at what ∷ (has.more ++ h)))
     → IfOk r (λ a. a ≡ answer_of (decide (journal h) (max (clock h) at) by what))
 asked stands stands' by at h what (Ok a) has is = is.0 ∙ answer_is by at has.more h what has.are
 asked stands stands' by at h what (Err e) has is = tt
 
 -- whatever came of it, the machine has read
-pub has_read : {E : Type 0} (stands : List Turn → Type 0) (stands' : List Turn → Type 0) (by at : ℕ) (h : List Turn) (what : Command) (r : Result (Result Reply Refusal) E) → is_reading what ≡ true → (has : HasRead stands by at h)
+pub has_read : {E : Type 0} (stands : List Turn → Type 0) (stands' : List Turn → Type 0) (by at : ℕ) (h : List Turn)
+    (what : Command) (r : Result (Result Reply Refusal) E) → is_reading what ≡ true → (has : HasRead stands by at h)
     → IfOk r (λ a. (a ≡ answer (has.more ++ h) (turn_of by at what)) × stands' (turn_of by at what ∷ (has.more ++ h)))
     → OnErr r (stands' (has.more ++ h))
     → HasRead stands' by at h
 has_read stands stands' by at h what (Ok a) reads has is kept =
     record { more = turn_of by at what ∷ has.more; stands_now = is.1; are = ((refl, refl, reads), has.are) }
-has_read stands stands' by at h what (Err e) reads has is kept = record { more = has.more; stands_now = kept; are = has.are }
+has_read stands stands' by at h what (Err e) reads has is kept =
+    record { more = has.more; stands_now = kept; are = has.are }

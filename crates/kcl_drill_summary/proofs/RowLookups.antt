@@ -9,7 +9,8 @@ use Rattle.kds_defs.specs.declared.entry.Entry.TheVariants as entry
 use Rattle.kds_defs.specs.declared.reply.Row.{Row}
 use Rattle.kds_defs.specs.Journal.{Line, Journal}
 use Rattle.kds_defs.specs.Keys.{is_before, same_key}
-use Rattle.kds_defs.specs.Leases.{row, row_after, rows, rows_at, row_keys, row_keys_after, with_key, without_key, key_of, is_key, made_row, taken_count, taken_row, renewed_row, freed_row, marked_row}
+use Rattle.kds_defs.specs.Leases.{row, row_after, rows, rows_at, row_keys, row_keys_after, with_key, without_key}
+use Rattle.kds_defs.specs.Leases.{key_of, is_key, made_row, taken_count, taken_row, renewed_row, freed_row, marked_row}
 use Rattle.kds_defs.proofs.Keys.{same_ref}
 use Rattle.kcl_drill_summary.specs.Counting.{row_in}
 
@@ -19,25 +20,35 @@ mapped f (Some x) y h = (x, refl, cc)
 
 -- ---- a row has its key
 
-changed : (f : Row → Row) (b : Bool) (o : Option Row) (key : ShardRef) (r : Row) → ((x : Row) → (f x).key ≡ x.key) → ((x : Row) → o ≡ Some x → x.key ≡ key) → (if b then option_map f o else o) ≡ Some r → r.key ≡ key
-changed f true o key r keeps old there = let m = mapped f o r there in ap (λ (x : Row). x.key) (sym m.2) ∙ keeps m.0 ∙ old m.0 m.1
+changed : (f : Row → Row) (b : Bool) (o : Option Row) (key : ShardRef) (r : Row) → ((x : Row) → (f x).key ≡ x.key)
+    → ((x : Row) → o ≡ Some x → x.key ≡ key) → (if b then option_map f o else o) ≡ Some r → r.key ≡ key
+changed f true o key r keeps old there = let m = mapped f o r there in
+    ap (λ (x : Row). x.key) (sym m.2) ∙ keeps m.0 ∙ old m.0 m.1
 changed f false o key r keeps old there = old r there
 
-made : (b : Bool) (x : Row) (o : Option Row) (key : ShardRef) (r : Row) → x.key ≡ key → ((x : Row) → o ≡ Some x → x.key ≡ key) → (if b then Some x else o) ≡ Some r → r.key ≡ key
+made : (b : Bool) (x : Row) (o : Option Row) (key : ShardRef) (r : Row) → x.key ≡ key
+    → ((x : Row) → o ≡ Some x → x.key ≡ key) → (if b then Some x else o) ≡ Some r → r.key ≡ key
 made true x o key r is old there = let e : x ≡ r = cc in ap (λ (y : Row). y.key) (sym e) ∙ is
 made false x o key r is old there = old r there
 
-cut : (b : Bool) (o : Option Row) (key : ShardRef) (r : Row) → ((x : Row) → o ≡ Some x → x.key ≡ key) → (if b then None else o) ≡ Some r → r.key ≡ key
+cut : (b : Bool) (o : Option Row) (key : ShardRef) (r : Row) → ((x : Row) → o ≡ Some x → x.key ≡ key)
+    → (if b then None else o) ≡ Some r → r.key ≡ key
 cut true o key r old there = absurd cc
 cut false o key r old there = old r there
 
-keyed_after : (log : Journal) (line : Line) (e : Entry) (key : ShardRef) (o : Option Row) (r : Row) → ((x : Row) → o ≡ Some x → x.key ≡ key) → row_after log line e key o ≡ Some r → r.key ≡ key
-keyed_after log line (entry.LeaseMade k from) key o r old there = made (same_key k key) (made_row log line.clock key from) o key r refl old there
+keyed_after : (log : Journal) (line : Line) (e : Entry) (key : ShardRef) (o : Option Row) (r : Row)
+    → ((x : Row) → o ≡ Some x → x.key ≡ key) → row_after log line e key o ≡ Some r → r.key ≡ key
+keyed_after log line (entry.LeaseMade k from) key o r old there =
+    made (same_key k key) (made_row log line.clock key from) o key r refl old there
 keyed_after log line (entry.LeaseCut k counter) key o r old there = cut (same_key k key) o key r old there
-keyed_after log line (entry.Taken k tenure counter owner) key o r old there = changed (taken_row (taken_count log + 1) owner) (same_key k key) o key r (λ x. refl) old there
-keyed_after log line (entry.Renewed tenure counter) key o r old there = changed renewed_row (is_key (key_of log tenure) key) o key r (λ x. refl) old there
-keyed_after log line (entry.Freed tenure counter) key o r old there = changed freed_row (is_key (key_of log tenure) key) o key r (λ x. refl) old there
-keyed_after log line (entry.Marked tenure counter to) key o r old there = changed (marked_row to) (is_key (key_of log tenure) key) o key r (λ x. refl) old there
+keyed_after log line (entry.Taken k tenure counter owner) key o r old there =
+    changed (taken_row (taken_count log + 1) owner) (same_key k key) o key r (λ x. refl) old there
+keyed_after log line (entry.Renewed tenure counter) key o r old there =
+    changed renewed_row (is_key (key_of log tenure) key) o key r (λ x. refl) old there
+keyed_after log line (entry.Freed tenure counter) key o r old there =
+    changed freed_row (is_key (key_of log tenure) key) o key r (λ x. refl) old there
+keyed_after log line (entry.Marked tenure counter to) key o r old there =
+    changed (marked_row to) (is_key (key_of log tenure) key) o key r (λ x. refl) old there
 keyed_after log line _ key o r old there = old r there
 
 keyed : (log : Journal) (key : ShardRef) (r : Row) → row log key ≡ Some r → r.key ≡ key
@@ -59,27 +70,34 @@ in_with key k (j ∷ ks) = either (is_before k j) (in_with key k ks)
     swap true false c = refl
     swap false b c = refl
 
-    either : (b : Bool) → is_in key (with_key k ks) ≡ (same_key k key || is_in key ks) → is_in key (if b then k ∷ j ∷ ks else j ∷ with_key k ks) ≡ (same_key k key || (same_key j key || is_in key ks))
+    either : (b : Bool) → is_in key (with_key k ks) ≡ (same_key k key || is_in key ks)
+        → is_in key (if b then k ∷ j ∷ ks else j ∷ with_key k ks) ≡ (same_key k key || (same_key j key || is_in key ks))
     either true rest = refl
     either false rest = ap (λ b. same_key j key || b) rest ∙ swap (same_key j key) (same_key k key) (is_in key ks)
 
-in_without : (key k : ShardRef) (ks : List ShardRef) → same_key k key ≡ false → is_in key ks ≡ true → is_in key (without_key k ks) ≡ true
+in_without : (key k : ShardRef) (ks : List ShardRef) → same_key k key ≡ false → is_in key ks ≡ true
+    → is_in key (without_key k ks) ≡ true
 in_without key k [] other is = absurd cc
 in_without key k (j ∷ ks) other is = either (same_key j k) refl (in_without key k ks other) is
   where
-    either : (b : Bool) → same_key j k ≡ b → (is_in key ks ≡ true → is_in key (without_key k ks) ≡ true) → (same_key j key || is_in key ks) ≡ true → is_in key (if b then ks else j ∷ without_key k ks) ≡ true
-    either true same rest is = sym (ap (λ b. b || is_in key ks) (ap (λ i. same_key i key) (same_ref j k same) ∙ other)) ∙ is
+    either : (b : Bool) → same_key j k ≡ b → (is_in key ks ≡ true → is_in key (without_key k ks) ≡ true)
+        → (same_key j key || is_in key ks) ≡ true → is_in key (if b then ks else j ∷ without_key k ks) ≡ true
+    either true same rest is = sym (ap (λ b. b || is_in key ks) (ap (λ i. same_key i key) (same_ref j k same) ∙ other))
+        ∙ is
     either false same rest is = or_else (same_key j key) (is_in key ks) (is_in key (without_key k ks)) rest is
       where
         or_else : (a b d : Bool) → (b ≡ true → d ≡ true) → (a || b) ≡ true → (a || d) ≡ true
         or_else true b d f h = refl
         or_else false b d f h = f h
 
-some_if : (f : Row → Row) (o : Option Row) (b : Bool) (r : Row) (P : Type 0) → ((x : Row) → o ≡ Some x → P) → (if b then option_map f o else o) ≡ Some r → P
+some_if : (f : Row → Row) (o : Option Row) (b : Bool) (r : Row) (P : Type 0) → ((x : Row) → o ≡ Some x → P)
+    → (if b then option_map f o else o) ≡ Some r → P
 some_if f o true r P so there = let m = mapped f o r there in so m.0 m.1
 some_if f o false r P so there = so r there
 
-in_by : (log : Journal) (line : Line) (e : Entry) (key : ShardRef) (o : Option Row) (r : Row) (ks : List ShardRef) → ((x : Row) → o ≡ Some x → is_in key ks ≡ true) → row_after log line e key o ≡ Some r → is_in key (row_keys_after e ks) ≡ true
+in_by : (log : Journal) (line : Line) (e : Entry) (key : ShardRef) (o : Option Row) (r : Row) (ks : List ShardRef)
+    → ((x : Row) → o ≡ Some x → is_in key ks ≡ true) → row_after log line e key o ≡ Some r
+    → is_in key (row_keys_after e ks) ≡ true
 in_by log line (entry.LeaseMade k from) key o r ks so there = in_with key k ks ∙ either _ (same_key k key) there
   where
     either : (x : Row) (b : Bool) → (if b then Some x else o) ≡ Some r → (b || is_in key ks) ≡ true
@@ -90,10 +108,14 @@ in_by log line (entry.LeaseCut k counter) key o r ks so there = either (same_key
     either : (b : Bool) → same_key k key ≡ b → (if b then None else o) ≡ Some r → is_in key (without_key k ks) ≡ true
     either true is h = absurd cc
     either false is h = in_without key k ks is (so r h)
-in_by log line (entry.Taken k tenure counter owner) key o r ks so there = some_if (taken_row (taken_count log + 1) owner) o (same_key k key) r _ so there
-in_by log line (entry.Renewed tenure counter) key o r ks so there = some_if renewed_row o (is_key (key_of log tenure) key) r _ so there
-in_by log line (entry.Freed tenure counter) key o r ks so there = some_if freed_row o (is_key (key_of log tenure) key) r _ so there
-in_by log line (entry.Marked tenure counter to) key o r ks so there = some_if (marked_row to) o (is_key (key_of log tenure) key) r _ so there
+in_by log line (entry.Taken k tenure counter owner) key o r ks so there =
+    some_if (taken_row (taken_count log + 1) owner) o (same_key k key) r _ so there
+in_by log line (entry.Renewed tenure counter) key o r ks so there =
+    some_if renewed_row o (is_key (key_of log tenure) key) r _ so there
+in_by log line (entry.Freed tenure counter) key o r ks so there =
+    some_if freed_row o (is_key (key_of log tenure) key) r _ so there
+in_by log line (entry.Marked tenure counter to) key o r ks so there =
+    some_if (marked_row to) o (is_key (key_of log tenure) key) r _ so there
 in_by log line _ key o r ks so there = so r there
 
 in_keys : (log : Journal) (key : ShardRef) (r : Row) → row log key ≡ Some r → is_in key (row_keys log) ≡ true
@@ -106,7 +128,8 @@ none_either : (b : Bool) (o : Option Row) → o ≡ None → (if b then o else N
 none_either true o is = refl
 none_either false o is = sym is
 
-first_head : (log : Journal) (k key : ShardRef) (ks : List ShardRef) (o : Option Row) (b : Bool) → row log k ≡ o → same_key k key ≡ b → row_in (rows_at log ks) key ≡ (if is_in key ks then row log key else None)
+first_head : (log : Journal) (k key : ShardRef) (ks : List ShardRef) (o : Option Row) (b : Bool) → row log k ≡ o
+    → same_key k key ≡ b → row_in (rows_at log ks) key ≡ (if is_in key ks then row log key else None)
     → row_in (cons_option o (rows_at log ks)) key ≡ (if b || is_in key ks then row log key else None)
 first_head log k key ks None true is same rest =
     let gone : row log key ≡ None = sym (ap (row log) (same_ref k key same)) ∙ is in
@@ -119,7 +142,8 @@ first_head log k key ks (Some r) false is same rest =
     let has : same_key r.key key ≡ false = ap (λ j. same_key j key) (keyed log k r is) ∙ same in
     ap (λ b. cond b (Some r) (row_in (rows_at log ks) key)) has ∙ rest
 
-first_among : (log : Journal) (ks : List ShardRef) (key : ShardRef) → row_in (rows_at log ks) key ≡ (if is_in key ks then row log key else None)
+first_among : (log : Journal) (ks : List ShardRef) (key : ShardRef)
+    → row_in (rows_at log ks) key ≡ (if is_in key ks then row log key else None)
 first_among log [] key = refl
 first_among log (k ∷ ks) key = first_head log k key ks (row log k) (same_key k key) refl refl (first_among log ks key)
 

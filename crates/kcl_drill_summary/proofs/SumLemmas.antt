@@ -1,5 +1,6 @@
 -- What is told of the shards of a drill is its summary.
-use Rattle.std.proofs.Common.{◌≡◌, ℕ, ◌+◌, ◌<◌, zero, suc, arith, Bool, true, false, List, [], ◌∷◌, ◌++◌, length, map, drop, get_or, Option, Some, None, refl, sym, ap, subst, ◌∙◌}
+use Rattle.std.proofs.Common.{◌≡◌, ℕ, ◌+◌, ◌<◌, zero, suc, arith, Bool, true, false, List, [], ◌∷◌, ◌++◌, length, map}
+use Rattle.std.proofs.Common.{drop, get_or, Option, Some, None, refl, sym, ap, subst, ◌∙◌}
 use Rattle.std.specs.Prelude.{◌==◌, cond}
 use Rattle.std.specs.List.{AllByRecursion}
 use Rattle.std.proofs.Math.Seq.{drop-cons}
@@ -16,7 +17,8 @@ use Rattle.kcl_drill_summary.specs.declared.counting.Count.{Count}
 use Rattle.kcl_drill_summary.specs.Counting.{CountsKey, of_stream, row_in, summed_key, told_of}
 use Rattle.kcl_drill_summary.proofs.RowLookups.{row_found}
 
-pub all_at : {A : Type 0} (P : A → Type 0) (xs : List A) (i : ℕ) (x : A) → i < length xs → x ≡ get_or xs i x → AllByRecursion P xs → P x
+pub all_at : {A : Type 0} (P : A → Type 0) (xs : List A) (i : ℕ) (x : A) → i < length xs → x ≡ get_or xs i x
+    → AllByRecursion P xs → P x
 all_at P [] i x below is h = absurd (omega arith)
 all_at P (y ∷ ys) zero x below is h = subst P (sym is) h.0
 all_at P (y ∷ ys) (suc i) x below is h = all_at P ys i x (omega arith) is h.1
@@ -24,7 +26,8 @@ all_at P (y ∷ ys) (suc i) x below is h = all_at P ys i x (omega arith) is h.1
 abbrev sum : ℕ → ℕ → ℕ → Checkpoint → Summed
 sum n count bytes at = record { no = n; count = count; bytes = bytes; checkpoint = at }
 
-same_sum : (n count count' bytes bytes' : ℕ) (at at' : Checkpoint) → count ≡ count' → bytes ≡ bytes' → at ≡ at' → sum n count bytes at ≡ sum n count' bytes' at'
+same_sum : (n count count' bytes bytes' : ℕ) (at at' : Checkpoint) → count ≡ count' → bytes ≡ bytes' → at ≡ at'
+    → sum n count bytes at ≡ sum n count' bytes' at'
 same_sum n count count' bytes bytes' at at' p q r = λ i. record { no = n; count = p i; bytes = q i; checkpoint = r i }
 
 -- what is told of a key that is first: its sum, where it is of the stream
@@ -34,24 +37,32 @@ first_of log s key = map (summed_key log) (of_stream s (key ∷ []))
 same_stream : (a b : ℕ) → (a == b) ≡ true → b ≡ a
 same_stream a b h = grind (arith, nat_tests)
 
-pub told_is : (log : Journal) (s : ℕ) (key : ShardRef) (among : List Row) (found : Option Count) (at : Checkpoint) → among ≡ rows log → CountsKey log s key found → at ≡ checkpoint_in (row_in among key) → told_of key found at ≡ first_of log s key
+pub told_is : (log : Journal) (s : ℕ) (key : ShardRef) (among : List Row) (found : Option Count) (at : Checkpoint)
+    → among ≡ rows log → CountsKey log s key found → at ≡ checkpoint_in (row_in among key)
+    → told_of key found at ≡ first_of log s key
 told_is log s key among None at are other is = ap (λ b. map (summed_key log) (cond b (key ∷ []) [])) (sym other)
 told_is log s key among (Some n) at are counts is =
     let here = same_stream key.stream s counts.0 in
     let rs = λ (t : ℕ). records log t key.shard in
-    ap (λ x. x ∷ []) (same_sum key.shard n.count _ n.bytes _ at _ (counts.1 ∙ ap (λ t. length (rs t)) here) (counts.2 ∙ ap (λ t. bytes_of (rs t)) here)
+    ap (λ x. x ∷ []) (same_sum key.shard n.count _ n.bytes _ at _ (counts.1 ∙ ap (λ t. length (rs t)) here) (counts.2
+    ∙ ap (λ t. bytes_of (rs t)) here)
     (is ∙ ap (λ xs. checkpoint_in (row_in xs key)) are ∙ ap checkpoint_in (row_found log key)))
     ∙ ap (λ b. map (summed_key log) (cond b (key ∷ []) [])) (sym counts.0)
 
-first_rest : (log : Journal) (s : ℕ) (key : ShardRef) (keys : List ShardRef) → map (summed_key log) (of_stream s (key ∷ keys)) ≡ first_of log s key ++ map (summed_key log) (of_stream s keys)
+first_rest : (log : Journal) (s : ℕ) (key : ShardRef) (keys : List ShardRef)
+    → map (summed_key log) (of_stream s (key ∷ keys)) ≡ first_of log s key ++ map (summed_key log) (of_stream s keys)
 first_rest log s key keys = either (key.stream == s)
   where
-    either : (b : Bool) → map (summed_key log) (cond b (key ∷ of_stream s keys) (of_stream s keys)) ≡ map (summed_key log) (cond b (key ∷ []) []) ++ map (summed_key log) (of_stream s keys)
+    either : (b : Bool) → map (summed_key log) (cond b (key ∷ of_stream s keys) (of_stream s keys))
+        ≡ map (summed_key log) (cond b (key ∷ []) []) ++ map (summed_key log) (of_stream s keys)
     either true = refl
     either false = refl
 
-pub told_more : (log : Journal) (s : ℕ) (so_far now : List Summed) (keys : List ShardRef) (i : ℕ) (key : ShardRef) (found : Option Count) (at : Checkpoint) → i < length keys → key ≡ get_or keys i key → told_of key found at ≡ first_of log s key → now ≡ so_far ++ told_of key found at
-    → so_far ++ map (summed_key log) (of_stream s (drop i keys)) ≡ map (summed_key log) (of_stream s keys) → now ++ map (summed_key log) (of_stream s (drop (i + 1) keys)) ≡ map (summed_key log) (of_stream s keys)
+pub told_more : (log : Journal) (s : ℕ) (so_far now : List Summed) (keys : List ShardRef) (i : ℕ) (key : ShardRef)
+    (found : Option Count) (at : Checkpoint) → i < length keys → key ≡ get_or keys i key
+    → told_of key found at ≡ first_of log s key → now ≡ so_far ++ told_of key found at
+    → so_far ++ map (summed_key log) (of_stream s (drop i keys)) ≡ map (summed_key log) (of_stream s keys)
+    → now ++ map (summed_key log) (of_stream s (drop (i + 1) keys)) ≡ map (summed_key log) (of_stream s keys)
 told_more log s so_far now keys i key found at below is told now_is so =
     let next : suc i ≡ i + 1 = omega arith in
     let f = λ (ks : List ShardRef). map (summed_key log) (of_stream s ks) in

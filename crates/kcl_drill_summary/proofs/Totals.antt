@@ -1,5 +1,6 @@
 -- The records of a stream's shards together are fewer than its numbers.
-use Rattle.std.proofs.Common.{◌≡◌, ℕ, ◌+◌, ◌*◌, ◌<◌, ◌≤◌, ◌^◌, Bool, true, false, List, [], ◌∷◌, ◌++◌, length, refl, ap, arith}
+use Rattle.std.proofs.Common.{◌≡◌, ℕ, ◌+◌, ◌*◌, ◌<◌, ◌≤◌, ◌^◌, Bool, true, false, List, [], ◌∷◌, ◌++◌, length, refl, ap}
+use Rattle.std.proofs.Common.{arith}
 use Rattle.std.specs.Prelude.{◌==◌, ◌&&◌, if◌then◌else◌}
 use Rattle.std.proofs.lemmas.Bool.Decides.{nat_tests}
 use Rattle.std.proofs.lemmas.List.{length-append}
@@ -35,7 +36,8 @@ bit b = if b then 1 else 0
 abbrev one_at : ℕ → ℕ → ℕ
 one_at sh n = bit (sh == n)
 
-none_above : (f g : ℕ → ℕ) (sh m : ℕ) (xs : List ℕ) → sh < m → RiseFrom m xs → ((n : ℕ) → g n ≡ f n + one_at sh n) → sums g xs ≡ sums f xs
+none_above : (f g : ℕ → ℕ) (sh m : ℕ) (xs : List ℕ) → sh < m → RiseFrom m xs → ((n : ℕ) → g n ≡ f n + one_at sh n)
+    → sums g xs ≡ sums f xs
 none_above f g sh m [] below rise is = refl
 none_above f g sh m (x ∷ xs) below rise is =
     let rest = none_above f g sh (x + 1) xs (omega (arith, below, rise.0)) rise.1 is in
@@ -48,7 +50,8 @@ none_above f g sh m (x ∷ xs) below rise is =
     apart : sh < x → one_at sh x ≡ 0
     apart h = ap bit (other h)
 
-one_more : (f g : ℕ → ℕ) (sh m : ℕ) (xs : List ℕ) → RiseFrom m xs → ((n : ℕ) → g n ≡ f n + one_at sh n) → sums g xs ≤ sums f xs + 1
+one_more : (f g : ℕ → ℕ) (sh m : ℕ) (xs : List ℕ) → RiseFrom m xs → ((n : ℕ) → g n ≡ f n + one_at sh n)
+    → sums g xs ≤ sums f xs + 1
 one_more f g sh m [] rise is = omega arith
 one_more f g sh m (x ∷ xs) rise is = either (sh == x) refl (one_more f g sh (x + 1) xs rise.1 is)
   where
@@ -64,19 +67,26 @@ one_more f g sh m (x ∷ xs) rise is = either (sh == x) refl (one_more f g sh (x
         let none : one_at sh x ≡ 0 = ap bit other in
         omega (arith, is x, none, later)
 
-lengths_if : (b : Bool) (before : List Logged) (r : Logged) → length (if b then before ++ (r ∷ []) else before) ≡ length before + bit b
+lengths_if : (b : Bool) (before : List Logged) (r : Logged) → length (if b then before ++ (r ∷ []) else before)
+    ≡ length before + bit b
 lengths_if true before r = length-append before (r ∷ [])
 lengths_if false before r = omega arith
 
-more_by : (line : Line) (log : Journal) (e : Entry) (s m : ℕ) (shs : List ℕ) → RiseFrom m shs → sums (λ sh. length (records_after line e s sh (records log s sh))) shs ≤ draws e s + sums (λ sh. length (records log s sh)) shs
+more_by : (line : Line) (log : Journal) (e : Entry) (s m : ℕ) (shs : List ℕ) → RiseFrom m shs
+    → sums (λ sh. length (records_after line e s sh (records log s sh))) shs ≤ draws e s
+    + sums (λ sh. length (records log s sh)) shs
 more_by line log (entry.Put stream shard number hash bytes key_bytes) s m shs rise = either (stream == s) refl
   where
     r : Logged
     r = record { seq = number; arrival = line.clock; bytes = bytes + key_bytes; key = line.key; payload = line.payload }
 
-    either : (b : Bool) → (stream == s) ≡ b → sums (λ sh. length (if b && (shard == sh) then records log s sh ++ (r ∷ []) else records log s sh)) shs ≤ bit b + sums (λ sh. length (records log s sh)) shs
+    either : (b : Bool) → (stream == s) ≡ b
+        → sums (λ sh. length (if b && (shard == sh) then records log s sh ++ (r ∷ []) else records log s sh)) shs
+        ≤ bit b + sums (λ sh. length (records log s sh)) shs
     either true same =
-        let n = one_more (λ sh. length (records log s sh)) (λ sh. length (if shard == sh then records log s sh ++ (r ∷ []) else records log s sh)) shard m shs rise (λ n. lengths_if (shard == n) (records log s n) r) in
+        let n = one_more (λ sh. length (records log s sh))
+        (λ sh. length (if shard == sh then records log s sh ++ (r ∷ []) else records log s sh)) shard m shs rise
+        (λ n. lengths_if (shard == n) (records log s n) r) in
         omega (arith, n)
     either false other = omega arith
 more_by line log (entry.Split stream shard at number low high) s m shs rise = omega arith
@@ -91,16 +101,20 @@ none_yet : (s : ℕ) (shs : List ℕ) → sums (λ sh. length (records [] s sh))
 none_yet s [] = refl
 none_yet s (sh ∷ shs) = let rest = none_yet s shs in omega (arith, rest)
 
-below_next : (log : Journal) (s m : ℕ) (shs : List ℕ) → RiseFrom m shs → sums (λ sh. length (records log s sh)) shs < next_number log s
+below_next : (log : Journal) (s m : ℕ) (shs : List ℕ) → RiseFrom m shs
+    → sums (λ sh. length (records log s sh)) shs < next_number log s
 below_next [] s m shs rise = omega (arith, none_yet s shs)
-below_next (line ∷ log) s m shs rise = omega (arith, more_by line log line.what s m shs rise, below_next log s m shs rise)
+below_next (line ∷ log) s m shs rise =
+    omega (arith, more_by line log line.what s m shs rise, below_next log s m shs rise)
 
-pub few_in : (log : Journal) (s m : ℕ) (shs : List ℕ) → next_number log s ≤ last_number → RiseFrom m shs → records_in log s shs < 2 ^ 64
+pub few_in : (log : Journal) (s m : ℕ) (shs : List ℕ) → next_number log s ≤ last_number → RiseFrom m shs
+    → records_in log s shs < 2 ^ 64
 few_in log s m shs fits rise = omega (arith, in_sums log s shs, below_next log s m shs rise, fits)
 
 -- ---- bytes
 
-pub few_bytes_in : (log : Journal) (s : ℕ) (shs : List ℕ) → ((sh : ℕ) → AreSized (records log s sh)) → bytes_in log s shs ≤ 10485760 * records_in log s shs
+pub few_bytes_in : (log : Journal) (s : ℕ) (shs : List ℕ) → ((sh : ℕ) → AreSized (records log s sh))
+    → bytes_in log s shs ≤ 10485760 * records_in log s shs
 few_bytes_in log s [] sized = omega arith
 few_bytes_in log s (sh ∷ shs) sized =
     let rest = few_bytes_in log s shs sized in

@@ -1,5 +1,6 @@
 -- What is counted of a shard, and what is told of all.
-use Rattle.std.specs.Prelude.{ℕ, ◌≡◌, ◌+◌, ◌<◌, ◌≤◌, ◌^◌, ◌==◌, true, false, nat_lt, if◌then◌else◌, List, [], ◌∷◌, length, Option, Some, None, Result, Ok}
+use Rattle.std.specs.Prelude.{ℕ, ◌≡◌, ◌+◌, ◌<◌, ◌≤◌, ◌^◌, ◌==◌, true, false, nat_lt, if◌then◌else◌, List, [], ◌∷◌}
+use Rattle.std.specs.Prelude.{length, Option, Some, None, Result, Ok}
 use Rattle.std.specs.List.{AllByRecursion, filter, find}
 use Rattle.kds_base.specs.declared.lease_key.Checkpoint.{Checkpoint}
 use Rattle.kds_base.specs.declared.lease_key.ShardRef.{ShardRef}
@@ -52,7 +53,8 @@ pub record CanCount (log : Journal) (c s sh : ℕ) : Type 0 where
 abbrev pub GoesOn : Journal → ℕ → ℕ → ℕ → ℕ → ℕ → Option Iter → Type 0
 GoesOn log c s sh count bytes None = (count ≡ length (records log s sh)) × (bytes ≡ bytes_of (records log s sh))
 GoesOn log c s sh count bytes (Some next) =
-    (next ≡ iterator_at c s sh next.position) × CountsTo count bytes (left_from log c s sh next.position) (records log s sh)
+    (next ≡ iterator_at c s sh next.position)
+    × CountsTo count bytes (left_from log c s sh next.position) (records log s sh)
 
 -- the iterator of an answer, where it is of this stream
 abbrev pub iterator_in : Result Reply Refusal → ℕ → Option Iter
@@ -63,11 +65,13 @@ iterator_in _ s = None
 abbrev pub CountsKey : Journal → ℕ → ShardRef → Option Count → Type 0
 CountsKey log s key None = (key.stream == s) ≡ false
 CountsKey log s key (Some n) =
-    ((key.stream == s) ≡ true) × (n.count ≡ length (records log s key.shard)) × (n.bytes ≡ bytes_of (records log s key.shard))
+    ((key.stream == s) ≡ true) × (n.count ≡ length (records log s key.shard))
+    × (n.bytes ≡ bytes_of (records log s key.shard))
 
 -- each of these keys that is of this stream can be counted
 abbrev pub AreCountable : Journal → ℕ → ℕ → List ShardRef → Type 0
-AreCountable log c s keys = AllByRecursion (λ (key : ShardRef). (key.stream == s) ≡ true → CanCount log c s key.shard) keys
+AreCountable log c s keys =
+    AllByRecursion (λ (key : ShardRef). (key.stream == s) ≡ true → CanCount log c s key.shard) keys
 
 -- those of them
 abbrev pub of_stream : ℕ → List ShardRef → List ShardRef

@@ -18,19 +18,22 @@ use Rattle.kds_defs.specs.Streams.{stream_named}
 use Rattle.kcl_drill.specs.Generated.{drill_name}
 use Rattle.kcl_drill.specs.Summed.{Summed, bytes_of}
 use Rattle.kcl_drill_summary.specs.declared.counting.Count.{Count}
-use Rattle.kcl_drill_summary.specs.Counting.{AreCountable, CanCount, CountsKey, GoesOn, next_above, of_stream, summed_key}
+use Rattle.kcl_drill_summary.specs.Counting.{AreCountable, CanCount, CountsKey, GoesOn, next_above, of_stream}
+use Rattle.kcl_drill_summary.specs.Counting.{summed_key}
 use Rattle.kcl_drill_summary.specs.Reading.{HasRead}
 
 -- what a batch makes of a count, and where reading goes on
 abbrev pub Absorbs : ℕ → ℕ → ℕ → Result Reply Refusal → ℕ → ℕ → Option Iter → Type 0
 Absorbs count bytes position a count' bytes' next' =
-    (batch : List Stored) (next : Option Iter) (behind : ℕ) (children : List Shard) → a ≡ Ok (reply.Records batch next behind children)
+    (batch : List Stored) (next : Option Iter) (behind : ℕ) (children : List Shard)
+    → a ≡ Ok (reply.Records batch next behind children)
     → (count + length batch < 2 ^ 64 → count' ≡ count + length batch)
     × (bytes + bytes_of (map logged batch) < 2 ^ 128 → bytes' ≡ bytes + bytes_of (map logged batch))
     × (next' ≡ next_above position next)
 
 -- one read further, what is counted and what is left stay all the records of the iterator's shard
-abbrev pub ReadsOn : {E : Type 0} → (List Turn → Type 0) → ℕ → ℕ → Iter → Count → Result (Count × Option Iter) E → Type 0
+abbrev pub ReadsOn : {E : Type 0} → (List Turn → Type 0) → ℕ → ℕ → Iter → Count → Result (Count × Option Iter) E
+    → Type 0
 ReadsOn stands by at iter count result =
     (h : List Turn) → HasRead stands by at h → CanCount (journal h) (max (clock h) at) iter.stream iter.shard
     → GoesOn (journal h) (max (clock h) at) iter.stream iter.shard count.count count.bytes (Some iter)
@@ -41,7 +44,8 @@ abbrev pub CountsFrom : {E : Type 0} → (List Turn → Type 0) → ℕ → ℕ 
 CountsFrom stands by at from result =
     (h : List Turn) → HasRead stands by at h → CanCount (journal h) (max (clock h) at) from.stream from.shard
     → from ≡ iterator_at (max (clock h) at) from.stream from.shard 0
-    → IfOk result (λ n. (n.count ≡ length (records (journal h) from.stream from.shard)) × (n.bytes ≡ bytes_of (records (journal h) from.stream from.shard)))
+    → IfOk result (λ n. (n.count ≡ length (records (journal h) from.stream from.shard))
+    × (n.bytes ≡ bytes_of (records (journal h) from.stream from.shard)))
 
 -- a key is counted, where it is of the drill's stream
 abbrev pub FindsCount : {E : Type 0} → (List Turn → Type 0) → ℕ → ℕ → ShardRef → Result (Option Count) E → Type 0
@@ -51,7 +55,8 @@ FindsCount stands by at key result =
     → IfOk result (λ found. CountsKey (journal h) s key found)
 
 -- the machine has read, these are all rows, and those of the keys that are of the drill's stream can be counted
-pub record CanTell (stands : List Turn → Type 0) (by at : ℕ) (h : List Turn) (s : ℕ) (keys : List ShardRef) (among : List Row) : Type 0 where
+pub record CanTell (stands : List Turn → Type 0) (by at : ℕ) (h : List Turn) (s : ℕ) (keys : List ShardRef)
+    (among : List Row) : Type 0 where
   pub read : HasRead stands by at h
   pub rows : among ≡ rows (journal h)
   pub named : stream_named (journal h) drill_name ≡ Some s

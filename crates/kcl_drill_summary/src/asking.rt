@@ -21,7 +21,8 @@ pub fn ask<M: Machine>(
     requires lawful { IsLawfulCommand what }
     ensures ok { (h : List Asked) → HasRead (M.stands_for machine.old) by at h
         → IfOk result (λ a. a ≡ answer_of (decide (journal h) (max (clock h) at) by what)) }
-    ensures read { (h : List Asked) → HasRead (M.stands_for machine.old) by at h → HasRead (M.stands_for machine.new) by at h }
+    ensures read { (h : List Asked) → HasRead (M.stands_for machine.old) by at h
+        → HasRead (M.stands_for machine.new) by at h }
 {
     machine.apply(Turn { by, at, what })
 }

@@ -86,7 +86,8 @@ fn count_batch<M: Machine>(
     count: Count,
 ) -> Result<(Count, Option<Iter>), Memory>
     ensures ok { ReadsOn (M.stands_for machine.old) by at iter count result }
-    ensures read { (h : List Asked) → HasRead (M.stands_for machine.old) by at h → HasRead (M.stands_for machine.new) by at h }
+    ensures read { (h : List Asked) → HasRead (M.stands_for machine.old) by at h
+        → HasRead (M.stands_for machine.new) by at h }
     ensures rises { IfOk result (λ r. IfSome r.1 (λ next. iter.position < next.position)) }
 {
     let position = iter.position;
@@ -103,7 +104,8 @@ pub fn count_from<M: Machine>(
     from: Iter,
 ) -> Result<Count, Memory>
     ensures ok { CountsFrom (M.stands_for machine.old) by at from result }
-    ensures read { (h : List Asked) → HasRead (M.stands_for machine.old) by at h → HasRead (M.stands_for machine.new) by at h }
+    ensures read { (h : List Asked) → HasRead (M.stands_for machine.old) by at h
+        → HasRead (M.stands_for machine.new) by at h }
 {
     let mut iter = from;
     let mut count = Count { count: 0, bytes: 0 };

@@ -28,9 +28,12 @@ fn sum_survey<M: Machine>(
     at: Moment,
     survey: &Answer,
 ) -> Result<Vec<ShardSum>, Memory>
-    ensures ok { (h : List Asked) (s : ℕ) (keys : List ShardRef) (among : List Row) → survey.now ≡ Ok (reply.Survey keys among)
-        → CanTell (M.stands_for machine.old) by at h s keys among → IfOk result (λ sums. IsTold (journal h) s keys sums.items) }
-    ensures read { (h : List Asked) → HasRead (M.stands_for machine.old) by at h → HasRead (M.stands_for machine.new) by at h }
+    ensures ok { (h : List Asked) (s : ℕ) (keys : List ShardRef) (among : List Row)
+        → survey.now ≡ Ok (reply.Survey keys among)
+        → CanTell (M.stands_for machine.old) by at h s keys among
+        → IfOk result (λ sums. IsTold (journal h) s keys sums.items) }
+    ensures read { (h : List Asked) → HasRead (M.stands_for machine.old) by at h
+        → HasRead (M.stands_for machine.new) by at h }
 {
     match survey {
         Ok(Reply::Survey { shards, rows }) => {
@@ -49,7 +52,8 @@ fn find_text<M: Machine>(
 ) -> Result<Octets, Memory>
     ensures text { (h : List Asked) → HasRead (M.stands_for machine.old) by at h → CanSum h (max (clock h) at)
         → IfOk result (λ t. t ≡ summary_text (journal h) (max (clock h) at)) }
-    ensures read { (h : List Asked) → HasRead (M.stands_for machine.old) by at h → HasRead (M.stands_for machine.new) by at h }
+    ensures read { (h : List Asked) → HasRead (M.stands_for machine.old) by at h
+        → HasRead (M.stands_for machine.new) by at h }
 {
     kcl_laws::step();
     kcl_laws::shard_records();
@@ -72,7 +76,8 @@ pub fn summary<M: Machine>(
     ensures text { (h : List Asked) → HasRead (M.stands_for machine.old) by at h → CanSum h (max (clock h) at)
         → OnOk result (to.new ≡ to.old ++ summary_text (journal h) (max (clock h) at)) }
     ensures err { OnErr result (to.new ≡ to.old) }
-    ensures read { (h : List Asked) → HasRead (M.stands_for machine.old) by at h → HasRead (M.stands_for machine.new) by at h }
+    ensures read { (h : List Asked) → HasRead (M.stands_for machine.old) by at h
+        → HasRead (M.stands_for machine.new) by at h }
 {
     let text = find_text(alloc, machine, by, at)?;
     to.extend(text.as_slice())

@@ -64,7 +64,8 @@ fn count_key<M: Machine>(
     key: &ShardRef,
 ) -> Result<Option<Count>, Memory>
     ensures ok { FindsCount (M.stands_for machine.old) by at key.now result }
-    ensures read { (h : List Asked) → HasRead (M.stands_for machine.old) by at h → HasRead (M.stands_for machine.new) by at h }
+    ensures read { (h : List Asked) → HasRead (M.stands_for machine.old) by at h
+        → HasRead (M.stands_for machine.new) by at h }
 {
     let name = stream_name(alloc)?;
     let from = Start::TrimHorizon;
@@ -113,7 +114,8 @@ pub fn sum_shards<M: Machine>(
 ) -> Result<Vec<ShardSum>, Memory>
     ensures ok { (h : List Asked) (s : ℕ) → CanTell (M.stands_for machine.old) by at h s keys.now among.now
         → IfOk result (λ sums. IsTold (journal h) s keys.now sums.items) }
-    ensures read { (h : List Asked) → HasRead (M.stands_for machine.old) by at h → HasRead (M.stands_for machine.new) by at h }
+    ensures read { (h : List Asked) → HasRead (M.stands_for machine.old) by at h
+        → HasRead (M.stands_for machine.new) by at h }
 {
     let mut sums = Vec::new(alloc);
     for key in keys {

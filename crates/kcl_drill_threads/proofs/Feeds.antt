@@ -1,5 +1,6 @@
 -- The turns of a root and of a feeder.
-use Rattle.std.proofs.Common.{◌≡◌, ◌⊎◌, inl, inr, ℕ, ◌<◌, Bool, true, false, List, [], ◌∷◌, ◌++◌, length, refl, sym, ap, subst, ◌∙◌, arith, append_assoc, Result, Ok, Err}
+use Rattle.std.proofs.Common.{◌≡◌, ◌⊎◌, inl, inr, ℕ, ◌<◌, Bool, true, false, List, [], ◌∷◌, ◌++◌, length, refl, sym, ap}
+use Rattle.std.proofs.Common.{subst, ◌∙◌, arith, append_assoc, Result, Ok, Err}
 use Rattle.std.specs.Prelude.{take, drop, IfErr, OnErr, OnOk}
 use Rattle.kds_defs.specs.declared.command.Command.{Command}
 use Rattle.kds_defs.specs.declared.command.Turn.{Turn}
@@ -10,7 +11,8 @@ use Rattle.kds_turn.proofs.Turns.{continues_all}
 use Rattle.kcl_drill.specs.Generated.{generated}
 use Rattle.kcl_drill_threads.specs.Asking.{Asks, HasAsked, HasBegun, IsAskErr, IsKept, turn_of}
 use Rattle.kcl_drill_threads.specs.Feeding.{Feeds, HasFed, HasFedSoFar, IsAfter, IsAtOwn, IsCrowdErr, IsFeedErr}
-use Rattle.kcl_drill_threads.proofs.Passing.{asked_more, asked_same, begun_by, kept_all, kept_same, none_before, none_before_one}
+use Rattle.kcl_drill_threads.proofs.Passing.{asked_more, asked_same, begun_by, kept_all, kept_same, none_before}
+use Rattle.kcl_drill_threads.proofs.Passing.{none_before_one}
 
 -- ---- the root
 
@@ -21,7 +23,8 @@ pub record HasMadeFirst (coming left : List Command) (p : Standing) : Type 0 whe
   pub older : List Turn
   pub seen : p.seen ≡ p.own ++ older
 
-pub made_first : (more : Bool) (coming left : List Command) (a b : Standing) → a.own ≡ [] → IsKept a b → Asks more coming left a b → HasMadeFirst coming left b
+pub made_first : (more : Bool) (coming left : List Command) (a b : Standing) → a.own ≡ [] → IsKept a b
+    → Asks more coming left a b → HasMadeFirst coming left b
 made_first true coming left a b new kept (what, first, answer, is) =
     let own : b.own ≡ turn_of a.by what ∷ [] = is.own ∙ ap (λ ts. turn_of a.by what ∷ ts) new in
     record {
@@ -40,7 +43,8 @@ made_first false coming left a b new kept (first, none, same) =
     }
 
 -- a feeder that learned of it
-pub learned : (root feeder : Standing) (older : List Turn) → root.seen ≡ root.own ++ older → Continues feeder.seen root.seen → feeder.own ≡ [] → IsAfter root feeder
+pub learned : (root feeder : Standing) (older : List Turn) → root.seen ≡ root.own ++ older
+    → Continues feeder.seen root.seen → feeder.own ≡ [] → IsAfter root feeder
 learned root feeder older seen later none =
     record {
       newer = later.0;
@@ -70,22 +74,27 @@ feeding_first all p new =
       last = inl new;
     }
 
-none_at_first : (coming left : List Command) (before a b : Standing) → IsKept before a → IsKept a b → a.own ≡ [] → Asks true coming left a b → turns_by b.by before.seen ≡ []
+none_at_first : (coming left : List Command) (before a b : Standing) → IsKept before a → IsKept a b → a.own ≡ []
+    → Asks true coming left a b → turns_by b.by before.seen ≡ []
 none_at_first coming left before a b kept next new (what, first, answer, is) =
     let turn = turn_of a.by what in
-    let one : turns_by b.by (turn ∷ is.place) ≡ turn ∷ [] = ap (turns_by b.by) (sym is.seen) ∙ is.all_own ∙ is.own ∙ ap (λ ts. turn ∷ ts) new in
+    let one : turns_by b.by (turn ∷ is.place) ≡ turn ∷ [] = ap (turns_by b.by) (sym is.seen) ∙ is.all_own ∙ is.own
+    ∙ ap (λ ts. turn ∷ ts) new in
     let none = none_before_one b.by turn is.place (sym next.by) one in
     none_before b.by is.place before.seen (continues_all is.place a.seen before.seen is.later kept.seen) none
 
-none_still : (before a b : Standing) → b.by ≡ a.by → IsAtOwn a → (0 < length a.own → turns_by a.by before.seen ≡ []) → turns_by b.by before.seen ≡ []
+none_still : (before a b : Standing) → b.by ≡ a.by → IsAtOwn a → (0 < length a.own → turns_by a.by before.seen ≡ [])
+    → turns_by b.by before.seen ≡ []
 none_still before a b by at none =
     ap (λ n. turns_by n before.seen) by ∙ none (omega (arith, ap length at.own))
 
-none_by : (coming left : List Command) (before a b : Standing) → IsKept before a → IsKept a b → (a.own ≡ []) ⊎ IsAtOwn a → (0 < length a.own → turns_by a.by before.seen ≡ []) → Asks true coming left a b → turns_by b.by before.seen ≡ []
+none_by : (coming left : List Command) (before a b : Standing) → IsKept before a → IsKept a b → (a.own ≡ []) ⊎ IsAtOwn a
+    → (0 < length a.own → turns_by a.by before.seen ≡ []) → Asks true coming left a b → turns_by b.by before.seen ≡ []
 none_by coming left before a b kept next (inl new) none asks = none_at_first coming left before a b kept next new asks
 none_by coming left before a b kept next (inr at) none asks = none_still before a b next.by at none
 
-pub feeding_more : (all coming left : List Command) (before a b : Standing) → IsFeeding all coming before a → IsKept a b → Asks true coming left a b → IsFeeding all left before b
+pub feeding_more : (all coming left : List Command) (before a b : Standing) → IsFeeding all coming before a → IsKept a b
+    → Asks true coming left a b → IsFeeding all left before b
 feeding_more all coming left before a b inv next (what, first, answer, is) =
     record {
       kept = kept_all before a b inv.kept next;
@@ -97,20 +106,26 @@ feeding_more all coming left before a b inv next (what, first, answer, is) =
     }
 
 -- an error
-pub fed_some : (all coming : List Command) (before a b : Standing) → IsFeeding all coming before a → IsKept a b → b.own ≡ a.own → HasBegun all b
-fed_some all coming before a b inv next own = begun_by inv.made coming all b inv.parts (asked_same inv.made a b next.by own inv.asked)
+pub fed_some : (all coming : List Command) (before a b : Standing) → IsFeeding all coming before a → IsKept a b
+    → b.own ≡ a.own → HasBegun all b
+fed_some all coming before a b inv next own =
+    begun_by inv.made coming all b inv.parts (asked_same inv.made a b next.by own inv.asked)
 
-pub none_after : (all coming : List Command) (before a b : Standing) → IsFeeding all coming before a → IsKept a b → b.own ≡ a.own → 0 < length b.own → turns_by b.by before.seen ≡ []
+pub none_after : (all coming : List Command) (before a b : Standing) → IsFeeding all coming before a → IsKept a b
+    → b.own ≡ a.own → 0 < length b.own → turns_by b.by before.seen ≡ []
 none_after all coming before a b inv next own some =
     ap (λ n. turns_by n before.seen) next.by ∙ inv.none (omega (arith, some, ap length own))
 
-pub feed_err : (all coming : List Command) (before a b : Standing) (e : TurnErr) → IsFeeding all coming before a → IsAskErr a b e → IsFeedErr b e
-feed_err all coming before a b e inv (inl (is, same)) = inl (is, subst (λ (p : Standing). (p.own ≡ []) ⊎ IsAtOwn p) (sym same) inv.last)
+pub feed_err : (all coming : List Command) (before a b : Standing) (e : TurnErr) → IsFeeding all coming before a
+    → IsAskErr a b e → IsFeedErr b e
+feed_err all coming before a b e inv (inl (is, same)) =
+    inl (is, subst (λ (p : Standing). (p.own ≡ []) ⊎ IsAtOwn p) (sym same) inv.last)
 feed_err all coming before a b e inv (inr is) = inr is
 
 -- what is then said of the whole
 
-pub feeds_some : (all coming : List Command) (before a b : Standing) (e : TurnErr) → IsFeeding all coming before a → IsKept a b → b.own ≡ a.own → IsAskErr a b e → Feeds {A = Unit {0}} all before b (Err e)
+pub feeds_some : (all coming : List Command) (before a b : Standing) (e : TurnErr) → IsFeeding all coming before a
+    → IsKept a b → b.own ≡ a.own → IsAskErr a b e → Feeds {A = Unit {0}} all before b (Err e)
 feeds_some all coming before a b e inv next own is =
     record {
       kept = kept_all before a b inv.kept next;
@@ -122,16 +137,23 @@ feeds_some all coming before a b e inv next own is =
 
 -- ---- both
 
-pub after_feeding : (root mid feeder : Standing) → IsAfter root mid → IsKept mid feeder → (0 < length feeder.own → turns_by feeder.by mid.seen ≡ []) → IsAfter root feeder
+pub after_feeding : (root mid feeder : Standing) → IsAfter root mid → IsKept mid feeder
+    → (0 < length feeder.own → turns_by feeder.by mid.seen ≡ []) → IsAfter root feeder
 after_feeding root mid feeder is kept none =
     record {
       newer = kept.seen.0 ++ is.newer;
       older = is.older;
-      around = kept.seen.1 ∙ ap (λ ts. kept.seen.0 ++ ts) is.around ∙ sym (append_assoc kept.seen.0 is.newer (root.own ++ is.older));
-      none = λ some. none_before feeder.by mid.seen is.older (is.newer ++ root.own, is.around ∙ sym (append_assoc is.newer root.own is.older)) (none some);
+      around = kept.seen.1 ∙ ap (λ ts. kept.seen.0 ++ ts) is.around
+          ∙ sym (append_assoc kept.seen.0 is.newer (root.own ++ is.older));
+      none = λ some. none_before feeder.by mid.seen is.older (
+        is.newer ++ root.own,
+        is.around ∙ sym (append_assoc is.newer root.own is.older),
+      ) (none some);
     }
 
-pub has_fed : {A : Type 0} (number records : ℕ) (gen left : List Command) (root mid feeder : Standing) (result : Result A TurnErr) → gen ≡ generated number records → HasAsked (take 1 gen) root → left ≡ drop 1 gen → IsAfter root mid → Feeds left mid feeder result → OnOk result (HasFed number records root feeder)
+pub has_fed : {A : Type 0} (number records : ℕ) (gen left : List Command) (root mid feeder : Standing)
+    (result : Result A TurnErr) → gen ≡ generated number records → HasAsked (take 1 gen) root → left ≡ drop 1 gen
+    → IsAfter root mid → Feeds left mid feeder result → OnOk result (HasFed number records root feeder)
 has_fed number records gen left root mid feeder (Err e) is asked rest after feeds = tt
 has_fed number records gen left root mid feeder (Ok a) is asked rest after feeds =
     record {
@@ -140,7 +162,9 @@ has_fed number records gen left root mid feeder (Ok a) is asked rest after feeds
       after = after_feeding root mid feeder after feeds.kept feeds.none;
     }
 
-pub has_fed_so_far : {A : Type 0} (number records : ℕ) (gen left : List Command) (root mid feeder : Standing) (result : Result A TurnErr) → gen ≡ generated number records → HasAsked (take 1 gen) root → left ≡ drop 1 gen → IsAfter root mid → Feeds left mid feeder result → OnErr result (HasFedSoFar number records root feeder)
+pub has_fed_so_far : {A : Type 0} (number records : ℕ) (gen left : List Command) (root mid feeder : Standing)
+    (result : Result A TurnErr) → gen ≡ generated number records → HasAsked (take 1 gen) root → left ≡ drop 1 gen
+    → IsAfter root mid → Feeds left mid feeder result → OnErr result (HasFedSoFar number records root feeder)
 has_fed_so_far number records gen left root mid feeder (Ok a) is asked rest after feeds = tt
 has_fed_so_far number records gen left root mid feeder (Err e) is asked rest after feeds =
     record {
@@ -149,7 +173,8 @@ has_fed_so_far number records gen left root mid feeder (Err e) is asked rest aft
       after = λ some. after_feeding root mid feeder after feeds.kept feeds.none;
     }
 
-pub none_fed : (number records : ℕ) (root feeder : Standing) → root.own ≡ [] → feeder.own ≡ [] → HasFedSoFar number records root feeder
+pub none_fed : (number records : ℕ) (root feeder : Standing) → root.own ≡ [] → feeder.own ≡ []
+    → HasFedSoFar number records root feeder
 none_fed number records root feeder first second =
     record {
       of_root = (0, first);
@@ -157,7 +182,9 @@ none_fed number records root feeder first second =
       after = λ some. absurd (omega (arith, some, ap length second));
     }
 
-pub crowd_err : {A : Type 0} (number records : ℕ) (gen left : List Command) (before root mid feeder : Standing) (result : Result A TurnErr) → gen ≡ generated number records → HasAsked (take 1 gen) root → Feeds left mid feeder result → IfErr result (IsCrowdErr before root feeder)
+pub crowd_err : {A : Type 0} (number records : ℕ) (gen left : List Command) (before root mid feeder : Standing)
+    (result : Result A TurnErr) → gen ≡ generated number records → HasAsked (take 1 gen) root
+    → Feeds left mid feeder result → IfErr result (IsCrowdErr before root feeder)
 crowd_err number records gen left before root mid feeder (Ok a) is asked feeds = tt
 crowd_err number records gen left before root mid feeder (Err e) is asked feeds =
     let first : HasAsked (take 1 (generated number records)) root = subst (λ cs. HasAsked (take 1 cs) root) is asked in

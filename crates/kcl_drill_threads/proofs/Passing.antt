@@ -17,14 +17,17 @@ use Rattle.kcl_drill_threads.specs.Asking.{HasAsked, HasBegun, IsKept, turn_of, 
 -- an actor without turns had none before
 pub none_before : (n : ℕ) (h seen : List Turn) → Continues h seen → turns_by n h ≡ [] → turns_by n seen ≡ []
 none_before n h seen c none =
-    let cut : turns_by n h ≡ turns_by n c.0 ++ turns_by n seen = ap (turns_by n) c.1 ∙ filter-append (is_by n) c.0 seen in
+    let cut : turns_by n h ≡ turns_by n c.0 ++ turns_by n seen =
+    ap (turns_by n) c.1 ∙ filter-append (is_by n) c.0 seen in
     let total : length (turns_by n c.0 ++ turns_by n seen) ≡ 0 = ap length (sym cut ∙ none) in
     no_length (turns_by n seen) (omega (arith, total, length-append (turns_by n c.0) (turns_by n seen)))
 
 -- before an actor's only turn it has none
-pub none_before_one : (n : ℕ) (turn : Turn) (place : List Turn) → turn.by ≡ n → turns_by n (turn ∷ place) ≡ turn ∷ [] → turns_by n place ≡ []
+pub none_before_one : (n : ℕ) (turn : Turn) (place : List Turn) → turn.by ≡ n → turns_by n (turn ∷ place) ≡ turn ∷ []
+    → turns_by n place ≡ []
 none_before_one n turn place by one =
-    let two : turn ∷ turns_by n place ≡ turn ∷ [] = sym (ap (λ b. cond b (turn ∷ turns_by n place) (turns_by n place)) (is_equal turn.by n by)) ∙ one in
+    let two : turn ∷ turns_by n place ≡ turn ∷ [] =
+    sym (ap (λ b. cond b (turn ∷ turns_by n place) (turns_by n place)) (is_equal turn.by n by)) ∙ one in
     let count = ap length two in
     no_length (turns_by n place) (omega (arith, count))
 
@@ -44,14 +47,16 @@ kept_all a b c p q =
 
 -- ---- commands that were asked
 
-pub asked_more : (made : List Command) (what : Command) (a b : Standing) → b.by ≡ a.by → HasAsked made a → b.own ≡ turn_of a.by what ∷ a.own → HasAsked (made ++ what ∷ []) b
+pub asked_more : (made : List Command) (what : Command) (a b : Standing) → b.by ≡ a.by → HasAsked made a
+    → b.own ≡ turn_of a.by what ∷ a.own → HasAsked (made ++ what ∷ []) b
 asked_more made what a b by has own =
     own
     ∙ ap (λ ts. turn_of a.by what ∷ ts) has
     ∙ ap (map (turn_of a.by)) (sym (reverse-append made (what ∷ [])))
     ∙ ap (λ n. turns_of n (made ++ what ∷ [])) (sym by)
 
-pub asked_same : (made : List Command) (a b : Standing) → b.by ≡ a.by → b.own ≡ a.own → HasAsked made a → HasAsked made b
+pub asked_same : (made : List Command) (a b : Standing) → b.by ≡ a.by → b.own ≡ a.own → HasAsked made a
+    → HasAsked made b
 asked_same made a b by own has = own ∙ has ∙ ap (λ n. turns_of n made) (sym by)
 
 pub begun_by : (made left all : List Command) (p : Standing) → all ≡ made ++ left → HasAsked made p → HasBegun all p

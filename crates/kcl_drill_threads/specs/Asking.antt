@@ -1,5 +1,6 @@
 -- Passes that take a generator's commands as their turns, at moment 0. Each list of turns has the newest turn first.
-use Rattle.std.specs.Prelude.{◌≡◌, ◌⊎◌, ◌↔◌, ℕ, ◌+◌, ◌^◌, Bool, true, false, List, [], ◌∷◌, length, map, reverse, take, Result}
+use Rattle.std.specs.Prelude.{◌≡◌, ◌⊎◌, ◌↔◌, ℕ, ◌+◌, ◌^◌, Bool, true, false, List, [], ◌∷◌, length, map, reverse, take}
+use Rattle.std.specs.Prelude.{Result}
 use Rattle.kds_defs.specs.declared.command.Command.{Command}
 use Rattle.kds_defs.specs.declared.command.Turn.{Turn}
 use Rattle.kds_defs.specs.declared.reply.Refusal.{Refusal}
@@ -9,7 +10,8 @@ use Rattle.kds_turn.specs.declared.pass.TurnErr.TheVariants as failed
 use Rattle.kds_turn.specs.Known.{Continues}
 use Rattle.kds_turn.specs.Passes.{Standing, IsAnswered}
 
--- a pass keeps its hall, its number and what was joined into it, and what it had seen is a beginning of what it has seen
+-- a pass keeps its hall, its number and what was joined into it, and what it had seen is a beginning of what it has
+-- seen
 pub record IsKept (before after : Standing) : Type 0 where
   pub hall : after.hall ≡ before.hall
   pub by : after.by ≡ before.by
@@ -35,7 +37,8 @@ HasBegun commands p = (n : ℕ) × HasAsked (take n commands) p
 -- the first of the commands to come was the pass's next turn, or there was none
 abbrev pub Asks : Bool → List Command → List Command → Standing → Standing → Type 0
 Asks true coming left before after =
-    (what : Command) × (coming ≡ what ∷ left) × (a : Result Reply Refusal) × IsAnswered (turn_of before.by what) a before after
+    (what : Command) × (coming ≡ what ∷ left) × (a : Result Reply Refusal)
+    × IsAnswered (turn_of before.by what) a before after
 Asks false coming left before after = (coming ≡ []) × (left ≡ []) × (after ≡ before)
 
 -- the error of a turn of the pass: Spent exactly where it has then seen as many turns as can be counted

@@ -3,7 +3,8 @@ use Rattle.std.specs.Prelude.{◌≡◌, List}
 use denote.Ref.{MutBor}
 use denote.Param.Members.{Shared}
 
-module _ {F T : Type 0} (g : Shared F (MutBor (List T) × Unit {0}) (Unit {0} × (MutBor (List T) × Unit {0}))) (f : F) where
+module _ {F T : Type 0} (g : Shared F (MutBor (List T) × Unit {0}) (Unit {0} × (MutBor (List T) × Unit {0})))
+    (f : F) where
   -- it may be called with a reference to these
   abbrev pub Accepts : List T → Type 0
   Accepts xs = (p : MutBor (List T)) → p.now ≡ xs → g.pre f (p, tt)

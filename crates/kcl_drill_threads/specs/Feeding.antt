@@ -36,13 +36,15 @@ pub record IsAtOwn (p : Standing) : Type 0 where
   pub seen : p.seen ≡ last ∷ place
   pub own : p.own ≡ last ∷ before
 
--- why the feeder left off: the generator ran out of memory, before its first turn or right after one, or the error of a turn
+-- why the feeder left off: the generator ran out of memory, before its first turn or right after one, or the error of a
+-- turn
 abbrev pub IsFeedErr : Standing → TurnErr → Type 0
 IsFeedErr p e = ((e ≡ failed.Memory) × ((p.own ≡ []) ⊎ IsAtOwn p)) ⊎ IsTurnErr p e
 
--- From these commands to come, the feeder made all, or after an error the first of them; and where it made one, it had none
--- in what it had seen before.
-pub record Feeds {A : Type 0} (coming : List Command) (before after : Standing) (result : Result A TurnErr) : Type 0 where
+-- From these commands to come, the feeder made all, or after an error the first of them; and where it made one, it had
+-- none in what it had seen before.
+pub record Feeds {A : Type 0} (coming : List Command) (before after : Standing) (result : Result A TurnErr) :
+    Type 0 where
   pub kept : IsKept before after
   pub asked : OnOk result (HasAsked coming after)
   pub begun : OnErr result (HasBegun coming after)
@@ -51,4 +53,5 @@ pub record Feeds {A : Type 0} (coming : List Command) (before after : Standing) 
 
 -- why a crowd left off: by what befell the root, or the feeder after the root's turn
 abbrev pub IsCrowdErr : Standing → Standing → Standing → TurnErr → Type 0
-IsCrowdErr before root feeder e = ((feeder.own ≡ []) × (root.own ≡ []) × IsAskErr before root e) ⊎ ((0 < length root.own) × IsFeedErr feeder e)
+IsCrowdErr before root feeder e = ((feeder.own ≡ []) × (root.own ≡ []) × IsAskErr before root e)
+    ⊎ ((0 < length root.own) × IsFeedErr feeder e)

@@ -8,10 +8,12 @@ use Rattle.kcl_live.specs.Members.{HasEnded}
 module _ {M P F G : Type 0} (stands : P → List Call → Type 0) (turns : ℕ) (before after : List (Member M P F G)) where
   -- each has run so many turns, a tick apart, and stopped
   abbrev pub HaveEnded : Type 0
-  HaveEnded = (i : ℕ) (m : Member M P F G) → i < length before → HasEnded stands turns TICK (slice_index_or before i m) (slice_index_or after i m)
+  HaveEnded = (i : ℕ) (m : Member M P F G) → i < length before
+      → HasEnded stands turns TICK (slice_index_or before i m) (slice_index_or after i m)
 
   -- or is as it was
   abbrev pub HaveEndedOrNot : Type 0
   HaveEndedOrNot =
       (i : ℕ) (m : Member M P F G) → i < length before
-      → HasEnded stands turns TICK (slice_index_or before i m) (slice_index_or after i m) ⊎ (slice_index_or after i m ≡ slice_index_or before i m)
+      → HasEnded stands turns TICK (slice_index_or before i m) (slice_index_or after i m)
+      ⊎ (slice_index_or after i m ≡ slice_index_or before i m)

@@ -96,8 +96,10 @@ where
 
     // Without an error, the worker of each member has run. After an error, there are two possibilities for each member:
     // its worker has run, or the member is unchanged.
-    ensures members { OnOk result (HaveEnded P.stands_for (MEMBER_TURNS + records / RECORDS_A_TURN) members.old members.new) }
-    ensures members_or_not { OnErr result (HaveEndedOrNot P.stands_for (MEMBER_TURNS + records / RECORDS_A_TURN) members.old members.new) }
+    ensures members { OnOk result
+        (HaveEnded P.stands_for (MEMBER_TURNS + records / RECORDS_A_TURN) members.old members.new) }
+    ensures members_or_not { OnErr result
+        (HaveEndedOrNot P.stands_for (MEMBER_TURNS + records / RECORDS_A_TURN) members.old members.new) }
 {
     let mut generator = generate(alloc, number, records);
     match begin(rt, hall, root, feeder, &mut generator) {

@@ -1,5 +1,6 @@
 -- A hand-off that is run to its end.
-use Rattle.std.proofs.Common.{◌≡◌, ℕ, zero, suc, ◌≤◌, List, [], ◌∷◌, ◌++◌, length, Option, Some, None, refl, sym, ap, subst, ◌∙◌, arith}
+use Rattle.std.proofs.Common.{◌≡◌, ℕ, zero, suc, ◌≤◌, List, [], ◌∷◌, ◌++◌, length, Option, Some, None, refl, sym, ap}
+use Rattle.std.proofs.Common.{subst, ◌∙◌, arith}
 use Rattle.std.specs.Prelude.{IsSome, Result}
 use Rattle.kds_base.specs.declared.lease_key.ShardRef.{ShardRef}
 use Rattle.kds_defs.specs.declared.command.Command.{Command}
@@ -10,37 +11,52 @@ use Rattle.kds_defs.specs.Histories.{answer}
 use Rattle.kcl_defs.specs.declared.consumer.Ask.TheVariants as ask
 use Rattle.kcl_defs.specs.declared.consumer.Due.{Due}
 use Rattle.kcl_defs.specs.declared.consumer.WorkerMade.{WorkerMade}
-use Rattle.kcl_defs.specs.Consumers.{Answered, Called, Giving, Leaving, Losing, Over, Phase, due_call, over_at, phase_after}
+use Rattle.kcl_defs.specs.Consumers.{Answered, Called, Giving, Leaving, Losing, Over, Phase, due_call, over_at}
+use Rattle.kcl_defs.specs.Consumers.{phase_after}
 use Rattle.kcl_defs.specs.Lives.{last_given}
 use Rattle.kcl_defs.specs.Workers.{Release, released}
 use Rattle.kcl_hand.specs.declared.stand.Stand.{Stand}
 use Rattle.kcl_hand.specs.declared.stand.Stand.TheVariants as stand
-use Rattle.kcl_hand.specs.Handing.{HandEvent, HandPast, HandState, Hand_answered, answered_at, called_at, command_at, hand_command, hand_due, hand_left, left_at, stand_by}
-use Rattle.kcl_hand.specs.Joints.{HandOff, JointPast, answered_deals, begun, command_in, hand_of, hands_after, joint_deals, state_of, with_hand_event, worker_in}
-use Rattle.kcl_hand.specs.Runs.{answered_by, called_if, called_up, hand_run, or_stop, run_hand, turn_of, with_first, with_hand}
+use Rattle.kcl_hand.specs.Handing.{HandEvent, HandPast, HandState, Hand_answered, answered_at, called_at, command_at}
+use Rattle.kcl_hand.specs.Handing.{hand_command, hand_due, hand_left, left_at, stand_by}
+use Rattle.kcl_hand.specs.Joints.{HandOff, JointPast, answered_deals, begun, command_in, hand_of, hands_after}
+use Rattle.kcl_hand.specs.Joints.{joint_deals, state_of, with_hand_event, worker_in}
+use Rattle.kcl_hand.specs.Runs.{answered_by, called_if, called_up, hand_run, or_stop, run_hand, turn_of, with_first}
+use Rattle.kcl_hand.specs.Runs.{with_hand}
 use Rattle.kcl_hand.specs.Standing.{IsGoing, IsLeaving, turns_left}
-use Rattle.kcl_hand.proofs.Handings.{answered_few, at_its_consumer, answered_leaves, called_few, called_leaves, few, freed_few, freed_goes, goes, lost_leaves, marked_few, marked_goes}
+use Rattle.kcl_hand.proofs.Handings.{answered_few, at_its_consumer, answered_leaves, called_few, called_leaves, few}
+use Rattle.kcl_hand.proofs.Handings.{freed_few, freed_goes, goes, lost_leaves, marked_few, marked_goes}
 
 -- ---- the last of several hand-offs
 
-pub command_last : (hands : List HandOff) (x : HandOff) → command_in (length hands) (hands ++ (x ∷ [])) ≡ hand_command x.held x.made (state_of x)
+pub command_last : (hands : List HandOff) (x : HandOff)
+    → command_in (length hands) (hands ++ (x ∷ [])) ≡ hand_command x.held x.made (state_of x)
 command_last [] x = refl
 command_last (y ∷ ys) x = command_last ys x
 
-pub event_last : (hands : List HandOff) (x : HandOff) (event : HandEvent) → with_hand_event (length hands) event (hands ++ (x ∷ [])) ≡ hands ++ (record x { since = event ∷ x.since } ∷ [])
+pub event_last : (hands : List HandOff) (x : HandOff) (event : HandEvent)
+    → with_hand_event (length hands) event (hands ++ (x ∷ [])) ≡ hands ++ (record x { since = event ∷ x.since } ∷ [])
 event_last [] x event = refl
 event_last (y ∷ ys) x event = ap (λ xs. y ∷ xs) (event_last ys x event)
 
-pub hands_with : (key : ShardRef) (made : WorkerMade) (past : JointPast) (r : Release) → released key (worker_in made past) ≡ Some r → (since : HandPast) → hands_after made (with_hand key since made past) ≡ hands_after made past ++ (hand_of r since ∷ [])
+pub hands_with : (key : ShardRef) (made : WorkerMade) (past : JointPast) (r : Release)
+    → released key (worker_in made past) ≡ Some r → (since : HandPast)
+    → hands_after made (with_hand key since made past) ≡ hands_after made past ++ (hand_of r since ∷ [])
 hands_with key made past r which [] = ap (λ o. hands_after made past ++ begun o) which
 hands_with key made past r which (event ∷ since) =
-    ap (with_hand_event (length (hands_after made past)) event) (hands_with key made past r which since) ∙ event_last (hands_after made past) (hand_of r since) event
+    ap (with_hand_event (length (hands_after made past)) event) (hands_with key made past r which since)
+    ∙ event_last (hands_after made past) (hand_of r since) event
 
 -- its answered command is the next of the worker and its hand-offs
-pub deals_with_hand : (key : ShardRef) (made : WorkerMade) (past : JointPast) (r : Release) → released key (worker_in made past) ≡ Some r → (since : HandPast) (what : Command) (answer : Result Reply Refusal) → hand_command r.held r.known.made (state_of (hand_of r since)) ≡ Some what → joint_deals made (with_hand key (Hand_answered answer ∷ since) made past) ≡ record { what = what; answer = answer } ∷ joint_deals made (with_hand key since made past)
+pub deals_with_hand : (key : ShardRef) (made : WorkerMade) (past : JointPast) (r : Release)
+    → released key (worker_in made past) ≡ Some r → (since : HandPast) (what : Command) (answer : Result Reply Refusal)
+    → hand_command r.held r.known.made (state_of (hand_of r since)) ≡ Some what
+    → joint_deals made (with_hand key (Hand_answered answer ∷ since) made past)
+    ≡ record { what = what; answer = answer } ∷ joint_deals made (with_hand key since made past)
 deals_with_hand key made past r which since what answer is =
     ap (λ o. answered_deals o answer (joint_deals made (with_hand key since made past)))
-    (ap (command_in (length (hands_after made past))) (hands_with key made past r which since) ∙ command_last (hands_after made past) (hand_of r since) ∙ is)
+    (ap (command_in (length (hands_after made past))) (hands_with key made past r which since)
+    ∙ command_last (hands_after made past) (hand_of r since) ∙ is)
 
 -- ---- it ends
 
@@ -56,12 +72,15 @@ Q : HandOff → ℕ → HandState → Type 0
 Q x n s = IsOnWay s (phase_after x.made s.past) n × (due_call (phase_after x.made s.past) ≡ None)
 
 -- the call that is due is made at its consumer
-called_here : (x : HandOff) (n : ℕ) (s : HandState) → IsOnWay s (phase_after x.made s.past) n → IsSome (due_call (phase_after x.made s.past)) → s.stand ≡ stand.Consumer → Q x n (called_at x.held x.made ask.None s stand.Consumer)
+called_here : (x : HandOff) (n : ℕ) (s : HandState) → IsOnWay s (phase_after x.made s.past) n
+    → IsSome (due_call (phase_after x.made s.past)) → s.stand ≡ stand.Consumer
+    → Q x n (called_at x.held x.made ask.None s stand.Consumer)
 unfolding Q
 called_here x n s w due at =
     let past = Called ask.None ∷ s.past in
     let f = called_few x.made ask.None x.held (last_given x.made past) (phase_after x.made s.past) w.leaving due in
-    let old : turns_left stand.Consumer (phase_after x.made s.past) ≤ n = subst (λ k. turns_left k (phase_after x.made s.past) ≤ n) at w.few_left in (
+    let old : turns_left stand.Consumer (phase_after x.made s.past) ≤ n =
+    subst (λ k. turns_left k (phase_after x.made s.past) ≤ n) at w.few_left in (
       record {
         going = goes x.held (last_given x.made past) (phase_after x.made past) _ refl;
         leaving = called_leaves x.made ask.None (phase_after x.made s.past) w.leaving;
@@ -70,16 +89,19 @@ called_here x n s w due at =
       f.0,
     )
 
-called_way : (x : HandOff) (n : ℕ) → OnWay x n → (o : Option Due) → hand_due x.made (state_of x) ≡ o → OnWay (called_if o x) n × (hand_due x.made (state_of (called_if o x)) ≡ None)
+called_way : (x : HandOff) (n : ℕ) → OnWay x n → (o : Option Due) → hand_due x.made (state_of x) ≡ o
+    → OnWay (called_if o x) n × (hand_due x.made (state_of (called_if o x)) ≡ None)
 unfolding Q
 called_way x n w None e = (w, e)
 called_way x n w (Some due) e =
     let is_due : IsSome (due_call (phase_after x.made (state_of x).past)) = subst IsSome (sym e) refl in
     let at = at_its_consumer (state_of x).stand (phase_after x.made (state_of x).past) w.going is_due in
-    subst (λ k. Q x n (called_at x.held x.made ask.None (state_of x) k)) (sym at) (called_here x n (state_of x) w is_due at)
+    subst (λ k. Q x n (called_at x.held x.made ask.None (state_of x) k)) (sym at)
+    (called_here x n (state_of x) w is_due at)
 
 -- where no call is due and no command comes next it has ended
-stops : (x : HandOff) (phase : Phase) (s : Stand) → IsGoing s phase → IsLeaving phase → due_call phase ≡ None → command_at x.held x.made phase s ≡ None → IsSome (left_at s)
+stops : (x : HandOff) (phase : Phase) (s : Stand) → IsGoing s phase → IsLeaving phase → due_call phase ≡ None
+    → command_at x.held x.made phase s ≡ None → IsSome (left_at s)
 stops x (Giving reach waiting asked lost) stand.Consumer going l due none = absurd cc
 stops x (Leaving why) stand.Consumer going l due none = absurd cc
 stops x (Over why) stand.Consumer going l due none = absurd cc
@@ -89,7 +111,10 @@ stops x phase (stand.Free counter) going l due none = absurd cc
 stops x phase (stand.Ended left) going l due none = refl
 
 -- an answer leaves fewer
-answered_way : (x : HandOff) (n : ℕ) (s : HandState) (st : Stand) (what : Command) (a : Result Reply Refusal) → s.stand ≡ st → IsOnWay s (phase_after x.made s.past) (suc n) → due_call (phase_after x.made s.past) ≡ None → command_at x.held x.made (phase_after x.made s.past) st ≡ Some what → IsOnWay (answered_at x.held x.made a s st) (phase_after x.made (answered_at x.held x.made a s st).past) n
+answered_way : (x : HandOff) (n : ℕ) (s : HandState) (st : Stand) (what : Command) (a : Result Reply Refusal)
+    → s.stand ≡ st → IsOnWay s (phase_after x.made s.past) (suc n) → due_call (phase_after x.made s.past) ≡ None
+    → command_at x.held x.made (phase_after x.made s.past) st ≡ Some what
+    → IsOnWay (answered_at x.held x.made a s st) (phase_after x.made (answered_at x.held x.made a s st).past) n
 answered_way x n s stand.Consumer what a at w due is =
     let past = Answered a ∷ s.past in
     let phase = phase_after x.made s.past in
@@ -125,23 +150,36 @@ none_left (stand.Ended left) phase l = refl
 none_left stand.Consumer (Giving reach waiting asked lost) l = absurd (omega (arith, l))
 none_left _ _ l = absurd (omega (arith, l))
 
-ends_by : (n at by : ℕ) (h : List Turn) (x : HandOff) (o : Option Command) → hand_command x.held x.made (state_of x) ≡ o → OnWay x (suc n) → hand_due x.made (state_of x) ≡ None → ((h : List Turn) (y : HandOff) → OnWay y n → IsSome (hand_left (state_of (run_hand n at by h y).hand))) → IsSome (hand_left (state_of (or_stop o (record { history = h; hand = x; deals = [] }) (λ what. with_first h what at by (run_hand n at by (turn_of at by what ∷ h) (answered_by at by h x what)))).hand))
-ends_by n at by h x None is w due rest = stops x (phase_after x.made (state_of x).past) (state_of x).stand w.going w.leaving due is
-ends_by n at by h x (Some what) is w due rest = rest (turn_of at by what ∷ h) (answered_by at by h x what) (answered_way x n (state_of x) (state_of x).stand what (answer h (turn_of at by what)) refl w due is)
+ends_by : (n at by : ℕ) (h : List Turn) (x : HandOff) (o : Option Command) → hand_command x.held x.made (state_of x) ≡ o
+    → OnWay x (suc n) → hand_due x.made (state_of x) ≡ None
+    → ((h : List Turn) (y : HandOff) → OnWay y n → IsSome (hand_left (state_of (run_hand n at by h y).hand)))
+    → IsSome (hand_left (state_of
+    (or_stop o (record { history = h; hand = x; deals = [] })
+    (λ what. with_first h what at by
+    (run_hand n at by (turn_of at by what ∷ h) (answered_by at by h x what)))).hand))
+ends_by n at by h x None is w due rest =
+    stops x (phase_after x.made (state_of x).past) (state_of x).stand w.going w.leaving due is
+ends_by n at by h x (Some what) is w due rest =
+    rest (turn_of at by what ∷ h) (answered_by at by h x what)
+    (answered_way x n (state_of x) (state_of x).stand what (answer h (turn_of at by what)) refl w due is)
 
-ends : (n at by : ℕ) (h : List Turn) (x : HandOff) → OnWay x n → IsSome (hand_left (state_of (run_hand n at by h x).hand))
+ends : (n at by : ℕ) (h : List Turn) (x : HandOff) → OnWay x n
+    → IsSome (hand_left (state_of (run_hand n at by h x).hand))
 ends zero at by h x w =
     let c = called_way x 0 w (hand_due x.made (state_of x)) refl in
     none_left (state_of (called_up x)).stand (phase_after (called_up x).made (state_of (called_up x)).past) c.0.few_left
 ends (suc n) at by h x w =
     let c = called_way x (suc n) w (hand_due x.made (state_of x)) refl in
-    ends_by n at by h (called_up x) (hand_command (called_up x).held (called_up x).made (state_of (called_up x))) refl c.0 (due_none x (hand_due x.made (state_of x)) c.1) (λ k y v. ends n at by k y v)
+    ends_by n at by h (called_up x) (hand_command (called_up x).held (called_up x).made (state_of (called_up x)))
+    refl c.0 (due_none x (hand_due x.made (state_of x)) c.1) (λ k y v. ends n at by k y v)
   where
-    due_none : (x : HandOff) (o : Option Due) → hand_due x.made (state_of (called_if o x)) ≡ None → hand_due (called_if o x).made (state_of (called_if o x)) ≡ None
+    due_none : (x : HandOff) (o : Option Due) → hand_due x.made (state_of (called_if o x)) ≡ None
+        → hand_due (called_if o x).made (state_of (called_if o x)) ≡ None
     due_none x None e = e
     due_none x (Some due) e = e
 
-pub all_end : (at by : ℕ) (h : List Turn) (r : Release) → IsSome (hand_left (state_of (hand_run at by h (hand_of r [])).hand))
+pub all_end : (at by : ℕ) (h : List Turn) (r : Release)
+    → IsSome (hand_left (state_of (hand_run at by h (hand_of r [])).hand))
 all_end at by h r =
     let past = Losing ∷ r.known.past in
     let made = r.known.made in

@@ -8,11 +8,13 @@ use Rattle.kds_defs.specs.declared.reply.Refusal.{Refusal}
 use Rattle.kds_defs.specs.declared.reply.Reply.{Reply}
 use Rattle.kcl_defs.specs.declared.consumer.WorkerMade.{WorkerMade}
 use Rattle.kcl_defs.specs.Lives.{Deal}
-use Rattle.kcl_defs.specs.Workers.{Pending, Release, Released, WorkerEvent, Made_call, Gave_command, Got_answer, Stopped, WorkerState, deals_with, id_of_held, leaving, released, with_deal}
+use Rattle.kcl_defs.specs.Workers.{Pending, Release, Released, WorkerEvent, Made_call, Gave_command, Got_answer}
+use Rattle.kcl_defs.specs.Workers.{Stopped, WorkerState, deals_with, id_of_held, leaving, released, with_deal}
 use Rattle.kcl_defs.proofs.TenancyLemmas.{AreBegun, IsBegun, IsBegunIn, state_begun}
 use Rattle.kcl_defs.proofs.WorkerLemmas.{all_map}
 use Rattle.kcl_hand.specs.Handing.{HandEvent, Hand_answered, Hand_called}
-use Rattle.kcl_hand.specs.Joints.{HandOff, JointPast, Of_hand, Of_worker, begun, begun_by, command_in, hand_deals, hands_after, joint_deals, with_hand_event, worker_in}
+use Rattle.kcl_hand.specs.Joints.{HandOff, JointPast, Of_hand, Of_worker, begun, begun_by, command_in, hand_deals}
+use Rattle.kcl_hand.specs.Joints.{hands_after, joint_deals, with_hand_event, worker_in}
 use Rattle.kcl_hand.proofs.Jointly.{found_all, release_is}
 
 -- the consumer of a hand-off was begun by one of these commands
@@ -24,39 +26,50 @@ pub record AreAllBegun (deals : List Deal) (hands : List HandOff) (w : WorkerSta
   pub worker : AreBegun deals w
   pub handed : AllByRecursion (IsBegunHand deals) hands
 
-more_hands : (deal : Deal) (deals : List Deal) (hands : List HandOff) → AllByRecursion (IsBegunHand deals) hands → AllByRecursion (IsBegunHand (deal ∷ deals)) hands
+more_hands : (deal : Deal) (deals : List Deal) (hands : List HandOff) → AllByRecursion (IsBegunHand deals) hands
+    → AllByRecursion (IsBegunHand (deal ∷ deals)) hands
 more_hands deal deals [] h = tt
 more_hands deal deals (x ∷ xs) h = (inr h.0, more_hands deal deals xs h.1)
 
-hands_append : (deals : List Deal) (xs ys : List HandOff) → AllByRecursion (IsBegunHand deals) xs → AllByRecursion (IsBegunHand deals) ys → AllByRecursion (IsBegunHand deals) (xs ++ ys)
+hands_append : (deals : List Deal) (xs ys : List HandOff) → AllByRecursion (IsBegunHand deals) xs
+    → AllByRecursion (IsBegunHand deals) ys → AllByRecursion (IsBegunHand deals) (xs ++ ys)
 hands_append deals [] ys h g = g
 hands_append deals (x ∷ xs) ys h g = (h.0, hands_append deals xs ys h.1 g)
 
 -- ---- what happens to the worker
 
-with_answer : (o : Option Pending) (answer : Result Reply Refusal) (deals : List Deal) (hands : List HandOff) → AllByRecursion (IsBegunHand deals) hands → AllByRecursion (IsBegunHand (with_deal o answer deals)) hands
+with_answer : (o : Option Pending) (answer : Result Reply Refusal) (deals : List Deal) (hands : List HandOff)
+    → AllByRecursion (IsBegunHand deals) hands → AllByRecursion (IsBegunHand (with_deal o answer deals)) hands
 with_answer None answer deals hands h = h
 with_answer (Some p) answer deals hands h = more_hands (record { what = p.what; answer = answer }) deals hands h
 
-release_hand : (deals : List Deal) (o : Option Release) → ((r : Release) → o ≡ Some r → IsBegun deals r.known) → AllByRecursion (IsBegunHand deals) (begun o)
+release_hand : (deals : List Deal) (o : Option Release) → ((r : Release) → o ≡ Some r → IsBegun deals r.known)
+    → AllByRecursion (IsBegunHand deals) (begun o)
 release_hand deals None h = tt
 release_hand deals (Some r) h = (h r refl, tt)
 
-none_begun : (deals : List Deal) (hands : List HandOff) → AllByRecursion (IsBegunHand deals) hands → AllByRecursion (IsBegunHand deals) (hands ++ [])
+none_begun : (deals : List Deal) (hands : List HandOff) → AllByRecursion (IsBegunHand deals) hands
+    → AllByRecursion (IsBegunHand deals) (hands ++ [])
 none_begun deals hands h = subst (AllByRecursion (IsBegunHand deals)) (sym (append-nil hands)) h
 
-worker_hands : (event : WorkerEvent) (w : WorkerState) (deals : List Deal) (hands : List HandOff) → AreBegun deals w → AllByRecursion (IsBegunHand deals) hands → AllByRecursion (IsBegunHand (deals_with event w deals)) (hands ++ begun_by event w)
+worker_hands : (event : WorkerEvent) (w : WorkerState) (deals : List Deal) (hands : List HandOff) → AreBegun deals w
+    → AllByRecursion (IsBegunHand deals) hands
+    → AllByRecursion (IsBegunHand (deals_with event w deals)) (hands ++ begun_by event w)
 worker_hands (Made_call asked) w deals hands b h = none_begun deals hands h
 worker_hands (Gave_command now) w deals hands b h = none_begun deals hands h
-worker_hands (Got_answer now answer) w deals hands b h = none_begun (with_deal w.waiting answer deals) hands (with_answer w.waiting answer deals hands h)
+worker_hands (Got_answer now answer) w deals hands b h =
+    none_begun (with_deal w.waiting answer deals) hands (with_answer w.waiting answer deals hands h)
 worker_hands Stopped w deals hands b h = none_begun deals hands h
 worker_hands (Released key) w deals hands b h =
     hands_append deals hands (begun (released key w)) h
-    (release_hand deals (released key w) (λ r e. found_all (IsBegun deals) (id_of_held r.held) r.known w.consumers (release_is w.consumers (leaving key w) r e) b.live))
+    (release_hand deals (released key w)
+    (λ r e. found_all (IsBegun deals) (id_of_held r.held) r.known w.consumers
+    (release_is w.consumers (leaving key w) r e) b.live))
 
 -- ---- what happens to a hand-off
 
-hand_event : (n : ℕ) (event : HandEvent) (deals : List Deal) (hands : List HandOff) → AllByRecursion (IsBegunHand deals) hands → AllByRecursion (IsBegunHand deals) (with_hand_event n event hands)
+hand_event : (n : ℕ) (event : HandEvent) (deals : List Deal) (hands : List HandOff)
+    → AllByRecursion (IsBegunHand deals) hands → AllByRecursion (IsBegunHand deals) (with_hand_event n event hands)
 hand_event n event deals [] h = tt
 hand_event zero event deals (x ∷ xs) h = h
 hand_event (suc n) event deals (x ∷ xs) h = (h.0, hand_event n event deals xs h.1)
@@ -68,9 +81,13 @@ more_begun deal deals w b = record {
   waits = b.waits;
 }
 
-hand_begun : (n : ℕ) (event : HandEvent) (o : Option Command) (deals : List Deal) (hands : List HandOff) (w : WorkerState) → AreAllBegun deals hands w → AreAllBegun (hand_deals event o deals) (with_hand_event n event hands) w
-hand_begun n (Hand_called asked) o deals hands w b = record { worker = b.worker; handed = hand_event n (Hand_called asked) deals hands b.handed }
-hand_begun n (Hand_answered answer) None deals hands w b = record { worker = b.worker; handed = hand_event n (Hand_answered answer) deals hands b.handed }
+hand_begun : (n : ℕ) (event : HandEvent) (o : Option Command) (deals : List Deal) (hands : List HandOff)
+    (w : WorkerState) → AreAllBegun deals hands w
+    → AreAllBegun (hand_deals event o deals) (with_hand_event n event hands) w
+hand_begun n (Hand_called asked) o deals hands w b =
+    record { worker = b.worker; handed = hand_event n (Hand_called asked) deals hands b.handed }
+hand_begun n (Hand_answered answer) None deals hands w b =
+    record { worker = b.worker; handed = hand_event n (Hand_answered answer) deals hands b.handed }
 hand_begun n (Hand_answered answer) (Some what) deals hands w b =
     let deal : Deal = record { what = what; answer = answer } in
     record {
@@ -80,7 +97,8 @@ hand_begun n (Hand_answered answer) (Some what) deals hands w b =
 
 -- ---- the record
 
-pub all_begun : (made : WorkerMade) (past : JointPast) → AreAllBegun (joint_deals made past) (hands_after made past) (worker_in made past)
+pub all_begun : (made : WorkerMade) (past : JointPast)
+    → AreAllBegun (joint_deals made past) (hands_after made past) (worker_in made past)
 all_begun made [] = record { worker = record { live = tt; over = tt; waits = tt }; handed = tt }
 all_begun made (Of_worker event ∷ past) =
     let w = worker_in made past in
@@ -91,4 +109,5 @@ all_begun made (Of_worker event ∷ past) =
       handed = worker_hands event w deals (hands_after made past) b.worker b.handed;
     }
 all_begun made (Of_hand n event ∷ past) =
-    hand_begun n event (command_in n (hands_after made past)) (joint_deals made past) (hands_after made past) (worker_in made past) (all_begun made past)
+    hand_begun n event (command_in n (hands_after made past)) (joint_deals made past) (hands_after made past)
+    (worker_in made past) (all_begun made past)

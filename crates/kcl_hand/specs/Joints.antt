@@ -11,7 +11,8 @@ use Rattle.kcl_defs.specs.declared.plans.Held.{Held}
 use Rattle.kcl_defs.specs.Consumers.{Losing, Past}
 use Rattle.kcl_defs.specs.Lives.{Deal, deals_of}
 use Rattle.kcl_defs.specs.WorkerLives.{IsServed, IsServedWhole, MayHappen}
-use Rattle.kcl_defs.specs.Workers.{Known, Release, Released, WorkerEvent, WorkerPast, WorkerState, deals_with, is_over, released, worker_after}
+use Rattle.kcl_defs.specs.Workers.{Known, Release, Released, WorkerEvent, WorkerPast, WorkerState, deals_with, is_over}
+use Rattle.kcl_defs.specs.Workers.{released, worker_after}
 use Rattle.kcl_hand.specs.Handing.{HandEvent, HandPast, HandState, Hand_answered, Hand_called, hand_after, hand_command}
 
 -- what happens: to the worker, or to the hand-off of its n-th release, counted from 0
@@ -93,7 +94,8 @@ hand_deals (Hand_answered answer) o deals = answered_deals o answer deals
 abbrev pub joint_deals : WorkerMade → JointPast → List Deal
 joint_deals made [] = []
 joint_deals made (Of_worker event ∷ past) = deals_with event (worker_in made past) (joint_deals made past)
-joint_deals made (Of_hand n event ∷ past) = hand_deals event (command_in n (hands_after made past)) (joint_deals made past)
+joint_deals made (Of_hand n event ∷ past) =
+    hand_deals event (command_in n (hands_after made past)) (joint_deals made past)
 
 -- ---- what may happen where
 
@@ -114,7 +116,8 @@ AreToldIn by h made past = deals_of by h ≡ joint_deals made past
 
 -- ---- what follows
 
--- a released consumer is of a tenure, and its calls are the given reads of that tenure; and once it is over no batch waits
+-- a released consumer is of a tenure, and its calls are the given reads of that tenure; and once it is over no batch
+-- waits
 pub record IsHandServed (by : ℕ) (h : List Turn) (x : HandOff) : Type 0 where
   pub calls : IsServed by h (known_in x)
   pub whole : is_over (known_in x) ≡ true → IsServedWhole by h (known_in x)

@@ -24,8 +24,8 @@ IsUpTo n ShardEnd = Unit {0}
 abbrev pub IsMarked : TenureState → Checkpoint → Type 0
 IsMarked T checkpoint = (n : ℕ) → IsRead n (given_reads T) → IsUpTo n checkpoint
 
--- the u-th tenure is U. Right before the line by which it began, the t-th tenure was T, of the same key, and each number
--- in its given reads was at or below the row's checkpoint
+-- the u-th tenure is U. Right before the line by which it began, the t-th tenure was T, of the same key, and each
+-- number in its given reads was at or below the row's checkpoint
 pub record FollowsMarked (log : Journal) (t u : ℕ) (T U : TenureState) : Type 0 where
   pub begun : Told
   pub began : taking log u ≡ Some begun
@@ -44,7 +44,8 @@ IsReadOnce T U = (n : ℕ) → IsRead n (given_reads T) → IsRead n U.reads →
 -- checkpoint of the row
 pub record IsHandedOff (by : ℕ) (h : List Turn) (x : HandOff) : Type 0 where
   pub whole : IsServedWhole by h (known_in x)
-  pub marked : (T : TenureState) (r : Row) → tenure (journal h) x.made.tenure ≡ Some T → row (journal h) T.key ≡ Some r → IsMarked T r.checkpoint
+  pub marked : (T : TenureState) (r : Row) → tenure (journal h) x.made.tenure ≡ Some T → row (journal h) T.key ≡ Some r
+      → IsMarked T r.checkpoint
 
 -- where it ended so
 abbrev pub IsHandedOffIfFreed : ℕ → List Turn → HandOff → Type 0
@@ -61,7 +62,9 @@ pub record BeginsAfter (h before : List Turn) (u : ℕ) (U : TenureState) : Type
   pub taken : Row
   pub there : row (journal before) U.key ≡ Some taken
 
--- where the hand-off freed its row before, no number in the given reads of its tenure is in a read of such a tenure of the key
+-- where the hand-off freed its row before, no number in the given reads of its tenure is in a read of such a tenure of
+-- the key
 abbrev pub IsNeverReadAgain : ℕ → List Turn → List Turn → HandOff → Type 0
 IsNeverReadAgain by h before x = (counter : ℕ) → (state_of x).stand ≡ stand.Ended (left.Handed counter)
-    → (u : ℕ) (T U : TenureState) → tenure (journal before) x.made.tenure ≡ Some T → BeginsAfter h before u U → T.key ≡ U.key → IsReadOnce T U
+    → (u : ℕ) (T U : TenureState) → tenure (journal before) x.made.tenure ≡ Some T → BeginsAfter h before u U
+    → T.key ≡ U.key → IsReadOnce T U

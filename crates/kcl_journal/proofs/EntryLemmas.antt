@@ -1,5 +1,6 @@
 -- Each line of a journal has one text.
-use Rattle.std.proofs.Common.{◌≡◌, ℕ, ◌<◌, ◌^◌, List, ◌∷◌, ◌++◌, true, Option, Some, None, refl, sym, ap, ◌∙◌, arith, codes, decimal, subst}
+use Rattle.std.proofs.Common.{◌≡◌, ℕ, ◌<◌, ◌^◌, List, ◌∷◌, ◌++◌, true, Option, Some, None, refl, sym, ap, ◌∙◌, arith}
+use Rattle.std.proofs.Common.{codes, decimal, subst}
 use Rattle.std.specs.Prelude.{option_map}
 use Rattle.std.proofs.lemmas.Slice.Eq.{bytes_eq-Decides}
 use Rattle.std.specs.Str.{bytes_eq}
@@ -10,10 +11,12 @@ use Rattle.kcl_script_fields.proofs.Parts.{parted_at, parted_spells, bind_some, 
 use Rattle.kcl_script_fields.proofs.Forms.{IsForm, IsWorker, number_form, moment_form, decimal_lacks}
 use Rattle.kcl_script_fields.proofs.RawLemmas.{choose, row_form}
 use Rattle.kcl_journal.specs.declared.line.EntryLine.{EntryLine}
-use Rattle.kcl_journal.specs.Entries.{within_of, lease_by, entry_by, entry_text, entry_of, entry_spelling, end_of, end_spelling, heading}
+use Rattle.kcl_journal.specs.Entries.{within_of, lease_by, entry_by, entry_text, entry_of, entry_spelling, end_of}
+use Rattle.kcl_journal.specs.Entries.{end_spelling, heading}
 use Rattle.kcl_journal.specs.Ranges.{IsCounter, IsEntryLine, IsTellable, IsWorkerNo}
 use Rattle.kcl_journal.proofs.TextForms.{IsWithin, IsCounted, within_form}
-use Rattle.kcl_journal.proofs.EntryForms.{made_form, put_form, split_form, merged_form, kept_form, enforced_form, taken_form, written_form, read_form, marked_form, cut_form}
+use Rattle.kcl_journal.proofs.EntryForms.{made_form, put_form, split_form, merged_form, kept_form, enforced_form}
+use Rattle.kcl_journal.proofs.EntryForms.{taken_form, written_form, read_form, marked_form, cut_form}
 
 counter_is : (n : ℕ) → IsCounted n → IsCounter n
 counter_is n v = (v.0, omega (arith, v.1))
@@ -32,36 +35,56 @@ is_worker n v = (v.0, omega (arith, v.1))
 abbrev Spells : ℕ → List ℕ → List ℕ → Entry → Type 0
 Spells version word text e = IsTellable version e × (word ++ 32 ∷ text ≡ entry_text version e)
 
-spelled : {A : Type 0} {V : A → Type 0} {f : List ℕ → Option A} {s : A → List ℕ} → (version : ℕ) (w word : List ℕ) → IsForm V f s → (to : A → Entry)
-    → ((a : A) → V a → Spells version w (s a) (to a)) → (text : List ℕ) (e : Entry) → bytes_eq word w ≡ true → option_map to (f text) ≡ Some e → Spells version word text e
+spelled : {A : Type 0} {V : A → Type 0} {f : List ℕ → Option A} {s : A → List ℕ} → (version : ℕ) (w word : List ℕ)
+    → IsForm V f s → (to : A → Entry)
+    → ((a : A) → V a → Spells version w (s a) (to a)) → (text : List ℕ) (e : Entry) → bytes_eq word w ≡ true
+    → option_map to (f text) ≡ Some e → Spells version word text e
 spelled {A} {V} {f} {s} version w word form to each text e same h =
     let m = map_some to (f text) e h in
     let d = form.spells text m.0 m.1 in
     let k = each m.0 d.0 in
     let at_w : Spells version w text (to m.0) = (k.0, ap (λ z. w ++ 32 ∷ z) d.1 ∙ k.1) in
-    let at_word : Spells version word text (to m.0) = subst (λ (z : List ℕ). Spells version z text (to m.0)) (sym ((bytes_eq-Decides word w).0 same)) at_w in
+    let at_word : Spells version word text (to m.0) =
+    subst (λ (z : List ℕ). Spells version z text (to m.0)) (sym ((bytes_eq-Decides word w).0 same)) at_w in
     subst (λ (z : Entry). Spells version word text z) m.2 at_word
 
 lease_spells : (v : ℕ) (word text : List ℕ) (e : Entry) → lease_by word text ≡ Some e → Spells v word text e
-lease_spells v word text e h = choose (bytes_eq word (codes "lease")) _ _ e h (spelled v (codes "lease") word row_form _ (λ a v. (v, refl)) text e)
-    (λ h. choose (bytes_eq word (codes "taken")) _ _ e h (spelled v (codes "taken") word taken_form _ (λ a v. ((v.0, (v.1.0, (counter_is _ v.1.1.0, worker_is _ v.1.1.1))), refl)) text e)
-    (λ h. choose (bytes_eq word (codes "renewed")) _ _ e h (spelled v (codes "renewed") word written_form _ (λ a v. ((v.0, counter_is _ v.1), refl)) text e)
-    (λ h. choose (bytes_eq word (codes "freed")) _ _ e h (spelled v (codes "freed") word written_form _ (λ a v. ((v.0, counter_is _ v.1), refl)) text e)
-    (λ h. choose (bytes_eq word (codes "opened")) _ _ e h (spelled v (codes "opened") word number_form _ (λ a v. (v, refl)) text e)
-    (λ h. choose (bytes_eq word (codes "read")) _ _ e h (spelled v (codes "read") word read_form _ (λ a v. (v, refl)) text e)
-    (λ h. choose (bytes_eq word (codes "given")) _ _ e h (spelled v (codes "given") word number_form _ (λ a v. (v, refl)) text e)
-    (λ h. choose (bytes_eq word (codes "marked")) _ _ e h (spelled v (codes "marked") word marked_form _ (λ a v. ((v.0, (counter_is _ v.1.0, v.1.1)), refl)) text e)
-    (λ h. choose (bytes_eq word (codes "cut")) _ _ e h (spelled v (codes "cut") word cut_form _ (λ a v. (v, refl)) text e)
+lease_spells v word text e h =
+    choose (bytes_eq word (codes "lease")) _ _ e h (spelled v (codes "lease") word row_form _ (λ a v. (v, refl)) text e)
+    (λ h. choose (bytes_eq word (codes "taken")) _ _ e h
+    (spelled v (codes "taken") word taken_form _
+    (λ a v. ((v.0, (v.1.0, (counter_is _ v.1.1.0, worker_is _ v.1.1.1))), refl)) text e)
+    (λ h. choose (bytes_eq word (codes "renewed")) _ _ e h
+    (spelled v (codes "renewed") word written_form _ (λ a v. ((v.0, counter_is _ v.1), refl)) text e)
+    (λ h. choose (bytes_eq word (codes "freed")) _ _ e h
+    (spelled v (codes "freed") word written_form _ (λ a v. ((v.0, counter_is _ v.1), refl)) text e)
+    (λ h. choose (bytes_eq word (codes "opened")) _ _ e h
+    (spelled v (codes "opened") word number_form _ (λ a v. (v, refl)) text e)
+    (λ h. choose (bytes_eq word (codes "read")) _ _ e h
+    (spelled v (codes "read") word read_form _ (λ a v. (v, refl)) text e)
+    (λ h. choose (bytes_eq word (codes "given")) _ _ e h
+    (spelled v (codes "given") word number_form _ (λ a v. (v, refl)) text e)
+    (λ h. choose (bytes_eq word (codes "marked")) _ _ e h
+    (spelled v (codes "marked") word marked_form _ (λ a v. ((v.0, (counter_is _ v.1.0, v.1.1)), refl)) text e)
+    (λ h. choose (bytes_eq word (codes "cut")) _ _ e h
+    (spelled v (codes "cut") word cut_form _ (λ a v. (v, refl)) text e)
     (λ h. absurd (cc))))))))))
 
 by_spells : (v : ℕ) (word text : List ℕ) (e : Entry) → entry_by v word text ≡ Some e → Spells v word text e
-by_spells v word text e h = choose (bytes_eq word (codes "made")) _ _ e h (spelled v (codes "made") word made_form _ (λ a v. (v, refl)) text e)
-    (λ h. choose (bytes_eq word (codes "gone")) _ _ e h (spelled v (codes "gone") word number_form _ (λ a v. (v, refl)) text e)
-    (λ h. choose (bytes_eq word (codes "put")) _ _ e h (spelled v (codes "put") word (put_form v) _ (λ a v. (v, refl)) text e)
-    (λ h. choose (bytes_eq word (codes "split")) _ _ e h (spelled v (codes "split") word split_form _ (λ a v. (v, refl)) text e)
-    (λ h. choose (bytes_eq word (codes "merged")) _ _ e h (spelled v (codes "merged") word merged_form _ (λ a v. (v, refl)) text e)
-    (λ h. choose (bytes_eq word (codes "kept")) _ _ e h (spelled v (codes "kept") word kept_form _ (λ a v. (v, refl)) text e)
-    (λ h. choose (bytes_eq word (codes "enforced")) _ _ e h (spelled v (codes "enforced") word enforced_form _ (λ a v. (v.0, refl)) text e)
+by_spells v word text e h =
+    choose (bytes_eq word (codes "made")) _ _ e h (spelled v (codes "made") word made_form _ (λ a v. (v, refl)) text e)
+    (λ h. choose (bytes_eq word (codes "gone")) _ _ e h
+    (spelled v (codes "gone") word number_form _ (λ a v. (v, refl)) text e)
+    (λ h. choose (bytes_eq word (codes "put")) _ _ e h
+    (spelled v (codes "put") word (put_form v) _ (λ a v. (v, refl)) text e)
+    (λ h. choose (bytes_eq word (codes "split")) _ _ e h
+    (spelled v (codes "split") word split_form _ (λ a v. (v, refl)) text e)
+    (λ h. choose (bytes_eq word (codes "merged")) _ _ e h
+    (spelled v (codes "merged") word merged_form _ (λ a v. (v, refl)) text e)
+    (λ h. choose (bytes_eq word (codes "kept")) _ _ e h
+    (spelled v (codes "kept") word kept_form _ (λ a v. (v, refl)) text e)
+    (λ h. choose (bytes_eq word (codes "enforced")) _ _ e h
+    (spelled v (codes "enforced") word enforced_form _ (λ a v. (v.0, refl)) text e)
     (lease_spells v word text e)))))))
 
 -- what follows the actor
@@ -69,28 +92,40 @@ abbrev reading : ℕ → List ℕ → Option Entry
 reading v text = field text >>= λ p. entry_by v p.0 p.1
 
 what_again : (v : ℕ) (e : Entry) → IsTellable v e → reading v (entry_text v e) ≡ Some e
-what_again v (entry.Made s name count) t = ap (λ o. option_map (λ a. entry.Made a.0 a.1.0 a.1.1) o) (made_form.again (s, (name, count)) t)
+what_again v (entry.Made s name count) t =
+    ap (λ o. option_map (λ a. entry.Made a.0 a.1.0 a.1.1) o) (made_form.again (s, (name, count)) t)
 what_again v (entry.Gone s) t = ap (λ o. option_map (λ n. entry.Gone n) o) (number_form.again s t)
 what_again v (entry.Put s sh number hash bytes key_bytes) t =
-    ap (λ o. option_map (λ a. entry.Put a.0 a.1.0 a.1.1.0 a.1.1.1.0 a.1.1.1.1.0 a.1.1.1.1.1) o) ((put_form v).again (s, (sh, (number, (hash, (bytes, key_bytes))))) t)
+    ap (λ o. option_map (λ a. entry.Put a.0 a.1.0 a.1.1.0 a.1.1.1.0 a.1.1.1.1.0 a.1.1.1.1.1) o)
+    ((put_form v).again (s, (sh, (number, (hash, (bytes, key_bytes))))) t)
 what_again v (entry.Split s sh at number low high) t =
-    ap (λ o. option_map (λ a. entry.Split a.0 a.1.0 a.1.1.0 a.1.1.1.0 a.1.1.1.1.0 a.1.1.1.1.1) o) (split_form.again (s, (sh, (at, (number, (low, high))))) t)
+    ap (λ o. option_map (λ a. entry.Split a.0 a.1.0 a.1.1.0 a.1.1.1.0 a.1.1.1.1.0 a.1.1.1.1.1) o)
+    (split_form.again (s, (sh, (at, (number, (low, high))))) t)
 what_again v (entry.Merged s sh other number child) t =
-    ap (λ o. option_map (λ a. entry.Merged a.0 a.1.0 a.1.1.0 a.1.1.1.0 a.1.1.1.1) o) (merged_form.again (s, (sh, (other, (number, child)))) t)
+    ap (λ o. option_map (λ a. entry.Merged a.0 a.1.0 a.1.1.0 a.1.1.1.0 a.1.1.1.1) o)
+    (merged_form.again (s, (sh, (other, (number, child)))) t)
 what_again v (entry.Kept s hours) t = ap (λ o. option_map (λ a. entry.Kept a.0 a.1) o) (kept_form.again (s, hours) t)
-what_again v (entry.Enforced s on) t = ap (λ o. option_map (λ a. entry.Enforced a.0 a.1) o) (enforced_form.again (s, on) (t, tt))
-what_again v (entry.LeaseMade key from) t = ap (λ o. option_map (λ a. entry.LeaseMade a.0 a.1) o) (row_form.again (key, from) t)
+what_again v (entry.Enforced s on) t =
+    ap (λ o. option_map (λ a. entry.Enforced a.0 a.1) o) (enforced_form.again (s, on) (t, tt))
+what_again v (entry.LeaseMade key from) t =
+    ap (λ o. option_map (λ a. entry.LeaseMade a.0 a.1) o) (row_form.again (key, from) t)
 what_again v (entry.Taken key n counter owner) t =
-    ap (λ o. option_map (λ a. entry.Taken a.0 a.1.0 a.1.1.0 a.1.1.1) o) (taken_form.again (key, (n, (counter, owner))) (t.0, (t.1.0, (is_counter _ t.1.1.0, is_worker _ t.1.1.1))))
-what_again v (entry.Renewed n counter) t = ap (λ o. option_map (λ a. entry.Renewed a.0 a.1) o) (written_form.again (n, counter) (t.0, is_counter _ t.1))
-what_again v (entry.Freed n counter) t = ap (λ o. option_map (λ a. entry.Freed a.0 a.1) o) (written_form.again (n, counter) (t.0, is_counter _ t.1))
+    ap (λ o. option_map (λ a. entry.Taken a.0 a.1.0 a.1.1.0 a.1.1.1) o)
+    (taken_form.again (key, (n, (counter, owner))) (t.0, (t.1.0, (is_counter _ t.1.1.0, is_worker _ t.1.1.1))))
+what_again v (entry.Renewed n counter) t =
+    ap (λ o. option_map (λ a. entry.Renewed a.0 a.1) o) (written_form.again (n, counter) (t.0, is_counter _ t.1))
+what_again v (entry.Freed n counter) t =
+    ap (λ o. option_map (λ a. entry.Freed a.0 a.1) o) (written_form.again (n, counter) (t.0, is_counter _ t.1))
 what_again v (entry.Opened n) t = ap (λ o. option_map (λ n. entry.Opened n) o) (number_form.again n t)
 what_again v (entry.Read n limit ended numbers) t =
-    ap (λ o. option_map (λ a. entry.Read a.0 a.1.0 a.1.1.0 a.1.1.1) o) (read_form.again (n, (limit, (ended, numbers))) t)
+    ap (λ o. option_map (λ a. entry.Read a.0 a.1.0 a.1.1.0 a.1.1.1) o)
+    (read_form.again (n, (limit, (ended, numbers))) t)
 what_again v (entry.Given n) t = ap (λ o. option_map (λ n. entry.Given n) o) (number_form.again n t)
 what_again v (entry.Marked n counter to) t =
-    ap (λ o. option_map (λ a. entry.Marked a.0 a.1.0 a.1.1) o) (marked_form.again (n, (counter, to)) (t.0, (is_counter _ t.1.0, t.1.1)))
-what_again v (entry.LeaseCut key counter) t = ap (λ o. option_map (λ a. entry.LeaseCut a.0 a.1) o) (cut_form.again (key, counter) t)
+    ap (λ o. option_map (λ a. entry.Marked a.0 a.1.0 a.1.1) o)
+    (marked_form.again (n, (counter, to)) (t.0, (is_counter _ t.1.0, t.1.1)))
+what_again v (entry.LeaseCut key counter) t =
+    ap (λ o. option_map (λ a. entry.LeaseCut a.0 a.1) o) (cut_form.again (key, counter) t)
 
 -- ---- lines
 
@@ -98,7 +133,8 @@ abbrev actor_form : IsForm (IsWithin 0 greatest32) (within_of 0 greatest32) deci
 actor_form = within_form 0 greatest32 (omega arith)
 
 -- what is read is spelled so
-pub entry_spells : (v : ℕ) (text : List ℕ) (line : EntryLine) → entry_of v text ≡ Some line → IsEntryLine v line × (text ≡ entry_spelling v line)
+pub entry_spells : (v : ℕ) (text : List ℕ) (line : EntryLine) → entry_of v text ≡ Some line → IsEntryLine v line
+    × (text ≡ entry_spelling v line)
 unfolding entry_of
 entry_spells v text line h =
     let a = bind_some (field text) _ line h in
@@ -117,10 +153,13 @@ entry_spells v text line h =
     let same : read ≡ line = cc (g.2) in
     let valid : IsEntryLine v read = record { clock = m.0; by = omega (arith, w.0.1); what = k.0 } in
     let spelt : text ≡ entry_spelling v read =
-    fa.0 ∙ ap (λ z. z ++ 32 ∷ a.0.1) m.1 ∙ ap (λ z. decimal b.0 ++ 32 ∷ z) (fc.0 ∙ ap (λ z. z ++ 32 ∷ c.0.1) w.1 ∙ ap (λ z. decimal d.0 ++ 32 ∷ z) (ff.0 ∙ k.1)) in
+    fa.0 ∙ ap (λ z. z ++ 32 ∷ a.0.1) m.1
+    ∙ ap (λ z. decimal b.0 ++ 32 ∷ z) (fc.0 ∙ ap (λ z. z ++ 32 ∷ c.0.1) w.1
+    ∙ ap (λ z. decimal d.0 ++ 32 ∷ z) (ff.0 ∙ k.1)) in
     subst (λ (z : EntryLine). IsEntryLine v z × (text ≡ entry_spelling v z)) same (valid, spelt)
 
-bound_again : {A B C : Type 0} (o : Option A) (f : A → Option B) (g : B → C) (y : B) → (o >>= f) ≡ Some y → (o >>= λ x. f x >>= λ z. Some (g z)) ≡ Some (g y)
+bound_again : {A B C : Type 0} (o : Option A) (f : A → Option B) (g : B → C) (y : B) → (o >>= f) ≡ Some y
+    → (o >>= λ x. f x >>= λ z. Some (g z)) ≡ Some (g y)
 bound_again None f g y h = absurd (cc)
 bound_again (Some x) f g y h = ap (λ (w : _). w >>= λ z. Some (g z)) h
 
@@ -130,11 +169,14 @@ unfolding entry_of
 entry_again v line t =
     let make : Entry → EntryLine = λ e. record { clock = line.clock; by = line.by; what = e } in
     rw (
-      parted_at 32 (decimal line.clock) (decimal line.by ++ 32 ∷ entry_text v line.what) (decimal_lacks 32 line.clock refl (omega (arith, t.clock))) refl,
+      parted_at 32 (decimal line.clock) (decimal line.by ++ 32 ∷ entry_text v line.what)
+          (decimal_lacks 32 line.clock refl (omega (arith, t.clock))) refl,
       moment_form.again line.clock t.clock,
-      parted_at 32 (decimal line.by) (entry_text v line.what) (decimal_lacks 32 line.by refl (omega (arith, t.by))) refl,
+      parted_at 32 (decimal line.by) (entry_text v line.what) (decimal_lacks 32 line.by refl (omega (arith, t.by)))
+          refl,
       actor_form.again line.by (omega arith, omega (arith, t.by)),
-    ) (bound_again (field (entry_text v line.what)) (λ p. entry_by v p.0 p.1) make line.what (what_again v line.what t.what))
+    ) (bound_again (field (entry_text v line.what)) (λ p. entry_by v p.0 p.1) make line.what
+    (what_again v line.what t.what))
 
 -- ---- the last line
 
@@ -145,8 +187,11 @@ end_spells text clock h =
     choose (bytes_eq a.0.0 (codes "end")) _ _ clock a.2
     (λ same e.
     let m = moment_form.spells a.0.1 clock e in
-    let p = parted_spells 32 text a.0 a.1 in
-    (m.0, p.0 ∙ ap (λ z. z ++ 32 ∷ a.0.1) ((bytes_eq-Decides a.0.0 (codes "end")).0 same) ∙ ap (λ z. codes "end " ++ z) m.1))
+    let p = parted_spells 32 text a.0 a.1 in (
+      m.0,
+      p.0 ∙ ap (λ z. z ++ 32 ∷ a.0.1) ((bytes_eq-Decides a.0.0 (codes "end")).0 same)
+          ∙ ap (λ z. codes "end " ++ z) m.1,
+    ))
     (λ h. absurd (cc))
 
 pub end_again : (clock : ℕ) → clock < 2 ^ 62 → end_of (end_spelling clock) ≡ Some clock

@@ -1,5 +1,6 @@
 -- No line of a journal has a line feed in it.
-use Rattle.std.proofs.Common.{◌≡◌, ℕ, ◌<◌, ◌^◌, List, [], ◌∷◌, ◌++◌, Bool, true, false, refl, arith, rules, codes, decimal}
+use Rattle.std.proofs.Common.{◌≡◌, ℕ, ◌<◌, ◌^◌, List, [], ◌∷◌, ◌++◌, Bool, true, false, refl, arith, rules, codes}
+use Rattle.std.proofs.Common.{decimal}
 use Rattle.std.specs.Prelude.{◌==◌, not}
 use Rattle.std.specs.List.{AllByRecursion, list_all}
 use Rattle.kds_base.specs.declared.lease_key.ShardRef.{ShardRef}
@@ -15,7 +16,8 @@ use Rattle.kcl_script_fields.specs.Origins.{IsOrigin, origin_text}
 use Rattle.kcl_script_fields.proofs.Forms.{decimal_lacks}
 use Rattle.kcl_script_fields.proofs.Parts.{kind_lacks, lacks-append}
 use Rattle.kcl_journal.specs.declared.line.EntryLine.{EntryLine}
-use Rattle.kcl_journal.specs.Entries.{end_spelling, ended_text, entry_spelling, entry_text, numbers_text, sizes_text_by, switch_text}
+use Rattle.kcl_journal.specs.Entries.{end_spelling, ended_text, entry_spelling, entry_text, numbers_text, sizes_text_by}
+use Rattle.kcl_journal.specs.Entries.{switch_text}
 use Rattle.kcl_journal.specs.Ranges.{AreSizesBy, Is64, IsEntryLine, IsTellable}
 use Rattle.kcl_journal.proofs.TextForms.{hash_without, name_without}
 
@@ -38,9 +40,12 @@ number n small = decimal_lacks 10 n refl small
 key : (k : ShardRef) → IsKey k → Lacks 10 (key_text k)
 key k v = lacks-append 10 (decimal k.stream) (47 ∷ decimal k.shard) (number k.stream v.0) (refl, number k.shard v.1)
 
-sizes : (first : Bool) (bytes key_bytes : ℕ) → AreSizesBy first bytes key_bytes → Lacks 10 (sizes_text_by first (bytes, key_bytes))
+sizes : (first : Bool) (bytes key_bytes : ℕ) → AreSizesBy first bytes key_bytes
+    → Lacks 10 (sizes_text_by first (bytes, key_bytes))
 sizes true bytes key_bytes v = number bytes (omega (arith, v.0))
-sizes false bytes key_bytes v = spaced (decimal bytes) (decimal key_bytes) (number bytes (omega (arith, v.1))) (number key_bytes (omega (arith, v.0.1)))
+sizes false bytes key_bytes v =
+    spaced (decimal bytes) (decimal key_bytes) (number bytes (omega (arith, v.1)))
+    (number key_bytes (omega (arith, v.0.1)))
 
 switch : (on : Bool) → Lacks 10 (switch_text on)
 switch true = word (codes "on") refl
@@ -65,11 +70,26 @@ batch (n ∷ ns) v = lacks-append 10 (32 ∷ decimal n) (numbers_text ns) (refl,
 
 what_lacks : (v : ℕ) (e : Entry) → IsTellable v e → Lacks 10 (entry_text v e)
 what_lacks v (entry.Gone s) t = after (codes "gone ") _ refl (number s t)
-what_lacks v _ t = search (rules, spaced, number, key, sizes, switch, from_text, target_lacks, end_or_more, batch, name_without, hash_without, lacks-append)
+what_lacks v _ t = search (
+  rules,
+  spaced,
+  number,
+  key,
+  sizes,
+  switch,
+  from_text,
+  target_lacks,
+  end_or_more,
+  batch,
+  name_without,
+  hash_without,
+  lacks-append,
+)
 
 pub entry_lacks : (v : ℕ) (line : EntryLine) → IsEntryLine v line → Lacks 10 (entry_spelling v line)
 entry_lacks v line t =
-    spaced (decimal line.clock) _ (number line.clock (omega (arith, t.clock))) (spaced (decimal line.by) _ (number line.by (omega (arith, t.by))) (what_lacks v line.what t.what))
+    spaced (decimal line.clock) _ (number line.clock (omega (arith, t.clock)))
+    (spaced (decimal line.by) _ (number line.by (omega (arith, t.by))) (what_lacks v line.what t.what))
 
 pub end_lacks : (clock : ℕ) → clock < 2 ^ 62 → Lacks 10 (end_spelling clock)
 end_lacks clock small = after (codes "end ") (decimal clock) refl (number clock (omega (arith, small)))

@@ -1,5 +1,6 @@
 -- A number in a range, a hash key, a name, a switch and the sizes of a put each have one text.
-use Rattle.std.proofs.Common.{◌≡◌, ℕ, ◌+◌, ◌<◌, ◌≤◌, ◌^◌, List, ◌∷◌, ◌++◌, Bool, true, false, Option, Some, None, refl, sym, ap, ◌∙◌, arith, codes, decimal, inl, inr, subst}
+use Rattle.std.proofs.Common.{◌≡◌, ℕ, ◌+◌, ◌<◌, ◌≤◌, ◌^◌, List, ◌∷◌, ◌++◌, Bool, true, false, Option, Some, None, refl}
+use Rattle.std.proofs.Common.{sym, ap, ◌∙◌, arith, codes, decimal, inl, inr, subst}
 use Rattle.std.proofs.lemmas.Grind.{common_steps}
 use Rattle.std.proofs.lemmas.Bool.{cases_Bool, and_parts}
 use Rattle.std.proofs.lemmas.Slice.Eq.{bytes_eq-Decides}
@@ -8,14 +9,16 @@ use Rattle.std.specs.Prelude.{◌&&◌, if◌then◌else◌, option_map, option_
 use Rattle.std.specs.Str.{bytes_eq}
 use Rattle.kds_base.specs.Names.{IsName, is_name, is_name_byte, name_of}
 use Rattle.kds_base.specs.NumberText.{number_of}
-use Rattle.kds_base.proofs.NumberLemmas.{decimal_of_number, decimal_plain, few_digits, fits, number_of_decimal, plain_digits, reads, spells}
+use Rattle.kds_base.proofs.NumberLemmas.{decimal_of_number, decimal_plain, few_digits, fits, number_of_decimal}
+use Rattle.kds_base.proofs.NumberLemmas.{plain_digits, reads, spells}
 use Rattle.kds_defs.specs.declared.limits.TheConstants.{RECORD_BYTES}
 use Rattle.kcl_script_fields.specs.Fields.{Lacks, two}
 use Rattle.kcl_script_fields.proofs.Forms.{IsForm, decimal_lacks, two_form}
 use Rattle.kcl_script_fields.proofs.Parts.{kind_lacks, map_some}
 use Rattle.kcl_script_fields.proofs.RawLemmas.{choose}
 use Rattle.kcl_journal.specs.declared.line.TheConstants.{FIRST_RECORD_BYTES, KEY_BYTES}
-use Rattle.kcl_journal.specs.Entries.{counter_of, fitting, greatest64, hash_of, sizes_by, sizes_text_by, switch_of, switch_text, within, within_of}
+use Rattle.kcl_journal.specs.Entries.{counter_of, fitting, greatest64, hash_of, sizes_by, sizes_text_by, switch_of}
+use Rattle.kcl_journal.specs.Entries.{switch_text, within, within_of}
 use Rattle.kcl_journal.specs.Ranges.{AreSizesBy, Is64, IsHash}
 
 -- ---- numbers in a range
@@ -25,14 +28,16 @@ IsWithin least most n = (least ≤ n) × (n ≤ most)
 
 within_is : (least most n m : ℕ) → within least most n ≡ Some m → (n ≡ m) × IsWithin least most n
 within_is least most n m h = elim (cases_Bool (nat_le least n && nat_le n most)) [
-  | inl inside ↦ let e : Some n ≡ Some m = rw inside at h in let same : n ≡ m = cc in (same, (grind (arith, common_steps), grind (arith, common_steps)))
+  | inl inside ↦ let e : Some n ≡ Some m = rw inside at h in let same : n ≡ m = cc in
+      (same, (grind (arith, common_steps), grind (arith, common_steps)))
   | inr beyond ↦ let e : None ≡ Some m = rw beyond at h in absurd (cc)
 ]
 
 within_again : (least most n : ℕ) → IsWithin least most n → within least most n ≡ Some n
 within_again least most n v = grind (arith, common_steps, v.0, v.1)
 
-within_of_text : (least most : ℕ) (o : Option ℕ) (text : List ℕ) (m : ℕ) → number_of 64 text ≡ o → option_and_then (within least most) o ≡ Some m → IsWithin least most m × (text ≡ decimal m)
+within_of_text : (least most : ℕ) (o : Option ℕ) (text : List ℕ) (m : ℕ) → number_of 64 text ≡ o
+    → option_and_then (within least most) o ≡ Some m → IsWithin least most m × (text ≡ decimal m)
 within_of_text least most None text m e h = absurd (cc)
 within_of_text least most (Some n) text m e h =
     let t = within_is least most n m h in
@@ -42,7 +47,8 @@ within_of_text least most (Some n) text m e h =
 pub within_form : (least most : ℕ) → most < 2 ^ 64 → IsForm (IsWithin least most) (within_of least most) decimal
 within_form least most small = record {
   spells = λ text m h. within_of_text least most (number_of 64 text) text m refl h;
-  again = λ m v. ap (option_and_then (within least most)) (number_of_decimal m (omega (arith, v.1))) ∙ within_again least most m v;
+  again = λ m v. ap (option_and_then (within least most)) (number_of_decimal m (omega (arith, v.1)))
+      ∙ within_again least most m v;
 }
 
 pub within_lacks : (least most : ℕ) → most < 2 ^ 64 → (n : ℕ) → IsWithin least most n → Lacks 32 (decimal n)
@@ -71,14 +77,16 @@ hash_form = record {
 -- a byte that is no digit
 pub hash_without : (sep n : ℕ) → is_ascii_digit sep ≡ false → IsHash n → Lacks sep (decimal n)
 hash_without sep n other small =
-    kind_lacks is_ascii_digit sep (decimal n) other (plain_digits (decimal n) (decimal_plain n (few_digits 128 n (omega arith) small))).0
+    kind_lacks is_ascii_digit sep (decimal n) other
+    (plain_digits (decimal n) (decimal_plain n (few_digits 128 n (omega arith) small))).0
 
 pub hash_lacks : (n : ℕ) → IsHash n → Lacks 32 (decimal n)
 hash_lacks n small = hash_without 32 n refl small
 
 -- ---- names
 
-name_is : (c : Bool) (text name : List ℕ) → is_name text ≡ c → (if c then Some text else None) ≡ Some name → IsName name × (text ≡ name)
+name_is : (c : Bool) (text name : List ℕ) → is_name text ≡ c → (if c then Some text else None) ≡ Some name
+    → IsName name × (text ≡ name)
 name_is false text name c h = absurd (cc)
 name_is true text name c h = let same : text ≡ name = cc in (subst (λ (z : List ℕ). IsName z) same c, same)
 
@@ -118,7 +126,8 @@ switch_form = record { spells = switch_spells; again = switch_again }
 
 -- ---- the sizes of a put
 
-fitting_is : (o : Option (ℕ × ℕ)) (p : ℕ × ℕ) → option_and_then fitting o ≡ Some p → (o ≡ Some p) × (p.0 + p.1 ≤ RECORD_BYTES)
+fitting_is : (o : Option (ℕ × ℕ)) (p : ℕ × ℕ) → option_and_then fitting o ≡ Some p
+    → (o ≡ Some p) × (p.0 + p.1 ≤ RECORD_BYTES)
 fitting_is None p h = absurd (cc)
 fitting_is (Some q) p h = elim (cases_Bool (nat_le (q.0 + q.1) RECORD_BYTES)) [
   | inl fit ↦
@@ -132,14 +141,17 @@ fitting_is (Some q) p h = elim (cases_Bool (nat_le (q.0 + q.1) RECORD_BYTES)) [
 fitting_again : (p : ℕ × ℕ) → p.0 + p.1 ≤ RECORD_BYTES → fitting p ≡ Some p
 fitting_again p few = grind (arith, common_steps, few)
 
-both_form : IsForm (λ (p : ℕ × ℕ). IsWithin 0 RECORD_BYTES p.0 × IsWithin 1 KEY_BYTES p.1) (two 32 (within_of 0 RECORD_BYTES) (within_of 1 KEY_BYTES))
+both_form : IsForm (λ (p : ℕ × ℕ). IsWithin 0 RECORD_BYTES p.0 × IsWithin 1 KEY_BYTES p.1)
+    (two 32 (within_of 0 RECORD_BYTES) (within_of 1 KEY_BYTES))
     (λ (p : ℕ × ℕ). decimal p.0 ++ 32 ∷ decimal p.1)
-both_form = two_form 32 refl (within_lacks 0 RECORD_BYTES (omega arith)) (within_form 0 RECORD_BYTES (omega arith)) (within_form 1 KEY_BYTES (omega arith))
+both_form = two_form 32 refl (within_lacks 0 RECORD_BYTES (omega arith)) (within_form 0 RECORD_BYTES (omega arith))
+    (within_form 1 KEY_BYTES (omega arith))
 
 alone_form : IsForm (IsWithin 0 FIRST_RECORD_BYTES) (within_of 0 FIRST_RECORD_BYTES) decimal
 alone_form = within_form 0 FIRST_RECORD_BYTES (omega arith)
 
-sizes_spell : (first : Bool) (text : List ℕ) (p : ℕ × ℕ) → sizes_by first text ≡ Some p → AreSizesBy first p.0 p.1 × (text ≡ sizes_text_by first p)
+sizes_spell : (first : Bool) (text : List ℕ) (p : ℕ × ℕ) → sizes_by first text ≡ Some p → AreSizesBy first p.0 p.1
+    × (text ≡ sizes_text_by first p)
 sizes_spell true text p h =
     let m = map_some (λ (n : ℕ). let q : ℕ × ℕ = (n, 0) in q) (within_of 0 FIRST_RECORD_BYTES text) p h in
     let d = alone_form.spells text m.0 m.1 in
@@ -151,8 +163,11 @@ sizes_spell false text p h =
 
 sizes_again : (first : Bool) (p : ℕ × ℕ) → AreSizesBy first p.0 p.1 → sizes_by first (sizes_text_by first p) ≡ Some p
 sizes_again true p v =
-    ap (option_map (λ (n : ℕ). let q : ℕ × ℕ = (n, 0) in q)) (alone_form.again p.0 (omega arith, v.0)) ∙ (λ i. Some (p.0, sym v.1 i))
-sizes_again false p v = ap (option_and_then fitting) (both_form.again p ((omega arith, omega (arith, v.1)), v.0)) ∙ fitting_again p v.1
+    ap (option_map (λ (n : ℕ). let q : ℕ × ℕ = (n, 0) in q)) (alone_form.again p.0 (omega arith, v.0))
+    ∙ (λ i. Some (p.0, sym v.1 i))
+sizes_again false p v = ap (option_and_then fitting) (both_form.again p ((omega arith, omega (arith, v.1)), v.0))
+    ∙ fitting_again p v.1
 
-pub sizes_form : (first : Bool) → IsForm (λ (p : ℕ × ℕ). AreSizesBy first p.0 p.1) (sizes_by first) (sizes_text_by first)
+pub sizes_form : (first : Bool)
+    → IsForm (λ (p : ℕ × ℕ). AreSizesBy first p.0 p.1) (sizes_by first) (sizes_text_by first)
 sizes_form first = record { spells = sizes_spell first; again = sizes_again first }

@@ -1,5 +1,6 @@
 -- The words of a text, which single spaces part.
-use Rattle.std.proofs.Common.{◌≡◌, ℕ, ◌<◌, List, [], ◌∷◌, ◌++◌, length, map, arith, Bool, true, false, Option, Some, None, refl, sym, ap, ◌∙◌, codes, decimal, subst}
+use Rattle.std.proofs.Common.{◌≡◌, ℕ, ◌<◌, List, [], ◌∷◌, ◌++◌, length, map, arith, Bool, true, false, Option, Some}
+use Rattle.std.proofs.Common.{None, refl, sym, ap, ◌∙◌, codes, decimal, subst}
 use Rattle.std.proofs.lemmas.List.{append_assoc, append-nil, length-append}
 use Rattle.std.proofs.lemmas.List.Splits.{join_with_byte-slice_split}
 use Rattle.std.specs.List.{AllByRecursion, join_with_byte}
@@ -30,7 +31,9 @@ nowhere_rest b None h = refl
 nowhere_rest b (Some q) h = absurd (cc)
 
 nowhere_cases : (c : Bool) (b : ℕ) (bs : List ℕ) → (b == 32) ≡ c → (parted 32 bs ≡ None → Lacks 32 bs)
-    → ◌≡◌ {A = Option (List ℕ × List ℕ)} (if◌then◌else◌ {A = Option (List ℕ × List ℕ)} c (Some ([], bs)) (onto b (parted 32 bs))) None → ((b == 32) ≡ false) × Lacks 32 bs
+    → ◌≡◌ {A = Option (List ℕ × List ℕ)}
+    (if◌then◌else◌ {A = Option (List ℕ × List ℕ)} c (Some ([], bs)) (onto b (parted 32 bs))) None
+    → ((b == 32) ≡ false) × Lacks 32 bs
 nowhere_cases true b bs c f h = absurd (cc)
 nowhere_cases false b bs c f h = (c, f (nowhere_rest b (parted 32 bs) h))
 
@@ -48,7 +51,8 @@ words_nowhere text h = words_whole text (nowhere_lacks text h)
 
 -- ---- numbers
 
-numbers_spell : (ws : List (List ℕ)) (ns : List ℕ) → numbers_of ws ≡ Some ns → AllByRecursion Is64 ns × (ws ≡ map decimal ns)
+numbers_spell : (ws : List (List ℕ)) (ns : List ℕ) → numbers_of ws ≡ Some ns → AllByRecursion Is64 ns
+    × (ws ≡ map decimal ns)
 numbers_spell [] ns h =
     let same : [] ≡ ns = cc in
     subst (λ (z : List ℕ). AllByRecursion Is64 z × ([] ≡ map decimal z)) same (tt, refl)
@@ -86,9 +90,12 @@ joined : (w : List ℕ) (ns : List ℕ) → join_with_byte 32 (w ∷ map decimal
 joined w [] = sym (append-nil w)
 joined w (n ∷ ns) = ap (λ z. w ++ 32 ∷ z) (joined (decimal n) ns)
 
-parted_words : (w : List ℕ) (ns : List ℕ) → Lacks 32 w → AllByRecursion Is64 ns → words (w ++ numbers_text ns) ≡ w ∷ map decimal ns
+parted_words : (w : List ℕ) (ns : List ℕ) → Lacks 32 w → AllByRecursion Is64 ns
+    → words (w ++ numbers_text ns) ≡ w ∷ map decimal ns
 parted_words w [] l v = ap words (append-nil w) ∙ words_whole w l
-parted_words w (n ∷ ns) l v = words_found w (decimal n ++ numbers_text ns) l ∙ ap (λ z. w ∷ z) (parted_words (decimal n) ns (decimal_lacks 32 n refl v.0) v.1)
+parted_words w (n ∷ ns) l v =
+    words_found w (decimal n ++ numbers_text ns) l
+    ∙ ap (λ z. w ∷ z) (parted_words (decimal n) ns (decimal_lacks 32 n refl v.0) v.1)
 
 abbrev pub IsBatch : Bool × List ℕ → Type 0
 IsBatch a = AllByRecursion Is64 a.1
@@ -96,19 +103,25 @@ IsBatch a = AllByRecursion Is64 a.1
 abbrev pub batch_text : Bool × List ℕ → List ℕ
 batch_text a = ended_text a.0 ++ numbers_text a.1
 
-spelled_from : (ws : List (List ℕ)) (text : List ℕ) (a : Bool × List ℕ) → join_with_byte 32 ws ≡ text → batch_from ws ≡ Some a → IsBatch a × (text ≡ batch_text a)
+spelled_from : (ws : List (List ℕ)) (text : List ℕ) (a : Bool × List ℕ) → join_with_byte 32 ws ≡ text
+    → batch_from ws ≡ Some a → IsBatch a × (text ≡ batch_text a)
 spelled_from [] text a j h = absurd (cc)
 spelled_from (w ∷ ws) text a j h =
     let e = bind_some (ended_of w) _ a h in
     let m = map_some (λ (ns : List ℕ). (e.0, ns)) (numbers_of ws) a e.2 in
     let n = numbers_spell ws m.0 m.1 in
     let is : w ∷ ws ≡ ended_text e.0 ∷ map decimal m.0 = λ i. ended_spells w e.0 e.1 i ∷ n.1 i in
-    subst (λ (z : Bool × List ℕ). IsBatch z × (text ≡ batch_text z)) m.2 (n.0, sym j ∙ ap (join_with_byte 32) is ∙ joined (ended_text e.0) m.0)
+    subst (λ (z : Bool × List ℕ). IsBatch z × (text ≡ batch_text z)) m.2 (
+      n.0,
+      sym j ∙ ap (join_with_byte 32) is
+          ∙ joined (ended_text e.0) m.0,
+    )
 
 pub batch_form : IsForm IsBatch batch_of batch_text
 batch_form = record {
   spells = λ text a h. spelled_from (words text) text a (join_with_byte-slice_split 32 text) h;
-  again = λ a v. ap batch_from (parted_words (ended_text a.0) a.1 (ended_lacks a.0) v) ∙ rw (ended_again a.0, numbers_again a.1 v) refl;
+  again = λ a v. ap batch_from (parted_words (ended_text a.0) a.1 (ended_lacks a.0) v)
+      ∙ rw (ended_again a.0, numbers_again a.1 v) refl;
 }
 
 -- ---- as a loop finds them
@@ -117,22 +130,27 @@ batch_form = record {
 abbrev pub with_front : List ℕ → Option (List ℕ) → Option (List ℕ)
 with_front ns o = option_map (λ ms. ns ++ ms) o
 
-fronts : (ns : List ℕ) (n : ℕ) (o : Option (List ℕ)) → with_front ns (option_map (λ (ms : List ℕ). n ∷ ms) o) ≡ with_front (ns ++ n ∷ []) o
+fronts : (ns : List ℕ) (n : ℕ) (o : Option (List ℕ)) → with_front ns (option_map (λ (ms : List ℕ). n ∷ ms) o)
+    ≡ with_front (ns ++ n ∷ []) o
 fronts ns n None = refl
 fronts ns n (Some ms) = ap (λ z. Some z) (sym (append_assoc ns (n ∷ []) ms))
 
-pub more_numbers : (ns : List ℕ) (n : ℕ) (text : List ℕ) (p : List ℕ × List ℕ) → parted 32 text ≡ Some p → number p.0 ≡ Some n
+pub more_numbers : (ns : List ℕ) (n : ℕ) (text : List ℕ) (p : List ℕ × List ℕ) → parted 32 text ≡ Some p
+    → number p.0 ≡ Some n
     → with_front ns (numbers_of (words text)) ≡ with_front (ns ++ n ∷ []) (numbers_of (words p.1))
 more_numbers ns n text p h is = rw (words_parted text p h, is) (fronts ns n (numbers_of (words p.1)))
 
 -- a word that is no number
-pub no_numbers : (ns : List ℕ) (text : List ℕ) (p : List ℕ × List ℕ) → parted 32 text ≡ Some p → number p.0 ≡ None → with_front ns (numbers_of (words text)) ≡ None
+pub no_numbers : (ns : List ℕ) (text : List ℕ) (p : List ℕ × List ℕ) → parted 32 text ≡ Some p → number p.0 ≡ None
+    → with_front ns (numbers_of (words text)) ≡ None
 no_numbers ns text p h is = rw (words_parted text p h, is) refl
 
-pub last_number : (ns : List ℕ) (n : ℕ) (text : List ℕ) → parted 32 text ≡ None → number text ≡ Some n → with_front ns (numbers_of (words text)) ≡ Some (ns ++ n ∷ [])
+pub last_number : (ns : List ℕ) (n : ℕ) (text : List ℕ) → parted 32 text ≡ None → number text ≡ Some n
+    → with_front ns (numbers_of (words text)) ≡ Some (ns ++ n ∷ [])
 last_number ns n text h is = rw (words_nowhere text h, is) refl
 
-pub no_last : (ns : List ℕ) (text : List ℕ) → parted 32 text ≡ None → number text ≡ None → with_front ns (numbers_of (words text)) ≡ None
+pub no_last : (ns : List ℕ) (text : List ℕ) → parted 32 text ≡ None → number text ≡ None
+    → with_front ns (numbers_of (words text)) ≡ None
 no_last ns text h is = rw (words_nowhere text h, is) refl
 
 pub shorter : (text : List ℕ) (p : List ℕ × List ℕ) → parted 32 text ≡ Some p → length p.1 < length text
@@ -142,13 +160,16 @@ shorter text p h =
 
 -- ---- a batch by its first word
 
-pub batch_alone : (text : List ℕ) (o : Option Bool) → parted 32 text ≡ None → ended_of text ≡ o → batch_of text ≡ option_map (λ (b : Bool). let a : Bool × List ℕ = (b, []) in a) o
+pub batch_alone : (text : List ℕ) (o : Option Bool) → parted 32 text ≡ None → ended_of text ≡ o
+    → batch_of text ≡ option_map (λ (b : Bool). let a : Bool × List ℕ = (b, []) in a) o
 batch_alone text None h e = rw (words_nowhere text h, e) refl
 batch_alone text (Some b) h e = rw (words_nowhere text h, e) refl
 
-pub batch_unended : (text : List ℕ) (p : List ℕ × List ℕ) → parted 32 text ≡ Some p → ended_of p.0 ≡ None → batch_of text ≡ None
+pub batch_unended : (text : List ℕ) (p : List ℕ × List ℕ) → parted 32 text ≡ Some p → ended_of p.0 ≡ None
+    → batch_of text ≡ None
 batch_unended text p h e = rw (words_parted text p h, e) refl
 
-pub batch_parts : (text : List ℕ) (p : List ℕ × List ℕ) (ended : Bool) (o : Option (List ℕ)) → parted 32 text ≡ Some p → ended_of p.0 ≡ Some ended → numbers_of (words p.1) ≡ o
+pub batch_parts : (text : List ℕ) (p : List ℕ × List ℕ) (ended : Bool) (o : Option (List ℕ)) → parted 32 text ≡ Some p
+    → ended_of p.0 ≡ Some ended → numbers_of (words p.1) ≡ o
     → batch_of text ≡ option_map (λ (ns : List ℕ). let a : Bool × List ℕ = (ended, ns) in a) o
 batch_parts text p ended o h e n = rw (words_parted text p h, e, n) refl

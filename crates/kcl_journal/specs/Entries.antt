@@ -1,14 +1,17 @@
 -- The lines of a journal as text, in its first version and in the second.
-use Rattle.std.specs.Prelude.{◌≡◌, ◌⊎◌, ℕ, ◌+◌, ◌-◌, ◌^◌, List, [], ◌∷◌, ◌++◌, codes, decimal, flat_map, Bool, true, false, ◌&&◌, ◌==◌, nat_le, if◌then◌else◌, Option, Some, None, option_map, option_and_then}
+use Rattle.std.specs.Prelude.{◌≡◌, ◌⊎◌, ℕ, ◌+◌, ◌-◌, ◌^◌, List, [], ◌∷◌, ◌++◌, codes, decimal, flat_map, Bool, true}
+use Rattle.std.specs.Prelude.{false, ◌&&◌, ◌==◌, nat_le, if◌then◌else◌, Option, Some, None, option_map, option_and_then}
 use Rattle.std.specs.List.{slice_split}
 use Rattle.std.specs.Str.{bytes_eq}
 use Rattle.kds_base.specs.Names.{name_of}
 use Rattle.kds_base.specs.NumberText.{number_of}
 use Rattle.kds_defs.specs.declared.entry.Entry.{Entry}
 use Rattle.kds_defs.specs.declared.entry.Entry.TheVariants as entry
-use Rattle.kds_defs.specs.declared.limits.TheConstants.{MOST, LEAST_SHARDS, MOST_SHARDS, LEAST_HOURS, MOST_HOURS, RECORD_BYTES}
+use Rattle.kds_defs.specs.declared.limits.TheConstants.{MOST, LEAST_SHARDS, MOST_SHARDS, LEAST_HOURS, MOST_HOURS}
+use Rattle.kds_defs.specs.declared.limits.TheConstants.{RECORD_BYTES}
 use Rattle.kcl_script_fields.specs.Commands.{row_of, target_of, target_text}
-use Rattle.kcl_script_fields.specs.Fields.{◌>>=◌, field, two, moment_of, number, greatest32, worker_of, worker_text, key_of, key_text}
+use Rattle.kcl_script_fields.specs.Fields.{◌>>=◌, field, two, moment_of, number, greatest32, worker_of, worker_text}
+use Rattle.kcl_script_fields.specs.Fields.{key_of, key_text}
 use Rattle.kcl_script_fields.specs.Origins.{origin_text}
 use Rattle.kcl_journal.specs.declared.line.EntryLine.{EntryLine}
 use Rattle.kcl_journal.specs.declared.line.TheConstants.{FIRST_RECORD_BYTES, FIRST_VERSION, KEY_BYTES, VERSION}
@@ -106,7 +109,8 @@ numbers_text ns = flat_map (λ n. 32 ∷ decimal n) ns
 
 -- `made STREAM NAME SHARDS`
 abbrev pub made_of : List ℕ → Option Entry
-made_of text = option_map (λ a. entry.Made a.0 a.1.0 a.1.1) (two 32 number (two 32 name_of (within_of LEAST_SHARDS MOST_SHARDS)) text)
+made_of text = option_map (λ a. entry.Made a.0 a.1.0 a.1.1)
+    (two 32 number (two 32 name_of (within_of LEAST_SHARDS MOST_SHARDS)) text)
 
 -- `gone STREAM`
 abbrev pub gone_of : List ℕ → Option Entry
@@ -145,7 +149,8 @@ lease_of text = option_map (λ a. entry.LeaseMade a.0 a.1) (row_of text)
 -- `taken KEY TENURE COUNTER wN`
 abbrev pub taken_of : List ℕ → Option Entry
 taken_of text =
-    option_map (λ a. entry.Taken a.0 a.1.0 a.1.1.0 a.1.1.1) (two 32 key_of (two 32 number (two 32 counter_of worker_of)) text)
+    option_map (λ a. entry.Taken a.0 a.1.0 a.1.1.0 a.1.1.1)
+    (two 32 key_of (two 32 number (two 32 counter_of worker_of)) text)
 
 -- `renewed T C`
 abbrev pub renewed_of : List ℕ → Option Entry
@@ -207,11 +212,15 @@ abbrev pub entry_text : ℕ → Entry → List ℕ
 entry_text version (entry.Made s name count) = codes "made " ++ (decimal s ++ 32 ∷ (name ++ 32 ∷ decimal count))
 entry_text version (entry.Gone s) = codes "gone " ++ decimal s
 entry_text version (entry.Put s sh number hash bytes key_bytes) =
-    codes "put " ++ (decimal s ++ 32 ∷ (decimal sh ++ 32 ∷ (decimal number ++ 32 ∷ (decimal hash ++ 32 ∷ sizes_text version (bytes, key_bytes)))))
+    codes "put " ++ (decimal s
+    ++ 32 ∷ (decimal sh ++ 32
+    ∷ (decimal number ++ 32 ∷ (decimal hash ++ 32 ∷ sizes_text version (bytes, key_bytes)))))
 entry_text version (entry.Split s sh at number low high) =
-    codes "split " ++ (decimal s ++ 32 ∷ (decimal sh ++ 32 ∷ (decimal at ++ 32 ∷ (decimal number ++ 32 ∷ (decimal low ++ 32 ∷ decimal high)))))
+    codes "split " ++ (decimal s
+    ++ 32 ∷ (decimal sh ++ 32 ∷ (decimal at ++ 32 ∷ (decimal number ++ 32 ∷ (decimal low ++ 32 ∷ decimal high)))))
 entry_text version (entry.Merged s sh other number child) =
-    codes "merged " ++ (decimal s ++ 32 ∷ (decimal sh ++ 32 ∷ (decimal other ++ 32 ∷ (decimal number ++ 32 ∷ decimal child))))
+    codes "merged " ++ (decimal s
+    ++ 32 ∷ (decimal sh ++ 32 ∷ (decimal other ++ 32 ∷ (decimal number ++ 32 ∷ decimal child))))
 entry_text version (entry.Kept s hours) = codes "kept " ++ (decimal s ++ 32 ∷ decimal hours)
 entry_text version (entry.Enforced s on) = codes "enforced " ++ (decimal s ++ 32 ∷ switch_text on)
 entry_text version (entry.LeaseMade key from) = codes "lease " ++ (key_text key ++ origin_text from)
@@ -223,7 +232,8 @@ entry_text version (entry.Opened t) = codes "opened " ++ decimal t
 entry_text version (entry.Read t limit ended numbers) =
     codes "read " ++ (decimal t ++ 32 ∷ (decimal limit ++ 32 ∷ (ended_text ended ++ numbers_text numbers)))
 entry_text version (entry.Given t) = codes "given " ++ decimal t
-entry_text version (entry.Marked t counter to) = codes "marked " ++ (decimal t ++ 32 ∷ (decimal counter ++ 32 ∷ target_text to))
+entry_text version (entry.Marked t counter to) =
+    codes "marked " ++ (decimal t ++ 32 ∷ (decimal counter ++ 32 ∷ target_text to))
 entry_text version (entry.LeaseCut key counter) = codes "cut " ++ (key_text key ++ 32 ∷ decimal counter)
 
 -- ---- lines

@@ -44,8 +44,10 @@ abbrev pub IsTellable : ℕ → Entry → Type 0
 IsTellable version (entry.Made s name count) = Is64 s × (IsName name × IsShardCount count)
 IsTellable version (entry.Put s sh number hash bytes key_bytes) =
     Is64 s × (Is64 sh × (Is64 number × (IsHash hash × AreSizes version bytes key_bytes)))
-IsTellable version (entry.Split s sh at number low high) = Is64 s × (Is64 sh × (IsHash at × (Is64 number × (Is64 low × Is64 high))))
-IsTellable version (entry.Merged s sh other number child) = Is64 s × (Is64 sh × (Is64 other × (Is64 number × Is64 child)))
+IsTellable version (entry.Split s sh at number low high) =
+    Is64 s × (Is64 sh × (IsHash at × (Is64 number × (Is64 low × Is64 high))))
+IsTellable version (entry.Merged s sh other number child) =
+    Is64 s × (Is64 sh × (Is64 other × (Is64 number × Is64 child)))
 IsTellable version (entry.Kept s hours) = Is64 s × IsRetention hours
 IsTellable version (entry.LeaseMade key from) = IsKey key × IsOrigin from
 IsTellable version (entry.Taken key t counter owner) = IsKey key × (Is64 t × (IsCounter counter × IsWorkerNo owner))

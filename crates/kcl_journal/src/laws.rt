@@ -11,9 +11,11 @@ ghost use Rattle.kcl_journal.specs.Ranges.{IsEntryLine};
 /// each clock, exactly one text is read as the last line, `end CLOCK`. No text is read both as an entry and as the last
 /// line. The heading isn't read as an entry, and isn't read as the last line. The text of a line contains no line feed.
 pub fn one_entry()
-    ensures reads { (v : ℕ) (text : List ℕ) (line : EntryLine) → entry_of v text ≡ Some line → IsEntryLine v line × (text ≡ entry_spelling v line) }
+    ensures reads { (v : ℕ) (text : List ℕ) (line : EntryLine) → entry_of v text ≡ Some line → IsEntryLine v line
+        × (text ≡ entry_spelling v line) }
     ensures again { (v : ℕ) (line : EntryLine) → IsEntryLine v line → entry_of v (entry_spelling v line) ≡ Some line }
-    ensures end_reads { (text : List ℕ) (clock : ℕ) → end_of text ≡ Some clock → (clock < 2 ^ 62) × (text ≡ end_spelling clock) }
+    ensures end_reads { (text : List ℕ) (clock : ℕ) → end_of text ≡ Some clock → (clock < 2 ^ 62)
+        × (text ≡ end_spelling clock) }
     ensures end_again { (clock : ℕ) → clock < 2 ^ 62 → end_of (end_spelling clock) ≡ Some clock }
     ensures apart { (v : ℕ) (text : List ℕ) (clock : ℕ) → end_of text ≡ Some clock → entry_of v text ≡ None }
     ensures heading { (v : ℕ) → (entry_of v heading ≡ None) × (end_of heading ≡ None) }

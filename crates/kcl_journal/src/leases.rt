@@ -2,7 +2,8 @@
 //! The argument `text` of each function is the rest of the entry, after this word and a space.
 ghost use Rattle.std.specs.Prelude.{◌≡◌, IfOk};
 ghost use Rattle.kcl_script_fields.specs.Fields.{two, number};
-ghost use Rattle.kcl_journal.specs.Entries.{counter_of, cut_of, freed_of, given_of, lease_by, lease_of, marked_of, opened_of, read_of, renewed_of, taken_of};
+ghost use Rattle.kcl_journal.specs.Entries.{counter_of, cut_of, freed_of, given_of, lease_by, lease_of, marked_of};
+ghost use Rattle.kcl_journal.specs.Entries.{opened_of, read_of, renewed_of, taken_of};
 
 use crate::numbers::{batch, counter_of, within32};
 use kcl_script_fields::{field, key_of, row, target, worker};

@@ -2,7 +2,8 @@
 //! entry. A batch is the list of records that one read returned.
 ghost use Rattle.std.specs.Prelude.{◌≡◌, ◌≤◌, IfOk, option_and_then};
 ghost use Rattle.kcl_script_fields.specs.Fields.{two};
-ghost use Rattle.kcl_journal.specs.Entries.{batch_of, counter_of, ended_of, fitting, numbers_of, sizes_of, switch_of, within, within_of, words};
+ghost use Rattle.kcl_journal.specs.Entries.{batch_of, counter_of, ended_of, fitting, numbers_of, sizes_of, switch_of};
+ghost use Rattle.kcl_journal.specs.Entries.{within, within_of, words};
 
 use crate::line::{FIRST_RECORD_BYTES, FIRST_VERSION, KEY_BYTES};
 use kcl_script_fields::field;

@@ -1,7 +1,8 @@
 //! Prints the lines of a journal, which is an event log, in version 2. Each line is first built in a separate buffer.
 //! The complete line is then appended to the output. A tenure is one worker's hold on a lease.
 ghost use Rattle.std.specs.Prelude.{◌≡◌, ◌∷◌, ◌++◌, decimal, true, OnOk, OnErr};
-ghost use Rattle.kcl_journal.specs.Entries.{end_spelling, ended_text, entry_spelling, entry_text, heading, numbers_text, switch_text};
+ghost use Rattle.kcl_journal.specs.Entries.{end_spelling, ended_text, entry_spelling, entry_text, heading};
+ghost use Rattle.kcl_journal.specs.Entries.{numbers_text, switch_text};
 ghost use Rattle.kcl_journal.specs.Ranges.{is_lease_entry, is_resharding, is_tenure_entry};
 
 use crate::line::{EntryLine, HEADING};

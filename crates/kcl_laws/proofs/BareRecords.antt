@@ -5,7 +5,8 @@ use Rattle.kds_defs.specs.Listings.{are_none}
 use Rattle.kds_defs.specs.Records.{Logged, beginning, first_at, is_left, left_among, numbers_of}
 use Rattle.kcl_laws.specs.Recorded.{bare}
 
-pub left_bare : (floor position : ℕ) (rs : List Logged) → map bare (left_among floor position rs) ≡ left_among floor position (map bare rs)
+pub left_bare : (floor position : ℕ) (rs : List Logged)
+    → map bare (left_among floor position rs) ≡ left_among floor position (map bare rs)
 left_bare floor position [] = refl
 left_bare floor position (r ∷ rs) = by (is_left floor position r) (left_bare floor position rs)
   where
@@ -13,11 +14,13 @@ left_bare floor position (r ∷ rs) = by (is_left floor position r) (left_bare f
     left = left_among floor position rs
 
     by : (b : Bool) → map bare left ≡ left_among floor position (map bare rs)
-        → map bare (cond b (r ∷ left) left) ≡ cond b (bare r ∷ left_among floor position (map bare rs)) (left_among floor position (map bare rs))
+        → map bare (cond b (r ∷ left) left)
+        ≡ cond b (bare r ∷ left_among floor position (map bare rs)) (left_among floor position (map bare rs))
     by true e = ap (λ xs. bare r ∷ xs) e
     by false e = e
 
-pub beginning_bare : (limit room : ℕ) (rs : List Logged) → map bare (beginning limit room rs) ≡ beginning limit room (map bare rs)
+pub beginning_bare : (limit room : ℕ) (rs : List Logged)
+    → map bare (beginning limit room rs) ≡ beginning limit room (map bare rs)
 beginning_bare zero room rs = refl
 beginning_bare (suc limit) room [] = refl
 beginning_bare (suc limit) room (r ∷ rs) = by (nat_le r.bytes room) (beginning_bare limit (room - r.bytes) rs)
@@ -38,6 +41,7 @@ pub none_bare : (rs : List Logged) → are_none (map bare rs) ≡ are_none rs
 none_bare [] = refl
 none_bare (r ∷ rs) = refl
 
-pub first_bare : (rs : List Logged) (moment otherwise : ℕ) → first_at (map bare rs) moment otherwise ≡ first_at rs moment otherwise
+pub first_bare : (rs : List Logged) (moment otherwise : ℕ)
+    → first_at (map bare rs) moment otherwise ≡ first_at rs moment otherwise
 first_bare [] moment otherwise = refl
 first_bare (r ∷ rs) moment otherwise = λ i. if nat_le moment r.arrival then r.seq else first_bare rs moment otherwise i

@@ -1,5 +1,6 @@
 -- The records of a shard rise, and a batch has all of them between its place and the place after it, save the trimmed.
-use Rattle.std.proofs.Common.{◌≡◌, ℕ, zero, suc, ◌+◌, ◌-◌, ◌<◌, ◌≤◌, Bool, true, false, List, [], ◌∷◌, ◌++◌, Some, refl, sym, ap, subst, ◌∙◌, arith, inl, inr}
+use Rattle.std.proofs.Common.{◌≡◌, ℕ, zero, suc, ◌+◌, ◌-◌, ◌<◌, ◌≤◌, Bool, true, false, List, [], ◌∷◌, ◌++◌, Some, refl}
+use Rattle.std.proofs.Common.{sym, ap, subst, ◌∙◌, arith, inl, inr}
 use Rattle.std.specs.Prelude.{◌==◌, ◌&&◌, ◌||◌, ◌⊎◌, not, nat_le, nat_lt, cond, if◌then◌else◌}
 use Rattle.std.specs.List.{AllByRecursion, filter}
 use Rattle.std.proofs.lemmas.Bool.Decides.{nat_tests}
@@ -11,7 +12,8 @@ use Rattle.kds_defs.specs.declared.limits.TheConstants.{BATCH_BYTES}
 use Rattle.kds_defs.specs.Journal.{Line, Journal}
 use Rattle.kds_defs.specs.Legal.{IsLegal}
 use Rattle.kds_defs.specs.Listings.{is_closed_at, are_none, ends_at}
-use Rattle.kds_defs.specs.Records.{Logged, records, records_after, next_number, draws, left_from, left_among, beginning, batch, numbers_of, place_after}
+use Rattle.kds_defs.specs.Records.{Logged, records, records_after, next_number, draws, left_from, left_among, beginning}
+use Rattle.kds_defs.specs.Records.{batch, numbers_of, place_after}
 use Rattle.kds_defs.specs.Safe.{IsAmong, IsPlaced, RiseFrom}
 use Rattle.kds_defs.specs.Shards.{ShardState, shard_at, is_open}
 use Rattle.kds_defs.specs.Streams.{is_live, is_trimmed, trim_floor}
@@ -19,32 +21,41 @@ use Rattle.kcl_laws.proofs.Numbering.{all_placed}
 
 -- ---- all of a list
 
-pub all_map : {A : Type 0} (P Q : A → Type 0) (xs : List A) → ((x : A) → P x → Q x) → AllByRecursion P xs → AllByRecursion Q xs
+pub all_map : {A : Type 0} (P Q : A → Type 0) (xs : List A) → ((x : A) → P x → Q x) → AllByRecursion P xs
+    → AllByRecursion Q xs
 all_map P Q [] f h = tt
 all_map P Q (x ∷ xs) f h = (f x h.0, all_map P Q xs f h.1)
 
-pub all_both : {A : Type 0} (P Q R : A → Type 0) (xs : List A) → ((x : A) → P x → Q x → R x) → AllByRecursion P xs → AllByRecursion Q xs → AllByRecursion R xs
+pub all_both : {A : Type 0} (P Q R : A → Type 0) (xs : List A) → ((x : A) → P x → Q x → R x) → AllByRecursion P xs
+    → AllByRecursion Q xs → AllByRecursion R xs
 all_both P Q R [] f h g = tt
 all_both P Q R (x ∷ xs) f h g = (f x h.0 g.0, all_both P Q R xs f h.1 g.1)
 
-pub all_push : {A : Type 0} (P : A → Type 0) (xs : List A) (y : A) → AllByRecursion P xs → P y → AllByRecursion P (xs ++ (y ∷ []))
+pub all_push : {A : Type 0} (P : A → Type 0) (xs : List A) (y : A) → AllByRecursion P xs → P y
+    → AllByRecursion P (xs ++ (y ∷ []))
 all_push P [] y h g = (g, tt)
 all_push P (x ∷ xs) y h g = (h.0, all_push P xs y h.1 g)
 
-filter_head : {A : Type 0} (f : A → Bool) (P : A → Type 0) (x : A) (xs : List A) (b : Bool) → f x ≡ b → (AllByRecursion P (filter f xs) → AllByRecursion (λ y. f y ≡ true → P y) xs) → AllByRecursion P (cond b (x ∷ filter f xs) (filter f xs)) → AllByRecursion (λ y. f y ≡ true → P y) (x ∷ xs)
+filter_head : {A : Type 0} (f : A → Bool) (P : A → Type 0) (x : A) (xs : List A) (b : Bool) → f x ≡ b
+    → (AllByRecursion P (filter f xs) → AllByRecursion (λ y. f y ≡ true → P y) xs)
+    → AllByRecursion P (cond b (x ∷ filter f xs) (filter f xs)) → AllByRecursion (λ y. f y ≡ true → P y) (x ∷ xs)
 filter_head f P x xs true is rest h = (λ e. h.0, rest h.1)
 filter_head f P x xs false is rest h = (λ e. absurd (apart (f x) e is), rest h)
 
-pub all_filter : {A : Type 0} (f : A → Bool) (P : A → Type 0) (xs : List A) → AllByRecursion P (filter f xs) → AllByRecursion (λ x. f x ≡ true → P x) xs
+pub all_filter : {A : Type 0} (f : A → Bool) (P : A → Type 0) (xs : List A) → AllByRecursion P (filter f xs)
+    → AllByRecursion (λ x. f x ≡ true → P x) xs
 all_filter f P [] h = tt
 all_filter f P (x ∷ xs) h = filter_head f P x xs (f x) refl (all_filter f P xs) h
 
-none_head : {A : Type 0} (f : A → Bool) (x : A) (xs : List A) (b : Bool) → f x ≡ b → (are_none (filter f xs) ≡ true → AllByRecursion (λ y. f y ≡ false) xs) → are_none (cond b (x ∷ filter f xs) (filter f xs)) ≡ true → AllByRecursion (λ y. f y ≡ false) (x ∷ xs)
+none_head : {A : Type 0} (f : A → Bool) (x : A) (xs : List A) (b : Bool) → f x ≡ b
+    → (are_none (filter f xs) ≡ true → AllByRecursion (λ y. f y ≡ false) xs)
+    → are_none (cond b (x ∷ filter f xs) (filter f xs)) ≡ true → AllByRecursion (λ y. f y ≡ false) (x ∷ xs)
 none_head f x xs true is rest h = absurd cc
 none_head f x xs false is rest h = (is, rest h)
 
 -- nothing passes where nothing is left
-pub none_pass : {A : Type 0} (f : A → Bool) (xs : List A) → are_none (filter f xs) ≡ true → AllByRecursion (λ y. f y ≡ false) xs
+pub none_pass : {A : Type 0} (f : A → Bool) (xs : List A) → are_none (filter f xs) ≡ true
+    → AllByRecursion (λ y. f y ≡ false) xs
 none_pass f [] h = tt
 none_pass f (x ∷ xs) h = none_head f x xs (f x) refl (none_pass f xs) h
 
@@ -67,27 +78,34 @@ pub rising_below : (p p' : ℕ) (rs : List Logged) (q : ℕ) → p ≤ p' → Is
 rising_below p p' [] q le h = omega (arith, h)
 rising_below p p' (r ∷ rs) q le h = (omega (arith, h.0), h.1)
 
-pub rising_push : (p : ℕ) (rs : List Logged) (q : ℕ) (r : Logged) → IsRising p rs q → r.seq ≡ q → IsRising p (rs ++ (r ∷ [])) (q + 1)
+pub rising_push : (p : ℕ) (rs : List Logged) (q : ℕ) (r : Logged) → IsRising p rs q → r.seq ≡ q
+    → IsRising p (rs ++ (r ∷ [])) (q + 1)
 rising_push p [] q r h e = (omega (arith, h, e), omega (arith, e))
 rising_push p (x ∷ xs) q r h e = (h.0, rising_push (x.seq + 1) xs q r h.1 e)
 
-rising_cond : (b : Bool) (p : ℕ) (r : Logged) (rs : List Logged) (q : ℕ) → p ≤ r.seq → IsRising (r.seq + 1) rs q → IsRising p (cond b (r ∷ rs) rs) q
+rising_cond : (b : Bool) (p : ℕ) (r : Logged) (rs : List Logged) (q : ℕ) → p ≤ r.seq → IsRising (r.seq + 1) rs q
+    → IsRising p (cond b (r ∷ rs) rs) q
 rising_cond true p r rs q le h = (le, h)
 rising_cond false p r rs q le h = rising_below p (r.seq + 1) rs q (omega (arith, le)) h
 
-pub rising_filter : (f : Logged → Bool) (p : ℕ) (rs : List Logged) (q : ℕ) → IsRising p rs q → IsRising p (filter f rs) q
+pub rising_filter : (f : Logged → Bool) (p : ℕ) (rs : List Logged) (q : ℕ) → IsRising p rs q
+    → IsRising p (filter f rs) q
 rising_filter f p [] q h = h
 rising_filter f p (r ∷ rs) q h = rising_cond (f r) p r (filter f rs) q h.0 (rising_filter f (r.seq + 1) rs q h.1)
 
-from_cond : (f : Logged → Bool) (b : Bool) (m : ℕ) (r : Logged) (rs : List Logged) (q : ℕ) → f r ≡ b → ((x : Logged) → f x ≡ true → m ≤ x.seq) → IsRising (r.seq + 1) rs q → IsRising m rs q → IsRising m (cond b (r ∷ rs) rs) q
+from_cond : (f : Logged → Bool) (b : Bool) (m : ℕ) (r : Logged) (rs : List Logged) (q : ℕ) → f r ≡ b
+    → ((x : Logged) → f x ≡ true → m ≤ x.seq) → IsRising (r.seq + 1) rs q → IsRising m rs q
+    → IsRising m (cond b (r ∷ rs) rs) q
 from_cond f true m r rs q is g h k = (g r is, h)
 from_cond f false m r rs q is g h k = k
 
 -- from m on, where each that passes is at least m
-pub rising_filter_from : (f : Logged → Bool) (p m : ℕ) (rs : List Logged) (q : ℕ) → IsRising p rs q → m ≤ q → ((x : Logged) → f x ≡ true → m ≤ x.seq) → IsRising m (filter f rs) q
+pub rising_filter_from : (f : Logged → Bool) (p m : ℕ) (rs : List Logged) (q : ℕ) → IsRising p rs q → m ≤ q
+    → ((x : Logged) → f x ≡ true → m ≤ x.seq) → IsRising m (filter f rs) q
 rising_filter_from f p m [] q h le g = le
 rising_filter_from f p m (r ∷ rs) q h le g =
-    from_cond f (f r) m r (filter f rs) q refl g (rising_filter f (r.seq + 1) rs q h.1) (rising_filter_from f (r.seq + 1) m rs q h.1 le g)
+    from_cond f (f r) m r (filter f rs) q refl g (rising_filter f (r.seq + 1) rs q h.1)
+    (rising_filter_from f (r.seq + 1) m rs q h.1 le g)
 
 -- ---- the beginning of rising records
 
@@ -115,43 +133,64 @@ pub record Begins (p : ℕ) (ns : List ℕ) (rs : List Logged) (q : ℕ) : Type 
   pub from : p ≤ place_after p ns
   pub has : AllByRecursion (λ r. r.seq < place_after p ns → IsAmong r.seq ns) rs
 
-above_all : (p place : ℕ) (rs : List Logged) (q : ℕ) (ns : List ℕ) → IsRising p rs q → place ≤ p → AllByRecursion (λ r. r.seq < place → IsAmong r.seq ns) rs
+above_all : (p place : ℕ) (rs : List Logged) (q : ℕ) (ns : List ℕ) → IsRising p rs q → place ≤ p
+    → AllByRecursion (λ r. r.seq < place → IsAmong r.seq ns) rs
 above_all p place [] q ns h le = tt
-above_all p place (r ∷ rs) q ns h le = (λ below. absurd (omega (arith, h.0)), above_all (r.seq + 1) place rs q ns h.1 (omega (arith, h.0)))
+above_all p place (r ∷ rs) q ns h le =
+    (λ below. absurd (omega (arith, h.0)), above_all (r.seq + 1) place rs q ns h.1 (omega (arith, h.0)))
 
 nothing_begins : (p : ℕ) (rs : List Logged) (q : ℕ) → IsRising p rs q → Begins p [] rs q
-nothing_begins p rs q h = record { rises = omega arith; place = rising_le p rs q h; from = omega arith; has = above_all p p rs q [] h (omega arith) }
+nothing_begins p rs q h =
+    record {
+      rises = omega arith;
+      place = rising_le p rs q h;
+      from = omega arith;
+      has = above_all p p rs q [] h (omega arith);
+    }
 
-begin_cond : (b : Bool) (p : ℕ) (r : Logged) (ns : List ℕ) (bs rs : List Logged) (q : ℕ) → p ≤ r.seq → IsRising p (r ∷ rs) q → numbers_of bs ≡ ns → Begins (r.seq + 1) ns rs q → Begins p (numbers_of (if b then r ∷ bs else [])) (r ∷ rs) q
+begin_cond : (b : Bool) (p : ℕ) (r : Logged) (ns : List ℕ) (bs rs : List Logged) (q : ℕ) → p ≤ r.seq
+    → IsRising p (r ∷ rs) q → numbers_of bs ≡ ns → Begins (r.seq + 1) ns rs q
+    → Begins p (numbers_of (if b then r ∷ bs else [])) (r ∷ rs) q
 begin_cond false p r ns bs rs q le h is rest = nothing_begins p (r ∷ rs) q h
 begin_cond true p r ns bs rs q le h is rest =
     subst (λ ms. Begins p (r.seq ∷ ms) (r ∷ rs) q) (sym is) (record {
       rises = (le, rest.rises);
       place = rest.place;
       from = omega (arith, le, rest.from);
-      has = (λ below. inl refl, all_map (λ (x : Logged). x.seq < place_after (r.seq + 1) ns → IsAmong x.seq ns) (λ (x : Logged). x.seq < place_after p (r.seq ∷ ns) → IsAmong x.seq (r.seq ∷ ns)) rs (λ x g below. inr (g below)) rest.has);
+      has = (
+        λ below. inl refl,
+        all_map (λ (x : Logged). x.seq < place_after (r.seq + 1) ns
+            → IsAmong x.seq ns) (λ (x : Logged). x.seq < place_after p (r.seq ∷ ns) → IsAmong x.seq (r.seq ∷ ns)) rs
+            (λ x g below. inr (g below)) rest.has,
+      );
     })
 
-pub begins : (limit room p : ℕ) (rs : List Logged) (q : ℕ) → IsRising p rs q → Begins p (taken_numbers limit room rs) rs q
+pub begins : (limit room p : ℕ) (rs : List Logged) (q : ℕ) → IsRising p rs q
+    → Begins p (taken_numbers limit room rs) rs q
 begins zero room p rs q h = nothing_begins p rs q h
 begins (suc limit) room p [] q h = nothing_begins p [] q h
 begins (suc limit) room p (r ∷ rs) q h =
-    begin_cond (nat_le r.bytes room) p r _ (beginning limit (room - r.bytes) rs) rs q h.0 h refl (begins limit (room - r.bytes) (r.seq + 1) rs q h.1)
+    begin_cond (nat_le r.bytes room) p r _ (beginning limit (room - r.bytes) rs) rs q h.0 h refl
+    (begins limit (room - r.bytes) (r.seq + 1) rs q h.1)
 
 -- ---- the records of a shard
 
 -- what one more line does to them
 pub data RecordsStep (log : Journal) (line : Line) (s sh : ℕ) : Type 0 where
   SameRecords : records (line ∷ log) s sh ≡ records log s sh → RecordsStep log line s sh
-  NewRecord : (r : Logged) (x : ShardState) → records (line ∷ log) s sh ≡ records log s sh ++ (r ∷ []) → r.seq ≡ next_number log s → next_number (line ∷ log) s ≡ r.seq + 1 → shard_at log s sh ≡ Some x → is_open x ≡ true → RecordsStep log line s sh
+  NewRecord : (r : Logged) (x : ShardState) → records (line ∷ log) s sh ≡ records log s sh ++ (r ∷ [])
+      → r.seq ≡ next_number log s → next_number (line ∷ log) s ≡ r.seq + 1 → shard_at log s sh ≡ Some x
+      → is_open x ≡ true → RecordsStep log line s sh
 
-records_step_put : (log : Journal) (line : Line) (stream shard number hash bytes key_bytes s sh : ℕ) → IsPlaced log (entry.Put stream shard number hash bytes key_bytes)
+records_step_put : (log : Journal) (line : Line) (stream shard number hash bytes key_bytes s sh : ℕ)
+    → IsPlaced log (entry.Put stream shard number hash bytes key_bytes)
     → (b : Bool) → ((stream == s) && (shard == sh)) ≡ b
     → (r : Logged) → r.seq ≡ number
     → ((if b then records log s sh ++ (r ∷ []) else records log s sh) ≡ records (line ∷ log) s sh)
     → (next_number (line ∷ log) s ≡ (if stream == s then 1 else 0) + next_number log s)
     → RecordsStep log line s sh
-records_step_put log line stream shard number hash bytes key_bytes s sh at false is r num recs next = SameRecords (sym recs)
+records_step_put log line stream shard number hash bytes key_bytes s sh at false is r num recs next =
+    SameRecords (sym recs)
 records_step_put log line stream shard number hash bytes key_bytes s sh at true is r num recs next =
     let two = and_parts (stream == s) (shard == sh) is in
     let to = equal_so stream s two.0 in
@@ -166,20 +205,33 @@ records_step_put log line stream shard number hash bytes key_bytes s sh at true 
     plus_one true h n = omega arith
     plus_one false h n = absurd cc
 
-records_step_by : (log : Journal) (line : Line) (e : Entry) (s sh : ℕ) → IsPlaced log e → records_after line e s sh (records log s sh) ≡ records (line ∷ log) s sh → next_number (line ∷ log) s ≡ draws e s + next_number log s → RecordsStep log line s sh
+records_step_by : (log : Journal) (line : Line) (e : Entry) (s sh : ℕ) → IsPlaced log e
+    → records_after line e s sh (records log s sh) ≡ records (line ∷ log) s sh
+    → next_number (line ∷ log) s ≡ draws e s + next_number log s → RecordsStep log line s sh
 records_step_by log line (entry.Put stream shard number hash bytes key_bytes) s sh at recs next =
-    records_step_put log line stream shard number hash bytes key_bytes s sh at _ refl (record { seq = number; arrival = line.clock; bytes = bytes + key_bytes; key = line.key; payload = line.payload }) refl recs next
+    records_step_put log line stream shard number hash bytes key_bytes s sh at _ refl
+    (record {
+      seq = number;
+      arrival = line.clock;
+      bytes = bytes + key_bytes;
+      key = line.key;
+      payload = line.payload;
+    }) refl recs next
 records_step_by log line _ s sh at recs next = SameRecords (sym recs)
 
 pub records_step : (log : Journal) (line : Line) → IsLegal (line ∷ log) → (s sh : ℕ) → RecordsStep log line s sh
 records_step log line legal s sh = records_step_by log line line.what s sh (all_placed (line ∷ log) legal).0 refl refl
 
-rising_by : (log : Journal) (line : Line) (s sh : ℕ) → RecordsStep log line s sh → IsRising 1 (records log s sh) (next_number log s) → IsRising 1 (records (line ∷ log) s sh) (next_number (line ∷ log) s)
+rising_by : (log : Journal) (line : Line) (s sh : ℕ) → RecordsStep log line s sh
+    → IsRising 1 (records log s sh) (next_number log s)
+    → IsRising 1 (records (line ∷ log) s sh) (next_number (line ∷ log) s)
 rising_by log line s sh (SameRecords is) h =
-    subst (λ rs. IsRising 1 rs (next_number (line ∷ log) s)) (sym is) (rising_above 1 _ (next_number log s) _ (omega arith) h)
+    subst (λ rs. IsRising 1 rs (next_number (line ∷ log) s)) (sym is)
+    (rising_above 1 _ (next_number log s) _ (omega arith) h)
 rising_by log line s sh (NewRecord r x is seq next there open_now) h =
     subst (λ rs. IsRising 1 rs (next_number (line ∷ log) s)) (sym is)
-    (subst (IsRising 1 (records log s sh ++ (r ∷ []))) (ap (λ k. k + 1) (sym seq) ∙ sym next) (rising_push 1 _ (next_number log s) r h seq))
+    (subst (IsRising 1 (records log s sh ++ (r ∷ []))) (ap (λ k. k + 1) (sym seq) ∙ sym next)
+    (rising_push 1 _ (next_number log s) r h seq))
 
 -- the numbers of a shard's records rise, below the next number
 pub rising : (log : Journal) → IsLegal log → (s sh : ℕ) → IsRising 1 (records log s sh) (next_number log s)
@@ -204,7 +256,9 @@ passes_above true p n h = absurd cc
 passes_above false p n h = grind (arith, nat_tests)
 
 -- a record passes the test, or is trimmed, or stands below the place
-taken_or : (log : Journal) (c s place : ℕ) (ns : List ℕ) (r : Logged) (t : Bool) → is_trimmed log c s r.arrival ≡ t → ((not t && nat_le place r.seq) ≡ true → r.seq < place_after place ns → IsAmong r.seq ns) → (b : Bool) → nat_le place r.seq ≡ b → r.seq < place_after place ns → IsTaken log c s place ns r
+taken_or : (log : Journal) (c s place : ℕ) (ns : List ℕ) (r : Logged) (t : Bool) → is_trimmed log c s r.arrival ≡ t
+    → ((not t && nat_le place r.seq) ≡ true → r.seq < place_after place ns → IsAmong r.seq ns) → (b : Bool)
+    → nat_le place r.seq ≡ b → r.seq < place_after place ns → IsTaken log c s place ns r
 taken_or log c s place ns r true is g b at below = inr (inr is)
 taken_or log c s place ns r false is g true at below = inr (inl (g at below))
 taken_or log c s place ns r false is g false at below = inl (grind (arith, nat_tests))
@@ -214,40 +268,55 @@ none_passes : (rs : List Logged) → filter (λ (r : Logged). false) rs ≡ []
 none_passes [] = refl
 none_passes (r ∷ rs) = none_passes rs
 
-left_if : (b : Bool) (floor place : ℕ) (rs : List Logged) → (if b then left_among floor place rs else []) ≡ filter (λ (r : Logged). not (not b || nat_lt r.arrival floor) && nat_le place r.seq) rs
+left_if : (b : Bool) (floor place : ℕ) (rs : List Logged)
+    → (if b then left_among floor place rs else [])
+    ≡ filter (λ (r : Logged). not (not b || nat_lt r.arrival floor) && nat_le place r.seq) rs
 left_if true floor place rs = refl
 left_if false floor place rs = sym (none_passes rs)
 
-pub left_is : (log : Journal) (c s sh place : ℕ) → left_from log c s sh place ≡ filter (λ (r : Logged). not (is_trimmed log c s r.arrival) && nat_le place r.seq) (records log s sh)
+pub left_is : (log : Journal) (c s sh place : ℕ)
+    → left_from log c s sh place ≡ filter (λ (r : Logged). not (is_trimmed log c s r.arrival) && nat_le place r.seq)
+    (records log s sh)
 left_is log c s sh place = left_if (is_live log s) (trim_floor log c s) place (records log s sh)
 
-pub batch_is : (log : Journal) → IsLegal log → (c s sh place limit : ℕ) → place ≤ next_number log s → IsBatch log c s sh place (numbers_of (batch log c s sh place limit))
+pub batch_is : (log : Journal) → IsLegal log → (c s sh place limit : ℕ) → place ≤ next_number log s
+    → IsBatch log c s sh place (numbers_of (batch log c s sh place limit))
 batch_is log legal c s sh place limit le =
     let f : Logged → Bool = λ r. not (is_trimmed log c s r.arrival) && nat_le place r.seq in
     let left = filter f (records log s sh) in
     let ns = numbers_of (beginning limit BATCH_BYTES left) in
-    let up = rising_filter_from f 1 place (records log s sh) (next_number log s) (rising log legal s sh) le (λ x h. passes_above (is_trimmed log c s x.arrival) place x.seq h) in
+    let up = rising_filter_from f 1 place (records log s sh) (next_number log s) (rising log legal s sh) le
+    (λ x h. passes_above (is_trimmed log c s x.arrival) place x.seq h) in
     let b = begins limit BATCH_BYTES place left (next_number log s) up in
     let taken : IsBatch log c s sh place ns = record {
       rises = b.rises;
       next = b.place;
       from = b.from;
-      has = all_map (λ (r : Logged). f r ≡ true → r.seq < place_after place ns → IsAmong r.seq ns) (λ (r : Logged). r.seq < place_after place ns → IsTaken log c s place ns r) (records log s sh)
-          (λ r g below. taken_or log c s place ns r (is_trimmed log c s r.arrival) refl g (nat_le place r.seq) refl below)
+      has = all_map (λ (r : Logged). f r ≡ true → r.seq < place_after place ns
+          → IsAmong r.seq ns) (λ (r : Logged). r.seq < place_after place ns
+          → IsTaken log c s place ns r) (records log s sh)
+          (λ r g below. taken_or log c s place ns r (is_trimmed log c s r.arrival) refl g (nat_le place r.seq)
+          refl below)
           (all_filter f (λ (r : Logged). r.seq < place_after place ns → IsAmong r.seq ns) (records log s sh) b.has);
     } in
-    subst (λ (rs : List Logged). IsBatch log c s sh place (numbers_of (beginning limit BATCH_BYTES rs))) (sym (left_is log c s sh place)) taken
+    subst (λ (rs : List Logged). IsBatch log c s sh place (numbers_of (beginning limit BATCH_BYTES rs)))
+    (sym (left_is log c s sh place)) taken
 
 -- where a read ends the shard, the shard is closed, and each record is below the place or trimmed
-below_or : (log : Journal) (c s place : ℕ) (r : Logged) (t : Bool) → is_trimmed log c s r.arrival ≡ t → (not t && nat_le place r.seq) ≡ false → (r.seq < place) ⊎ (is_trimmed log c s r.arrival ≡ true)
+below_or : (log : Journal) (c s place : ℕ) (r : Logged) (t : Bool) → is_trimmed log c s r.arrival ≡ t
+    → (not t && nat_le place r.seq) ≡ false → (r.seq < place) ⊎ (is_trimmed log c s r.arrival ≡ true)
 below_or log c s place r true is h = inr is
 below_or log c s place r false is h = inl (grind (arith, nat_tests))
 
-pub end_is : (log : Journal) (c s sh place : ℕ) → ends_at log c s sh place ≡ true → (is_closed_at (shard_at log s sh) ≡ true) × AllByRecursion (λ r. (r.seq < place) ⊎ (is_trimmed log c s r.arrival ≡ true)) (records log s sh)
+pub end_is : (log : Journal) (c s sh place : ℕ) → ends_at log c s sh place ≡ true
+    → (is_closed_at (shard_at log s sh) ≡ true)
+    × AllByRecursion (λ r. (r.seq < place) ⊎ (is_trimmed log c s r.arrival ≡ true)) (records log s sh)
 end_is log c s sh place h =
     let two = and_parts (is_closed_at (shard_at log s sh)) (are_none (left_from log c s sh place)) h in
     let f : Logged → Bool = λ r. not (is_trimmed log c s r.arrival) && nat_le place r.seq in (
       two.0,
-      all_map (λ (r : Logged). f r ≡ false) (λ (r : Logged). (r.seq < place) ⊎ (is_trimmed log c s r.arrival ≡ true)) (records log s sh)
-          (λ r g. below_or log c s place r (is_trimmed log c s r.arrival) refl g) (none_pass f (records log s sh) (ap are_none (sym (left_is log c s sh place)) ∙ two.1)),
+      all_map (λ (r : Logged). f r ≡ false) (λ (r : Logged). (r.seq < place) ⊎ (is_trimmed log c s r.arrival ≡ true))
+          (records log s sh)
+          (λ r g. below_or log c s place r (is_trimmed log c s r.arrival) refl g)
+          (none_pass f (records log s sh) (ap are_none (sym (left_is log c s sh place)) ∙ two.1)),
     )

@@ -1,5 +1,6 @@
 -- In a row from the trim horizon a checkpoint at a number lies at or below a record of its shard.
-use Rattle.std.proofs.Common.{◌≡◌, ℕ, zero, suc, ◌+◌, ◌-◌, ◌≤◌, Bool, true, false, List, [], ◌∷◌, ◌++◌, length, take, Option, Some, None, refl, sym, ap, subst, ◌∙◌, arith, inl, inr}
+use Rattle.std.proofs.Common.{◌≡◌, ℕ, zero, suc, ◌+◌, ◌-◌, ◌≤◌, Bool, true, false, List, [], ◌∷◌, ◌++◌, length, take}
+use Rattle.std.proofs.Common.{Option, Some, None, refl, sym, ap, subst, ◌∙◌, arith, inl, inr}
 use Rattle.std.specs.Prelude.{◌⊎◌, nat_le, cond, if◌then◌else◌}
 use Rattle.std.specs.List.{AllByRecursion, filter}
 use Rattle.kds_base.specs.declared.lease_key.Checkpoint.{Checkpoint}
@@ -13,11 +14,14 @@ use Rattle.kds_defs.specs.declared.command.Target.TheVariants as target
 use Rattle.kds_defs.specs.declared.reply.Row.{Row}
 use Rattle.kds_defs.specs.Decision.{Accepted}
 use Rattle.kds_defs.specs.Journal.{Line, Journal}
-use Rattle.kds_defs.specs.Leases.{TenureState, ReadDone, tenure, row, origin_of, origin_after, checkpoint_in, place_of, place_after_reads, reach, delivered, checkpoint_at, new_tenure, with_opened, with_read, with_given}
+use Rattle.kds_defs.specs.Leases.{TenureState, ReadDone, tenure, row, origin_of, origin_after, checkpoint_in, place_of}
+use Rattle.kds_defs.specs.Leases.{place_after_reads, reach, delivered, checkpoint_at, new_tenure, with_opened}
+use Rattle.kds_defs.specs.Leases.{with_read, with_given}
 use Rattle.kds_defs.specs.Legal.{IsLegal, told}
 use Rattle.kds_defs.specs.Origins.{floor_from, start_from}
 use Rattle.kds_defs.specs.Shards.{shard_at, start_of}
-use Rattle.kds_defs.specs.Records.{Logged, records, numbers_of, place_after, batch, beginning, is_left, left_among, left_from}
+use Rattle.kds_defs.specs.Records.{Logged, records, numbers_of, place_after, batch, beginning, is_left, left_among}
+use Rattle.kds_defs.specs.Records.{left_from}
 use Rattle.kds_defs.specs.Streams.{is_live, trim_floor}
 use Rattle.kds_defs.specs.declared.limits.TheConstants.{BATCH_BYTES}
 use Rattle.kcl_laws.specs.Recorded.{HasFrom}
@@ -25,7 +29,8 @@ use Rattle.kcl_laws.proofs.Batches.{all_map, RecordsStep, SameRecords, NewRecord
 use Rattle.kcl_laws.proofs.CoverageLemmas.{TargetOk, read_told, mark_told, take_told}
 use Rattle.kcl_laws.proofs.DeliveryLemmas.{row_made, same_self, tenure_made}
 use Rattle.kcl_laws.proofs.StartLemmas.{origin_before, begins_shard}
-use Rattle.kcl_laws.proofs.Steps.{TenureStep, Begun, Same, Opening, Reading, Giving, tenure_step, tenure_key, RowStep, NewRow, SameCheckpoint, MarkedRow, row_step}
+use Rattle.kcl_laws.proofs.Steps.{TenureStep, Begun, Same, Opening, Reading, Giving, tenure_step, tenure_key, RowStep}
+use Rattle.kcl_laws.proofs.Steps.{NewRow, SameCheckpoint, MarkedRow, row_step}
 
 -- ---- a place of a shard: none of its numbers is needed, or one above it is a record or more
 
@@ -50,16 +55,20 @@ reached_below place less (r ∷ rs) le (inr is) = inr (reached_below place less 
 
 -- ---- they stay as records come
 
-stays_by : (log : Journal) (line : Line) (s sh place : ℕ) → RecordsStep log line s sh → IsReached place (records log s sh) → IsReached place (records (line ∷ log) s sh)
+stays_by : (log : Journal) (line : Line) (s sh place : ℕ) → RecordsStep log line s sh
+    → IsReached place (records log s sh) → IsReached place (records (line ∷ log) s sh)
 stays_by log line s sh place (SameRecords is) h = subst (IsReached place) (sym is) h
-stays_by log line s sh place (NewRecord r x is seq next there open_now) h = subst (IsReached place) (sym is) (reached_more place (records log s sh) r h)
+stays_by log line s sh place (NewRecord r x is seq next there open_now) h =
+    subst (IsReached place) (sym is) (reached_more place (records log s sh) r h)
 
-reached_stays : (log : Journal) (line : Line) → IsLegal (line ∷ log) → (s sh place : ℕ) → IsReached place (records log s sh) → IsReached place (records (line ∷ log) s sh)
+reached_stays : (log : Journal) (line : Line) → IsLegal (line ∷ log) → (s sh place : ℕ)
+    → IsReached place (records log s sh) → IsReached place (records (line ∷ log) s sh)
 reached_stays log line legal s sh place h = stays_by log line s sh place (records_step log line legal s sh) h
 
 -- ---- a batch reaches no further than its records
 
-all_filtered : (f : Logged → Bool) (P : Logged → Type 0) (rs : List Logged) → AllByRecursion P rs → AllByRecursion P (filter f rs)
+all_filtered : (f : Logged → Bool) (P : Logged → Type 0) (rs : List Logged) → AllByRecursion P rs
+    → AllByRecursion P (filter f rs)
 all_filtered f P [] are = tt
 all_filtered f P (r ∷ rs) are = either (f r) (all_filtered f P rs are.1)
   where
@@ -67,47 +76,62 @@ all_filtered f P (r ∷ rs) are = either (f r) (all_filtered f P rs are.1)
     either true rest = (are.0, rest)
     either false rest = rest
 
-all_begun : (limit room : ℕ) (P : Logged → Type 0) (rs : List Logged) → AllByRecursion P rs → AllByRecursion P (beginning limit room rs)
+all_begun : (limit room : ℕ) (P : Logged → Type 0) (rs : List Logged) → AllByRecursion P rs
+    → AllByRecursion P (beginning limit room rs)
 all_begun zero room P rs are = tt
 all_begun (suc limit) room P [] are = tt
 all_begun (suc limit) room P (r ∷ rs) are = either (nat_le r.bytes room) (all_begun limit (room - r.bytes) P rs are.1)
   where
-    either : (b : Bool) → AllByRecursion P (beginning limit (room - r.bytes) rs) → AllByRecursion P (if b then r ∷ beginning limit (room - r.bytes) rs else [])
+    either : (b : Bool) → AllByRecursion P (beginning limit (room - r.bytes) rs)
+        → AllByRecursion P (if b then r ∷ beginning limit (room - r.bytes) rs else [])
     either true rest = (are.0, rest)
     either false rest = tt
 
 -- each of these records is reached by itself
 all_reached : (rs : List Logged) → AllByRecursion (λ (r : Logged). IsReached (r.seq + 1) rs) rs
 all_reached [] = tt
-all_reached (r ∷ rs) = (inl (omega arith), all_map (λ (x : Logged). IsReached (x.seq + 1) rs) (λ (x : Logged). IsReached (x.seq + 1) (r ∷ rs)) rs (λ x is. inr is) (all_reached rs))
+all_reached (r ∷ rs) = (
+  inl (omega arith),
+  all_map (λ (x : Logged). IsReached (x.seq + 1) rs) (λ (x : Logged).
+      IsReached (x.seq + 1) (r ∷ rs)) rs (λ x is. inr is) (all_reached rs),
+)
 
-left_reached : (log : Journal) (c s sh place : ℕ) → AllByRecursion (λ (r : Logged). IsReached (r.seq + 1) (records log s sh)) (left_from log c s sh place)
+left_reached : (log : Journal) (c s sh place : ℕ)
+    → AllByRecursion (λ (r : Logged). IsReached (r.seq + 1) (records log s sh)) (left_from log c s sh place)
 left_reached log c s sh place = either (is_live log s)
   where
-    either : (b : Bool) → AllByRecursion (λ (r : Logged). IsReached (r.seq + 1) (records log s sh)) (if b then left_among (trim_floor log c s) place (records log s sh) else [])
-    either true = all_filtered (is_left (trim_floor log c s) place) (λ (r : Logged). IsReached (r.seq + 1) (records log s sh)) (records log s sh) (all_reached (records log s sh))
+    either : (b : Bool) → AllByRecursion (λ (r : Logged). IsReached (r.seq + 1) (records log s sh))
+        (if b then left_among (trim_floor log c s) place (records log s sh) else [])
+    either true = all_filtered (is_left (trim_floor log c s) place) (λ (r : Logged).
+        IsReached (r.seq + 1) (records log s sh)) (records log s sh) (all_reached (records log s sh))
     either false = tt
 
-place_reached : (place : ℕ) (all bs : List Logged) → IsReached place all → AllByRecursion (λ (r : Logged). IsReached (r.seq + 1) all) bs → IsReached (place_after place (numbers_of bs)) all
+place_reached : (place : ℕ) (all bs : List Logged) → IsReached place all
+    → AllByRecursion (λ (r : Logged). IsReached (r.seq + 1) all) bs → IsReached (place_after place (numbers_of bs)) all
 place_reached place all [] at are = at
 place_reached place all (r ∷ bs) at are = place_reached (r.seq + 1) all bs are.0 are.1
 
-batch_reached : (log : Journal) (c s sh place limit : ℕ) → IsReached place (records log s sh) → IsReached (place_after place (numbers_of (batch log c s sh place limit))) (records log s sh)
+batch_reached : (log : Journal) (c s sh place limit : ℕ) → IsReached place (records log s sh)
+    → IsReached (place_after place (numbers_of (batch log c s sh place limit))) (records log s sh)
 batch_reached log c s sh place limit at =
     place_reached place (records log s sh) (batch log c s sh place limit) at
-    (all_begun limit BATCH_BYTES (λ (r : Logged). IsReached (r.seq + 1) (records log s sh)) (left_from log c s sh place) (left_reached log c s sh place))
+    (all_begun limit BATCH_BYTES (λ (r : Logged). IsReached (r.seq + 1) (records log s sh)) (left_from log c s sh place)
+    (left_reached log c s sh place))
 
 -- ---- tenures and rows
 
 -- all places of a tenure are reached: its start, and those after its first reads
 AreReached : Journal → TenureState → Type 0
-AreReached log T = (i : ℕ) → IsReached (place_after_reads (place_of T.start) (take i T.reads)) (records log T.key.stream T.key.shard)
+AreReached log T = (i : ℕ)
+    → IsReached (place_after_reads (place_of T.start) (take i T.reads)) (records log T.key.stream T.key.shard)
 
-places_append : (p : ℕ) (rs : List ReadDone) (r : ReadDone) → place_after_reads p (rs ++ r ∷ []) ≡ place_after (place_after_reads p rs) r.numbers
+places_append : (p : ℕ) (rs : List ReadDone) (r : ReadDone)
+    → place_after_reads p (rs ++ r ∷ []) ≡ place_after (place_after_reads p rs) r.numbers
 places_append p [] r = refl
 places_append p (q ∷ rs) r = places_append (place_after p q.numbers) rs r
 
-take_snoc : (i : ℕ) (rs : List ReadDone) (r : ReadDone) → (take i (rs ++ r ∷ []) ≡ take i rs) ⊎ (take i (rs ++ r ∷ []) ≡ rs ++ r ∷ [])
+take_snoc : (i : ℕ) (rs : List ReadDone) (r : ReadDone) → (take i (rs ++ r ∷ []) ≡ take i rs)
+    ⊎ (take i (rs ++ r ∷ []) ≡ rs ++ r ∷ [])
 take_snoc zero rs r = inl (both rs)
   where
     both : (rs : List ReadDone) → take 0 (rs ++ r ∷ []) ≡ take 0 rs
@@ -120,7 +144,8 @@ take_snoc (suc i) [] r = inr (one i)
     one (suc i) = refl
 take_snoc (suc i) (x ∷ rs) r = either (take_snoc i rs r)
   where
-    either : (take i (rs ++ r ∷ []) ≡ take i rs) ⊎ (take i (rs ++ r ∷ []) ≡ rs ++ r ∷ []) → (x ∷ take i (rs ++ r ∷ []) ≡ x ∷ take i rs) ⊎ (x ∷ take i (rs ++ r ∷ []) ≡ x ∷ (rs ++ r ∷ []))
+    either : (take i (rs ++ r ∷ []) ≡ take i rs) ⊎ (take i (rs ++ r ∷ []) ≡ rs ++ r ∷ [])
+        → (x ∷ take i (rs ++ r ∷ []) ≡ x ∷ take i rs) ⊎ (x ∷ take i (rs ++ r ∷ []) ≡ x ∷ (rs ++ r ∷ []))
     either (inl is) = inl (ap (λ xs. x ∷ xs) is)
     either (inr is) = inr (ap (λ xs. x ∷ xs) is)
 
@@ -129,7 +154,9 @@ take_all [] = refl
 take_all (r ∷ rs) = ap (λ xs. r ∷ xs) (take_all rs)
 
 -- with one more read
-read_reached : (log : Journal) (c limit : ℕ) (T : TenureState) (numbers : List ℕ) (ended : Bool) → numbers ≡ numbers_of (batch log c T.key.stream T.key.shard (reach T) limit) → AreReached log T → AreReached log (with_read numbers ended T)
+read_reached : (log : Journal) (c limit : ℕ) (T : TenureState) (numbers : List ℕ) (ended : Bool)
+    → numbers ≡ numbers_of (batch log c T.key.stream T.key.shard (reach T) limit) → AreReached log T
+    → AreReached log (with_read numbers ended T)
 unfolding AreReached
 read_reached log c limit T numbers ended is at i = either (take_snoc i T.reads r)
   where
@@ -145,31 +172,39 @@ read_reached log c limit T numbers ended is at i = either (take_snoc i T.reads r
     whole : IsReached (reach T) all
     whole = subst (λ rs. IsReached (place_after_reads p rs) all) (take_all T.reads) (at (length T.reads))
 
-    either : (take i (T.reads ++ r ∷ []) ≡ take i T.reads) ⊎ (take i (T.reads ++ r ∷ []) ≡ T.reads ++ r ∷ []) → IsReached (place_after_reads p (take i (T.reads ++ r ∷ []))) all
+    either : (take i (T.reads ++ r ∷ []) ≡ take i T.reads) ⊎ (take i (T.reads ++ r ∷ []) ≡ T.reads ++ r ∷ [])
+        → IsReached (place_after_reads p (take i (T.reads ++ r ∷ []))) all
     either (inl same) = subst (λ rs. IsReached (place_after_reads p rs) all) (sym same) (at i)
     either (inr same) =
         subst (λ rs. IsReached (place_after_reads p rs) all) (sym same)
         (subst (λ n. IsReached n all) (sym (places_append p T.reads r))
-        (subst (λ ns. IsReached (place_after (reach T) ns) all) (sym is) (batch_reached log c T.key.stream T.key.shard (reach T) limit whole)))
+        (subst (λ ns. IsReached (place_after (reach T) ns) all) (sym is)
+        (batch_reached log c T.key.stream T.key.shard (reach T) limit whole)))
 
 RowReached : Journal → ShardRef → Checkpoint → Type 0
 RowReached log key checkpoint = IsReached (place_of checkpoint) (records log key.stream key.shard)
 
 -- what holds of the row of each key from the trim horizon, and of each tenure of such a key
 record AllReached (log : Journal) : Type 0 where
-  rows : (key : ShardRef) (r : Row) → row log key ≡ Some r → origin_of log key ≡ Some origin.TrimHorizon → RowReached log key r.checkpoint
-  tenures : (t : ℕ) (T : TenureState) → tenure log t ≡ Some T → origin_of log T.key ≡ Some origin.TrimHorizon → AreReached log T
+  rows : (key : ShardRef) (r : Row) → row log key ≡ Some r → origin_of log key ≡ Some origin.TrimHorizon
+      → RowReached log key r.checkpoint
+  tenures : (t : ℕ) (T : TenureState) → tenure log t ≡ Some T → origin_of log T.key ≡ Some origin.TrimHorizon
+      → AreReached log T
 
-tenure_stays : (log : Journal) (line : Line) (T : TenureState) → IsLegal (line ∷ log) → AreReached log T → AreReached (line ∷ log) T
+tenure_stays : (log : Journal) (line : Line) (T : TenureState) → IsLegal (line ∷ log) → AreReached log T
+    → AreReached (line ∷ log) T
 unfolding AreReached
 tenure_stays log line T legal at i = reached_stays log line legal T.key.stream T.key.shard _ (at i)
 
-row_stays : (log : Journal) (line : Line) (key : ShardRef) (checkpoint : Checkpoint) → IsLegal (line ∷ log) → RowReached log key checkpoint → RowReached (line ∷ log) key checkpoint
+row_stays : (log : Journal) (line : Line) (key : ShardRef) (checkpoint : Checkpoint) → IsLegal (line ∷ log)
+    → RowReached log key checkpoint → RowReached (line ∷ log) key checkpoint
 unfolding RowReached
 row_stays log line key checkpoint legal at = reached_stays log line legal key.stream key.shard _ at
 
 -- a taking begins where the row stands
-begun_reached : (log : Journal) (by : ℕ) (key : ShardRef) (o : Option Row) → row log key ≡ o → origin_of log key ≡ Some origin.TrimHorizon → AllReached log → AreReached log (new_tenure by key (checkpoint_in o))
+begun_reached : (log : Journal) (by : ℕ) (key : ShardRef) (o : Option Row) → row log key ≡ o
+    → origin_of log key ≡ Some origin.TrimHorizon → AllReached log
+    → AreReached log (new_tenure by key (checkpoint_in o))
 unfolding AreReached RowReached
 begun_reached log by key None is from all zero = reached_none (records log key.stream key.shard)
 begun_reached log by key None is from all (suc i) = reached_none (records log key.stream key.shard)
@@ -185,47 +220,61 @@ unfolding AreReached
 given_reached log T at = at
 
 -- a tenure that was there, of a key that had the same origin
-before_reached : (log : Journal) (line : Line) → IsLegal (line ∷ log) → AllReached log → (t : ℕ) (S T : TenureState) → tenure log t ≡ Some S → T.key ≡ S.key → origin_of (line ∷ log) T.key ≡ Some origin.TrimHorizon → AreReached log S
+before_reached : (log : Journal) (line : Line) → IsLegal (line ∷ log) → AllReached log → (t : ℕ) (S T : TenureState)
+    → tenure log t ≡ Some S → T.key ≡ S.key → origin_of (line ∷ log) T.key ≡ Some origin.TrimHorizon → AreReached log S
 before_reached log line legal all t S T is same from =
     let here = subst (λ k. origin_of (line ∷ log) k ≡ Some origin.TrimHorizon) same from in
     all.tenures t S is (origin_before log line legal line.what S.key _ refl (tenure_made log legal.1 t S is) here)
 
-tenure_after_line : (log : Journal) (line : Line) → IsLegal (line ∷ log) → AllReached log → (t : ℕ) (T : TenureState) → TenureStep log line t T → origin_of (line ∷ log) T.key ≡ Some origin.TrimHorizon → AreReached log T
+tenure_after_line : (log : Journal) (line : Line) → IsLegal (line ∷ log) → AllReached log → (t : ℕ) (T : TenureState)
+    → TenureStep log line t T → origin_of (line ∷ log) T.key ≡ Some origin.TrimHorizon → AreReached log T
 tenure_after_line log line legal all t T (Begun key number counter owner is new state) from =
     let allowed = subst (λ e. told log line e ≡ Accepted (line ∷ []) legal.0.reply) is legal.0.allowed in
     let f = take_told log line key number counter owner legal.0.reply allowed in
-    let here = subst (λ k. origin_of (line ∷ log) k ≡ Some origin.TrimHorizon) (ap (λ (U : TenureState). U.key) state) from in
+    let here = subst (λ k. origin_of (line ∷ log) k ≡ Some origin.TrimHorizon) (ap (λ (U : TenureState). U.key) state)
+    from in
     let old = origin_before log line legal line.what key _ refl (row_made log key f.state f.there) here in
     subst (AreReached log) (sym state) (begun_reached log line.by key (row log key) refl old all)
 tenure_after_line log line legal all t T (Same is) from = before_reached log line legal all t T T is refl from
 tenure_after_line log line legal all t T (Opening before is at new) from =
-    subst (AreReached log) (sym new) (opened_reached log before (before_reached log line legal all t before T at (ap (λ (U : TenureState). U.key) new) from))
+    subst (AreReached log) (sym new)
+    (opened_reached log before
+    (before_reached log line legal all t before T at (ap (λ (U : TenureState). U.key) new) from))
 tenure_after_line log line legal all t T (Reading before limit ended numbers is at new) from =
     let allowed = subst (λ e. told log line e ≡ Accepted (line ∷ []) legal.0.reply) is legal.0.allowed in
     let f = read_told log line t limit ended numbers legal.0.reply is allowed in
     let same : f.state ≡ before = same_some f.state before (sym f.begun ∙ at) in
-    let ns = f.numbers_are ∙ ap (λ (S : TenureState). numbers_of (batch log line.clock S.key.stream S.key.shard (reach S) limit)) same in
+    let ns = f.numbers_are
+    ∙ ap (λ (S : TenureState). numbers_of (batch log line.clock S.key.stream S.key.shard (reach S) limit)) same in
     let old = before_reached log line legal all t before T at (ap (λ (U : TenureState). U.key) new) from in
     subst (AreReached log) (sym new) (read_reached log line.clock limit before numbers ended ns old)
 tenure_after_line log line legal all t T (Giving before is at new) from =
-    subst (AreReached log) (sym new) (given_reached log before (before_reached log line legal all t before T at (ap (λ (U : TenureState). U.key) new) from))
+    subst (AreReached log) (sym new)
+    (given_reached log before
+    (before_reached log line legal all t before T at (ap (λ (U : TenureState). U.key) new) from))
 
 -- a mark is below the delivered place
-marked_reached : (log : Journal) (T : TenureState) (to : Target) → TargetOk T to → AreReached log T → RowReached log T.key (checkpoint_at to)
+marked_reached : (log : Journal) (T : TenureState) (to : Target) → TargetOk T to → AreReached log T
+    → RowReached log T.key (checkpoint_at to)
 unfolding AreReached RowReached
-marked_reached log T (target.At q) below at = reached_below (delivered T) (q + 1) (records log T.key.stream T.key.shard) (omega (arith, below)) (at T.given)
+marked_reached log T (target.At q) below at =
+    reached_below (delivered T) (q + 1) (records log T.key.stream T.key.shard) (omega (arith, below)) (at T.given)
 marked_reached log T target.End below at = reached_none (records log T.key.stream T.key.shard)
 
 same_origin : (from q : Origin) → Some from ≡ Some q → from ≡ q
 same_origin from q h = cc
 
-row_after_line : (log : Journal) (line : Line) → IsLegal (line ∷ log) → AllReached log → (key : ShardRef) (r : Row) → RowStep log line key r → origin_of (line ∷ log) key ≡ Some origin.TrimHorizon → RowReached log key r.checkpoint
+row_after_line : (log : Journal) (line : Line) → IsLegal (line ∷ log) → AllReached log → (key : ShardRef) (r : Row)
+    → RowStep log line key r → origin_of (line ∷ log) key ≡ Some origin.TrimHorizon → RowReached log key r.checkpoint
 unfolding RowReached
 row_after_line log line legal all key r (NewRow from is floor start) h =
-    let here = ap (λ e. origin_after e key (origin_of log key)) is ∙ ap (λ b. if b then Some from else origin_of log key) (same_self key.stream key.shard) in
+    let here = ap (λ e. origin_after e key (origin_of log key)) is
+    ∙ ap (λ b. if b then Some from else origin_of log key) (same_self key.stream key.shard) in
     let horizon = same_origin from origin.TrimHorizon (sym here ∙ h) in
-    let begins : r.checkpoint ≡ TrimHorizon = start ∙ ap (λ o. start_from o (floor_from log line.clock key from)) horizon in
-    subst (λ c. IsReached (place_of c) (records log key.stream key.shard)) (sym begins) (reached_none (records log key.stream key.shard))
+    let begins : r.checkpoint ≡ TrimHorizon =
+    start ∙ ap (λ o. start_from o (floor_from log line.clock key from)) horizon in
+    subst (λ c. IsReached (place_of c) (records log key.stream key.shard)) (sym begins)
+    (reached_none (records log key.stream key.shard))
 row_after_line log line legal all key r (SameCheckpoint before there floor same) h =
     let old = origin_before log line legal line.what key _ refl (row_made log key before there) h in
     subst (λ c. IsReached (place_of c) (records log key.stream key.shard)) (sym same) (all.rows key before there old)
@@ -236,10 +285,14 @@ row_after_line log line legal all key r (MarkedRow before t counter to is of the
     let key_is : m.state.key ≡ key = same_some m.state.key key (sym (tenure_key log t m.state m.begun) ∙ of) in
     let here = subst (λ k. origin_of log k ≡ Some origin.TrimHorizon) (sym key_is) old in
     subst (λ c. IsReached (place_of c) (records log key.stream key.shard)) (sym marked)
-    (subst (λ (k : ShardRef). IsReached (place_of (checkpoint_at to)) (records log k.stream k.shard)) key_is (marked_reached log m.state to m.meets (all.tenures t m.state m.begun here)))
+    (subst (λ (k : ShardRef). IsReached (place_of (checkpoint_at to)) (records log k.stream k.shard)) key_is
+    (marked_reached log m.state to m.meets (all.tenures t m.state m.begun here)))
 
 all_reach : (log : Journal) → IsLegal log → AllReached log
-all_reach [] legal = record { rows = λ key r is from. absurd (no_row r is); tenures = λ t T is from. absurd (no_tenure T is) }
+all_reach [] legal = record {
+  rows = λ key r is from. absurd (no_row r is);
+  tenures = λ t T is from. absurd (no_tenure T is);
+}
   where
     no_row : (r : Row) → None ≡ Some r → ⊥
     no_row r is = cc
@@ -247,15 +300,22 @@ all_reach [] legal = record { rows = λ key r is from. absurd (no_row r is); ten
     no_tenure : (T : TenureState) → None ≡ Some T → ⊥
     no_tenure T is = cc
 all_reach (line ∷ log) legal = record {
-  rows = λ key r is from. row_stays log line key r.checkpoint legal (row_after_line log line legal (all_reach log legal.1) key r (row_step log line key r is) from);
-  tenures = λ t T is from. tenure_stays log line T legal (tenure_after_line log line legal (all_reach log legal.1) t T (tenure_step log line t T is) from);
+  rows = λ key r is from.
+      row_stays log line key r.checkpoint legal
+      (row_after_line log line legal (all_reach log legal.1) key r (row_step log line key r is) from);
+  tenures = λ t T is from.
+      tenure_stays log line T legal
+      (tenure_after_line log line legal (all_reach log legal.1) t T (tenure_step log line t T is) from);
 }
 
 -- a row from the trim horizon that reads a number has a record of its shard with this number or a greater one
-pub checkpoint_reached : (log : Journal) → IsLegal log → (key : ShardRef) (r : Row) (q : ℕ) → row log key ≡ Some r → origin_of log key ≡ Some origin.TrimHorizon → r.checkpoint ≡ At q → HasFrom q (records log key.stream key.shard)
+pub checkpoint_reached : (log : Journal) → IsLegal log → (key : ShardRef) (r : Row) (q : ℕ) → row log key ≡ Some r
+    → origin_of log key ≡ Some origin.TrimHorizon → r.checkpoint ≡ At q → HasFrom q (records log key.stream key.shard)
 unfolding RowReached
 checkpoint_reached log legal key r q there from is =
-    found q (records log key.stream key.shard) (subst (λ c. IsReached (place_of c) (records log key.stream key.shard)) is ((all_reach log legal).rows key r there from))
+    found q (records log key.stream key.shard)
+    (subst (λ c. IsReached (place_of c) (records log key.stream key.shard)) is
+    ((all_reach log legal).rows key r there from))
   where
     found : (q : ℕ) (rs : List Logged) → IsReached (q + 1) rs → HasFrom q rs
     found q [] at = absurd (omega (arith, at))
@@ -263,7 +323,8 @@ checkpoint_reached log legal key r q there from is =
     found q (r ∷ rs) (inr at) = inr (found q rs at)
 
 -- such a row has its shard's starting number as its floor
-pub horizon_floor : (log : Journal) → IsLegal log → (key : ShardRef) (r : Row) → row log key ≡ Some r → origin_of log key ≡ Some origin.TrimHorizon → r.floor ≡ start_of (shard_at log key.stream key.shard)
+pub horizon_floor : (log : Journal) → IsLegal log → (key : ShardRef) (r : Row) → row log key ≡ Some r
+    → origin_of log key ≡ Some origin.TrimHorizon → r.floor ≡ start_of (shard_at log key.stream key.shard)
 horizon_floor log legal key r there from =
     let b = begins_shard log legal key r there from in
     b.first ∙ ap start_of (sym b.there)

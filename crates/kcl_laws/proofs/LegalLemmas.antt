@@ -1,5 +1,6 @@
 -- The journal of a history is legal.
-use Rattle.std.proofs.Common.{◌≡◌, ℕ, ◌+◌, ◌-◌, ◌^◌, ◌<◌, ◌≤◌, Bool, true, false, List, [], ◌∷◌, length, Option, Some, None, refl, sym, ap, ◌∙◌, arith}
+use Rattle.std.proofs.Common.{◌≡◌, ℕ, ◌+◌, ◌-◌, ◌^◌, ◌<◌, ◌≤◌, Bool, true, false, List, [], ◌∷◌, length, Option, Some}
+use Rattle.std.proofs.Common.{None, refl, sym, ap, ◌∙◌, arith}
 use Rattle.std.specs.Prelude.{Result, Ok, is_some, not, nat_lt, cond, if◌then◌else◌}
 use Rattle.std.specs.List.{AllByRecursion, find, filter}
 use Rattle.std.proofs.lemmas.Bool.Decides.{nat_tests}
@@ -22,7 +23,8 @@ use Rattle.kds_defs.specs.Journal.{Line, Journal, plain_line}
 use Rattle.kds_defs.specs.Lawful.{IsLawfulCommand, IsHistory, IsItem}
 use Rattle.kds_defs.specs.Keys.{is_listed_key, ref}
 use Rattle.kds_defs.specs.Leases.{TenureState, row, tenure, reach}
-use Rattle.kds_defs.specs.LeaseCommands.{follows_parent, with_tenure, take_lease, renew, free, mark, read, is_unread, past_parent, past_parents}
+use Rattle.kds_defs.specs.LeaseCommands.{follows_parent, with_tenure, take_lease, renew, free, mark, read, is_unread}
+use Rattle.kds_defs.specs.LeaseCommands.{past_parent, past_parents}
 use Rattle.kds_defs.specs.Legal.{in_stream, told, IsGood, IsLegal, IsInRange, last_clock, reach_in}
 use Rattle.kds_defs.specs.Records.{next_number}
 use Rattle.kds_defs.specs.Shards.{ShardState, home}
@@ -35,14 +37,16 @@ use Rattle.kcl_laws.proofs.Added.{Adds, in_live, draws_one, not_spent, not_past}
 use Rattle.kcl_laws.proofs.ScalingLemmas.{adds_scaling}
 
 -- a stream that a name finds is live
-pub found_by : (b d : Bool) (x s : ℕ) (rest : List ℕ) (p q : ℕ → Bool) → q x ≡ b → p x ≡ d → find p (cond b (x ∷ filter q rest) (filter q rest)) ≡ Some s
+pub found_by : (b d : Bool) (x s : ℕ) (rest : List ℕ) (p q : ℕ → Bool) → q x ≡ b → p x ≡ d
+    → find p (cond b (x ∷ filter q rest) (filter q rest)) ≡ Some s
     → (find p (filter q rest) ≡ Some s → q s ≡ true) → q s ≡ true
 found_by false d x s rest p q isb isd h later = later h
 found_by true true x s rest p q isb isd h later =
     let e : Some x ≡ Some s = ap (λ b. cond b (Some x) (find p (filter q rest))) (sym isd) ∙ h in
     let f : x ≡ s = cc (e) in
     ap q (sym f) ∙ isb
-found_by true false x s rest p q isb isd h later = later (ap (λ b. cond b (Some x) (find p (filter q rest))) (sym isd) ∙ h)
+found_by true false x s rest p q isb isd h later =
+    later (ap (λ b. cond b (Some x) (find p (filter q rest))) (sym isd) ∙ h)
 
 pub find_filter : (p q : ℕ → Bool) (xs : List ℕ) (s : ℕ) → find p (filter q xs) ≡ Some s → q s ≡ true
 find_filter p q [] s h = absurd cc
@@ -67,12 +71,15 @@ lines_from back log c by s item items =
     else next_line log c by s item ∷ put_lines (next_line log c by s item ∷ log) c by s items
 
 -- one more item is held back, or its line is good
-adds_item : (back : Bool) (item : NewItem) (items : List NewItem) (log : Journal) (c by s : ℕ) → is_held_back log c s item ≡ back → item.hash < 2 ^ 128
+adds_item : (back : Bool) (item : NewItem) (items : List NewItem) (log : Journal) (c by s : ℕ)
+    → is_held_back log c s item ≡ back → item.hash < 2 ^ 128
     → is_live log s ≡ true
-    → next_number log s + length (lines_from back log c by s item items) ≤ last_number → IsLegal log → last_clock log ≤ c
+    → next_number log s + length (lines_from back log c by s item items) ≤ last_number → IsLegal log
+    → last_clock log ≤ c
     → (next_number log s + length (put_lines log c by s items) ≤ last_number → Adds log (put_lines log c by s items) c)
     → ((next : Journal) → next ≡ (next_line log c by s item ∷ log) → next_number next s + length
-    (put_lines next c by s items) ≤ last_number → IsLegal next → last_clock next ≤ c → Adds next (put_lines next c by s items) c)
+    (put_lines next c by s items) ≤ last_number → IsLegal next → last_clock next ≤ c
+    → Adds next (put_lines next c by s items) c)
     → Adds log (lines_from back log c by s item items) c
 adds_item true item items log c by s is hash live fits legal order skip take = skip fits
 adds_item false item items log c by s is hash live fits legal order skip take =
@@ -87,26 +94,31 @@ adds_item false item items log c by s is hash live fits legal order skip take =
           in_live log s _ live ∙ passed_if (refusal.Throttled (home log s item.hash)) _ _ is
           ∙ passed_if refusal.Spent _ _ (not_spent (next_number log s) last_number more fits);
     } in
-    let rest = take (line ∷ log) refl (omega (arith, fits, draws_one s (next_number log s) (next_number log s) refl)) (good, legal) (omega arith) in
+    let rest = take (line ∷ log) refl (omega (arith, fits, draws_one s (next_number log s) (next_number log s) refl))
+    (good, legal) (omega arith) in
     record { legal = rest.legal; clock = rest.clock }
 
 -- the puts of several items, each judged after those before
 adds_puts : (items : List NewItem) (log : Journal) (c by s : ℕ) → AllByRecursion IsItem items → is_live log s ≡ true
-    → next_number log s + length (put_lines log c by s items) ≤ last_number → IsLegal log → last_clock log ≤ c → Adds log (put_lines log c by s items) c
+    → next_number log s + length (put_lines log c by s items) ≤ last_number → IsLegal log → last_clock log ≤ c
+    → Adds log (put_lines log c by s items) c
 adds_puts [] log c by s lawful live fits legal order = record { legal = legal; clock = order }
 adds_puts (item ∷ items) log c by s lawful live fits legal order =
     adds_item (is_held_back log c s item) item items log c by s refl lawful.0.hash live fits legal order
     (λ fits'. adds_puts items log c by s lawful.1 live fits' legal order)
-    (λ next is fits' legal' order'. adds_puts items next c by s lawful.1 (ap (λ l. is_live l s) is ∙ live) fits' legal' order')
+    (λ next is fits' legal' order'.
+    adds_puts items next c by s lawful.1 (ap (λ l. is_live l s) is ∙ live) fits' legal' order')
 
 -- what an own tenure gives
-pub record Owned (log : Journal) (by t : ℕ) (next : TenureState → Decision) (lines : List Line) (reply : Reply) : Type 0 where
+pub record Owned (log : Journal) (by t : ℕ) (next : TenureState → Decision) (lines : List Line) (reply : Reply) :
+    Type 0 where
   pub state : TenureState
   pub begun : tenure log t ≡ Some state
   pub own : state.by ≡ by
   pub rest : next state ≡ Accepted lines reply
 
-pub owned : (log : Journal) (by t : ℕ) (next : TenureState → Decision) (lines : List Line) (reply : Reply) → with_tenure log by t next ≡ Accepted lines reply
+pub owned : (log : Journal) (by t : ℕ) (next : TenureState → Decision) (lines : List Line) (reply : Reply)
+    → with_tenure log by t next ≡ Accepted lines reply
     → Owned log by t next lines reply
 owned log by t next lines reply h =
     let a = found (tenure log t) refusal.NoTenure _ lines reply h in
@@ -121,13 +133,15 @@ IsParentRead log c s (Some parent) = is_unread log c (ref s parent) ≡ false
 pub past_the_parent : (log : Journal) (c s : ℕ) (o : Option ℕ) (next : Decision) (lines : List Line) (reply : Reply)
     → past_parent log c s o next ≡ Accepted lines reply → IsParentRead log c s o × (next ≡ Accepted lines reply)
 past_the_parent log c s None next lines reply h = (tt, h)
-past_the_parent log c s (Some parent) next lines reply h = let a = passes (refusal.ParentsOpen (ref s parent)) _ _ lines reply h in (a.0, a.1)
+past_the_parent log c s (Some parent) next lines reply h = let a =
+    passes (refusal.ParentsOpen (ref s parent)) _ _ lines reply h in (a.0, a.1)
 
 abbrev pub AreParentsRead : Journal → ℕ → ℕ → Option ShardState → Type 0
 AreParentsRead log c s None = Unit {0}
 AreParentsRead log c s (Some x) = IsParentRead log c s x.parent × IsParentRead log c s x.adjacent
 
-pub past_the_parents : (log : Journal) (c s : ℕ) (o : Option ShardState) (next : Decision) (lines : List Line) (reply : Reply)
+pub past_the_parents : (log : Journal) (c s : ℕ) (o : Option ShardState) (next : Decision) (lines : List Line)
+    (reply : Reply)
     → past_parents log c s o next ≡ Accepted lines reply → AreParentsRead log c s o × (next ≡ Accepted lines reply)
 past_the_parents log c s None next lines reply h = (tt, h)
 past_the_parents log c s (Some x) next lines reply h =
@@ -144,15 +158,18 @@ lease_with log c by key from =
 
 -- the origin that counts counts again
 counts_once : (b : Bool)
-    (from : Origin) → (if b then origin.TrimHorizon else (if b then origin.TrimHorizon else from)) ≡ (if b then origin.TrimHorizon else from)
+    (from : Origin) → (if b then origin.TrimHorizon else (if b then origin.TrimHorizon else from))
+    ≡ (if b then origin.TrimHorizon else from)
 counts_once true from = refl
 counts_once false from = refl
 
 -- what follows in a live stream of the name
-of_named : (log : Journal) (name : List ℕ) (s : ℕ) (next : ℕ → Decision) (d : Decision) → stream_named log name ≡ Some s → with_stream log name next ≡ d
+of_named : (log : Journal) (name : List ℕ) (s : ℕ) (next : ℕ → Decision) (d : Decision) → stream_named log name ≡ Some s
+    → with_stream log name next ≡ d
     → in_stream log s (next s) ≡ d
 of_named log name s next d named h =
-    in_live log s (next s) (live_named log name s named) ∙ sym (with_some (stream_named log name) refusal.NoStream next s named) ∙ h
+    in_live log s (next s) (live_named log name s named)
+    ∙ sym (with_some (stream_named log name) refusal.NoStream next s named) ∙ h
 
 one_less : (n : ℕ) → n + 1 - 1 ≡ n
 one_less n = omega arith
@@ -166,18 +183,24 @@ told_allowed log c by _ _ _ (walks.Splits name sh at s named listed fits) h = of
 told_allowed log c by _ _ _ (walks.Merges name sh other s named listed fits) h = of_named log name s _ _ named h
 told_allowed log c by _ _ _ (walks.Enforces name on s named) h = of_named log name s _ _ named h
 told_allowed log c by _ _ _ (walks.Keeps name wanted raise s named fits) h =
-    in_live log s _ (live_named log name s named) ∙ passed_if refusal.BadRetention _ _ (not_both wanted (hours log s) raise fits)
-told_allowed log c by _ _ _ (walks.Makes key from) h = ap (λ o. lease_with log c by key o) (counts_once (follows_parent log key) from) ∙ h
+    in_live log s _ (live_named log name s named)
+    ∙ passed_if refusal.BadRetention _ _ (not_both wanted (hours log s) raise fits)
+told_allowed log c by _ _ _ (walks.Makes key from) h =
+    ap (λ o. lease_with log c by key o) (counts_once (follows_parent log key) from) ∙ h
 told_allowed log c by _ _ _ (walks.Takes key counter owner r there same fits) h =
     ap (λ m. take_lease log c by key m owner) (one_less r.counter ∙ equal_unless r.counter counter same) ∙ h
-told_allowed log c by _ _ _ (walks.Renews t counter T begun same fits) h = ap (λ m. renew log c by t m) (one_less counter) ∙ h
-told_allowed log c by _ _ _ (walks.Frees t counter T begun same fits) h = ap (λ m. free log c by t m) (one_less counter) ∙ h
-told_allowed log c by _ _ _ (walks.Marks t counter to T begun same fits) h = ap (λ m. mark log c by t m to) (one_less counter) ∙ h
+told_allowed log c by _ _ _ (walks.Renews t counter T begun same fits) h =
+    ap (λ m. renew log c by t m) (one_less counter) ∙ h
+told_allowed log c by _ _ _ (walks.Frees t counter T begun same fits) h =
+    ap (λ m. free log c by t m) (one_less counter) ∙ h
+told_allowed log c by _ _ _ (walks.Marks t counter to T begun same fits) h =
+    ap (λ m. mark log c by t m to) (one_less counter) ∙ h
 told_allowed log c by _ _ _ (walks.Reads t position limit T place ended begun same) h =
     ap (λ p. read log c by t p limit) (ap reach_in begun ∙ sym (equal_unless position (reach T) same)) ∙ h
 told_allowed log c by _ _ _ _ h = h
 
-told_range : (log : Journal) (c by : ℕ) (what : Command) (line : Line) (r : Reply) → walks.Tells log c by what line r → IsLawfulCommand what
+told_range : (log : Journal) (c by : ℕ) (what : Command) (line : Line) (r : Reply) → walks.Tells log c by what line r
+    → IsLawfulCommand what
     → IsInRange line.what × (line.clock ≡ c)
 told_range log c by _ _ _ (walks.Creates name count fits) lawful = (lawful.1, refl)
 told_range log c by _ _ _ (walks.Puts name item s named fits) lawful = (lawful.1.hash, refl)
@@ -185,22 +208,29 @@ told_range log c by _ _ _ (walks.Keeps name wanted raise s named fits) lawful = 
 told_range log c by _ _ _ _ lawful = (tt, refl)
 
 -- the lines of an outcome
-outcome_legal : (log : Journal) (c by : ℕ) (what : Command) (lines : List Line) (answer : Result Reply Refusal) → walks.Outcome log c by what lines answer
-    → ((r : Reply) → answer ≡ Ok r → decide log c by what ≡ Accepted lines r) → IsLawfulCommand what → IsLegal log → last_clock log ≤ c → Adds log lines c
+outcome_legal : (log : Journal) (c by : ℕ) (what : Command) (lines : List Line) (answer : Result Reply Refusal)
+    → walks.Outcome log c by what lines answer
+    → ((r : Reply) → answer ≡ Ok r → decide log c by what ≡ Accepted lines r) → IsLawfulCommand what → IsLegal log
+    → last_clock log ≤ c → Adds log lines c
 outcome_legal log c by _ _ _ (walks.Refuses what r may) so lawful legal order = record { legal = legal; clock = order }
-outcome_legal log c by _ _ _ (walks.Answers what r shows) so lawful legal order = record { legal = legal; clock = order }
+outcome_legal log c by _ _ _ (walks.Answers what r shows) so lawful legal order =
+    record { legal = legal; clock = order }
 outcome_legal log c by _ _ _ (walks.Adds what line r tells) so lawful legal order =
     let range = told_range log c by what line r tells lawful in
     let allowed = told_allowed log c by what line r tells (so r refl) in
     record {
-      legal = (record { in_order = omega (arith, order, range.1); in_range = range.0; reply = r; allowed = allowed }, legal);
+      legal = (
+        record { in_order = omega (arith, order, range.1); in_range = range.0; reply = r; allowed = allowed },
+        legal,
+      );
       clock = omega (arith, range.1);
     }
 outcome_legal log c by _ _ _ (walks.Stores name items s named fits) so lawful legal order =
     adds_puts items log c by s lawful.1.each (live_named log name s named) (not_past _ _ fits) legal order
 outcome_legal log c by _ _ _ (walks.Scales name goal s named few fits) so lawful legal order =
     let each = or_parts _ _ fits in
-    adds_scaling log c by s goal (live_named log name s named) lawful.1.0 lawful.1.1 (not_past _ _ few) (not_past _ _ each.0) (not_past _ _ each.1) legal order
+    adds_scaling log c by s goal (live_named log name s named) lawful.1.0 lawful.1.1 (not_past _ _ few)
+    (not_past _ _ each.0) (not_past _ _ each.1) legal order
 
 -- the lines of a decision
 is_accepted : (d : Decision) (r : Reply) → answer_of d ≡ Ok r → d ≡ Accepted (lines_of d) r
@@ -221,5 +251,6 @@ pub journals : (h : List Turn) → IsHistory h → HasJournal h
 journals [] lawful = record { legal = tt; order = omega arith }
 journals (turn ∷ h) lawful =
     let before = journals h lawful.1 in
-    let a = decided_legal (journal h) (clock (turn ∷ h)) turn.by turn.what lawful.0.1 before.legal (omega (arith, before.order)) in
+    let a = decided_legal (journal h) (clock (turn ∷ h)) turn.by turn.what lawful.0.1 before.legal
+    (omega (arith, before.order)) in
     record { legal = a.legal; order = a.clock }

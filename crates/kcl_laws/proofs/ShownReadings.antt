@@ -1,5 +1,6 @@
 -- A journal and what its text shows of it have the same readings.
-use Rattle.std.proofs.Common.{◌≡◌, ℕ, ◌+◌, ◌-◌, ◌*◌, max, Bool, true, false, List, [], ◌∷◌, ◌++◌, length, map, slice_get, Option, Some, None, refl, sym, ap, ◌∙◌}
+use Rattle.std.proofs.Common.{◌≡◌, ℕ, ◌+◌, ◌-◌, ◌*◌, max, Bool, true, false, List, [], ◌∷◌, ◌++◌, length, map}
+use Rattle.std.proofs.Common.{slice_get, Option, Some, None, refl, sym, ap, ◌∙◌}
 use Rattle.std.specs.Prelude.{◌==◌, ◌&&◌, ◌||◌, not, if◌then◌else◌}
 use Rattle.std.specs.Option.{option_map}
 use Rattle.std.specs.List.{filter, find}
@@ -14,16 +15,24 @@ use Rattle.kcl_laws.specs.Recorded.{bare}
 use Rattle.kcl_laws.specs.ShownLines.{shown_journal, shown_line}
 use Rattle.kds_defs.specs.Journal.{Line, Journal}
 use Rattle.kds_defs.specs.Keys.{ref, same_key}
-use Rattle.kds_defs.specs.Leases.{TenureState, made_row, checkpoint_in, freed_row, is_key, key_of, key_of_after, marked_row, new_row, new_tenure, renewed_row, row, row_after, taken_count, taken_count_after, taken_row, tenure, tenure_after, with_given, with_opened, with_read}
+use Rattle.kds_defs.specs.Leases.{TenureState, made_row, checkpoint_in, freed_row, is_key, key_of, key_of_after}
+use Rattle.kds_defs.specs.Leases.{marked_row, new_row, new_tenure, renewed_row, row, row_after, taken_count}
+use Rattle.kds_defs.specs.Leases.{taken_count_after, taken_row, tenure, tenure_after, with_given, with_opened}
+use Rattle.kds_defs.specs.Leases.{with_read}
 use Rattle.kds_defs.specs.Legal.{last_clock}
 use Rattle.kds_defs.specs.Listings.{are_none, ends_at, is_closed_at}
 use Rattle.kds_defs.specs.LeaseCommands.{counting_origin, follows_parent, parent_reaches_end, row_reaches_end}
 use Rattle.kds_defs.specs.Origins.{floor_from, start_from}
 use Rattle.kds_defs.specs.PutCommands.{enforced_after, is_enforced}
 use Rattle.kds_defs.specs.Rates.{SizedPut, puts, puts_after}
-use Rattle.kds_defs.specs.Records.{Logged, batch, beginning, draws, first_at, left_among, left_from, next_number, numbers_of, records, records_after}
-use Rattle.kds_defs.specs.Shards.{ShardState, adjacent_of, home, home_among, is_closed_below, is_listed, is_listed_state, is_open, open_count, open_in, parent_of, shard_at, shards, shards_after, start_of}
-use Rattle.kds_defs.specs.Streams.{floor_at, floor_of_lines, hours, hours_after, is_live, is_live_after, live_streams, made_count, made_count_after, name_of, name_of_after, numbers_from, same_name, stream_named, trim_floor, was_made, was_made_after}
+use Rattle.kds_defs.specs.Records.{Logged, batch, beginning, draws, first_at, left_among, left_from, next_number}
+use Rattle.kds_defs.specs.Records.{numbers_of, records, records_after}
+use Rattle.kds_defs.specs.Shards.{ShardState, adjacent_of, home, home_among, is_closed_below, is_listed}
+use Rattle.kds_defs.specs.Shards.{is_listed_state, is_open, open_count, open_in, parent_of, shard_at, shards}
+use Rattle.kds_defs.specs.Shards.{shards_after, start_of}
+use Rattle.kds_defs.specs.Streams.{floor_at, floor_of_lines, hours, hours_after, is_live, is_live_after, live_streams}
+use Rattle.kds_defs.specs.Streams.{made_count, made_count_after, name_of, name_of_after, numbers_from, same_name}
+use Rattle.kds_defs.specs.Streams.{stream_named, trim_floor, was_made, was_made_after}
 use Rattle.kcl_laws.proofs.BareRecords.{beginning_bare, first_bare, left_bare, none_bare, numbers_bare}
 
 pub clock_is : (log : Journal) → last_clock (shown_journal log) ≡ last_clock log
@@ -55,7 +64,8 @@ hours_is (line ∷ log) s = ap (hours_after line.what s) (hours_is log s)
 floor_is : (log : Journal) (s : ℕ) → floor_of_lines (shown_journal log) s ≡ floor_of_lines log s
 floor_is [] s = refl
 floor_is (line ∷ log) s =
-    λ i. max (if was_is (line ∷ log) s i then max (floor_at line.clock (hours_is (line ∷ log) s i * HOUR)) (if was_is log s i then floor_at line.clock (hours_is log s i * HOUR) else 0) else 0) (floor_is log s i)
+    λ i. max (if was_is (line ∷ log) s i then max (floor_at line.clock (hours_is (line ∷ log) s i * HOUR))
+    (if was_is log s i then floor_at line.clock (hours_is log s i * HOUR) else 0) else 0) (floor_is log s i)
 
 trim_is : (log : Journal) (c s : ℕ) → trim_floor (shown_journal log) c s ≡ trim_floor log c s
 trim_is log c s = λ i. max (floor_at c (hours_is log s i * HOUR)) (floor_is log s i)
@@ -73,7 +83,8 @@ next_is [] s = refl
 next_is (line ∷ log) s = ap (λ n. draws line.what s + n) (next_is log s)
 
 -- of a line only its clock counts
-line_is : (line : Line) (what : Entry) (s start : ℕ) (before : List ShardState) → shards_after (shown_line line) what s start before ≡ shards_after line what s start before
+line_is : (line : Line) (what : Entry) (s start : ℕ) (before : List ShardState)
+    → shards_after (shown_line line) what s start before ≡ shards_after line what s start before
 line_is line (entry.Made a name count) s start before = refl
 line_is line (entry.Split a sh at number low high) s start before = refl
 line_is line (entry.Merged a sh other number child) s start before = refl
@@ -81,7 +92,9 @@ line_is line _ s start before = refl
 
 pub shards_are : (log : Journal) (s : ℕ) → shards (shown_journal log) s ≡ shards log s
 shards_are [] s = refl
-shards_are (line ∷ log) s = line_is line line.what s (next_number (shown_journal (line ∷ log)) s) (shards (shown_journal log) s) ∙ (λ i. shards_after line line.what s (next_is (line ∷ log) s i) (shards_are log s i))
+shards_are (line ∷ log) s =
+    line_is line line.what s (next_number (shown_journal (line ∷ log)) s) (shards (shown_journal log) s)
+    ∙ (λ i. shards_after line line.what s (next_is (line ∷ log) s i) (shards_are log s i))
 
 pub home_is : (log : Journal) (s k : ℕ) → home (shown_journal log) s k ≡ home log s k
 home_is log s k = λ i. home_among (filter is_open (shards_are log s i)) k
@@ -93,12 +106,15 @@ open_list log (s ∷ ss) = λ i. length (filter is_open (shards_are log s i)) + 
 pub open_is : (log : Journal) → open_count (shown_journal log) ≡ open_count log
 open_is log = ap (open_in (shown_journal log)) (streams_are log) ∙ open_list log (live_streams log)
 
-state_is : (log : Journal) (c s : ℕ) (o : Option ShardState) → is_listed_state (shown_journal log) c s o ≡ is_listed_state log c s o
+state_is : (log : Journal) (c s : ℕ) (o : Option ShardState)
+    → is_listed_state (shown_journal log) c s o ≡ is_listed_state log c s o
 state_is log c s None = refl
 state_is log c s (Some x) = λ i. not (not (live_is log s i) || is_closed_below (trim_is log c s i) x)
 
 pub listed_is : (log : Journal) (c s sh : ℕ) → is_listed (shown_journal log) c s sh ≡ is_listed log c s sh
-listed_is log c s sh = ap (λ (xs : List ShardState). is_listed_state (shown_journal log) c s (slice_get xs sh)) (shards_are log s) ∙ state_is log c s (shard_at log s sh)
+listed_is log c s sh =
+    ap (λ (xs : List ShardState). is_listed_state (shown_journal log) c s (slice_get xs sh)) (shards_are log s)
+    ∙ state_is log c s (shard_at log s sh)
 
 -- ---- records: they differ in their keys and payloads alone
 
@@ -126,9 +142,11 @@ record_one line _ s sh rs rs' e = e
 
 records_are : (log : Journal) (s sh : ℕ) → map bare (records (shown_journal log) s sh) ≡ map bare (records log s sh)
 records_are [] s sh = refl
-records_are (line ∷ log) s sh = record_one line line.what s sh (records log s sh) (records (shown_journal log) s sh) (records_are log s sh)
+records_are (line ∷ log) s sh =
+    record_one line line.what s sh (records log s sh) (records (shown_journal log) s sh) (records_are log s sh)
 
-left_are : (log : Journal) (c s sh position : ℕ) → map bare (left_from (shown_journal log) c s sh position) ≡ map bare (left_from log c s sh position)
+left_are : (log : Journal) (c s sh position : ℕ) → map bare (left_from (shown_journal log) c s sh position)
+    ≡ map bare (left_from log c s sh position)
 left_are log c s sh position =
     (λ i. map bare (if live_is log s i then left_among (trim_is log c s i) position rs' else []))
     ∙ by (is_live log s)
@@ -142,11 +160,14 @@ left_are log c s sh position =
     floor : ℕ
     floor = trim_floor log c s
 
-    by : (b : Bool) → map bare (if b then left_among floor position rs' else []) ≡ map bare (if b then left_among floor position rs else [])
-    by true = left_bare floor position rs' ∙ ap (left_among floor position) (records_are log s sh) ∙ sym (left_bare floor position rs)
+    by : (b : Bool) → map bare (if b then left_among floor position rs' else [])
+        ≡ map bare (if b then left_among floor position rs else [])
+    by true = left_bare floor position rs' ∙ ap (left_among floor position) (records_are log s sh)
+        ∙ sym (left_bare floor position rs)
     by false = refl
 
-pub numbers_are : (log : Journal) (c s sh position limit : ℕ) → numbers_of (batch (shown_journal log) c s sh position limit) ≡ numbers_of (batch log c s sh position limit)
+pub numbers_are : (log : Journal) (c s sh position limit : ℕ)
+    → numbers_of (batch (shown_journal log) c s sh position limit) ≡ numbers_of (batch log c s sh position limit)
 numbers_are log c s sh position limit =
     sym (numbers_bare (batch (shown_journal log) c s sh position limit))
     ∙ ap numbers_of (beginning_bare limit BATCH_BYTES (left_from (shown_journal log) c s sh position))
@@ -158,9 +179,12 @@ pub ends_is : (log : Journal) (c s sh place : ℕ) → ends_at (shown_journal lo
 ends_is log c s sh place = λ i. is_closed_at (slice_get (shards_are log s i) sh) && none_is i
   where
     none_is : are_none (left_from (shown_journal log) c s sh place) ≡ are_none (left_from log c s sh place)
-    none_is = sym (none_bare (left_from (shown_journal log) c s sh place)) ∙ ap are_none (left_are log c s sh place) ∙ none_bare (left_from log c s sh place)
+    none_is = sym (none_bare (left_from (shown_journal log) c s sh place)) ∙ ap are_none (left_are log c s sh place)
+        ∙ none_bare (left_from log c s sh place)
 
-first_is : (log : Journal) (c s sh moment otherwise : ℕ) → first_at (left_from (shown_journal log) c s sh 0) moment otherwise ≡ first_at (left_from log c s sh 0) moment otherwise
+first_is : (log : Journal) (c s sh moment otherwise : ℕ)
+    → first_at (left_from (shown_journal log) c s sh 0) moment otherwise
+    ≡ first_at (left_from log c s sh 0) moment otherwise
 first_is log c s sh moment otherwise =
     sym (first_bare (left_from (shown_journal log) c s sh 0) moment otherwise)
     ∙ ap (λ rs. first_at rs moment otherwise) (left_are log c s sh 0)
@@ -173,13 +197,15 @@ enforced_is [] s = refl
 enforced_is (line ∷ log) s = ap (enforced_after line.what s) (enforced_is log s)
 
 -- of a line only its clock counts
-put_one : (line : Line) (what : Entry) (s sh : ℕ) (before : List SizedPut) → puts_after (shown_line line) what s sh before ≡ puts_after line what s sh before
+put_one : (line : Line) (what : Entry) (s sh : ℕ) (before : List SizedPut)
+    → puts_after (shown_line line) what s sh before ≡ puts_after line what s sh before
 put_one line (entry.Put a shard n hash bytes key_bytes) s sh before = refl
 put_one line _ s sh before = refl
 
 pub puts_are : (log : Journal) (s sh : ℕ) → puts (shown_journal log) s sh ≡ puts log s sh
 puts_are [] s sh = refl
-puts_are (line ∷ log) s sh = put_one line line.what s sh (puts (shown_journal log) s sh) ∙ ap (puts_after line line.what s sh) (puts_are log s sh)
+puts_are (line ∷ log) s sh = put_one line line.what s sh (puts (shown_journal log) s sh)
+    ∙ ap (puts_after line line.what s sh) (puts_are log s sh)
 
 -- ---- rows and tenures
 
@@ -192,50 +218,68 @@ key_is [] t = refl
 key_is (line ∷ log) t = λ i. key_of_after line.what t (taken_is log i) (key_is log t i)
 
 -- where a row begins
-floor_from_is : (log : Journal) (c : ℕ) (key : ShardRef) (from : Origin) → floor_from (shown_journal log) c key from ≡ floor_from log c key from
+floor_from_is : (log : Journal) (c : ℕ) (key : ShardRef) (from : Origin)
+    → floor_from (shown_journal log) c key from ≡ floor_from log c key from
 floor_from_is log c key origin.TrimHorizon = λ i. start_of (slice_get (shards_are log key.stream i) key.shard)
 floor_from_is log c key origin.Latest = next_is log key.stream
 floor_from_is log c key (origin.Time moment) =
     ap (first_at (left_from (shown_journal log) c key.stream key.shard 0) moment) (next_is log key.stream)
     ∙ first_is log c key.stream key.shard moment (next_number log key.stream)
 
-made_row_is : (log : Journal) (c : ℕ) (key : ShardRef) (from : Origin) → made_row (shown_journal log) c key from ≡ made_row log c key from
+made_row_is : (log : Journal) (c : ℕ) (key : ShardRef) (from : Origin)
+    → made_row (shown_journal log) c key from ≡ made_row log c key from
 made_row_is log c key from =
-    λ i. new_row key (floor_from_is log c key from i) (start_from from (floor_from_is log c key from i)) (parent_of (slice_get (shards_are log key.stream i) key.shard)) (adjacent_of (slice_get (shards_are log key.stream i) key.shard))
+    λ i. new_row key (floor_from_is log c key from i) (start_from from (floor_from_is log c key from i))
+    (parent_of (slice_get (shards_are log key.stream i) key.shard))
+    (adjacent_of (slice_get (shards_are log key.stream i) key.shard))
 
-row_one : (log : Journal) (line : Line) (what : Entry) (key : ShardRef) (o o' : Option Row) → o' ≡ o → row_after (shown_journal log) (shown_line line) what key o' ≡ row_after log line what key o
-row_one log line (entry.LeaseMade k from) key o o' e = λ i. if same_key k key then Some (made_row_is log line.clock key from i) else e i
+row_one : (log : Journal) (line : Line) (what : Entry) (key : ShardRef) (o o' : Option Row) → o' ≡ o
+    → row_after (shown_journal log) (shown_line line) what key o' ≡ row_after log line what key o
+row_one log line (entry.LeaseMade k from) key o o' e =
+    λ i. if same_key k key then Some (made_row_is log line.clock key from i) else e i
 row_one log line (entry.LeaseCut k counter) key o o' e = λ i. if same_key k key then None else e i
-row_one log line (entry.Taken k t counter owner) key o o' e = λ i. if same_key k key then option_map (taken_row (taken_is log i + 1) owner) (e i) else e i
-row_one log line (entry.Renewed t counter) key o o' e = λ i. if is_key (key_is log t i) key then option_map renewed_row (e i) else e i
-row_one log line (entry.Freed t counter) key o o' e = λ i. if is_key (key_is log t i) key then option_map freed_row (e i) else e i
-row_one log line (entry.Marked t counter to) key o o' e = λ i. if is_key (key_is log t i) key then option_map (marked_row to) (e i) else e i
+row_one log line (entry.Taken k t counter owner) key o o' e =
+    λ i. if same_key k key then option_map (taken_row (taken_is log i + 1) owner) (e i) else e i
+row_one log line (entry.Renewed t counter) key o o' e =
+    λ i. if is_key (key_is log t i) key then option_map renewed_row (e i) else e i
+row_one log line (entry.Freed t counter) key o o' e =
+    λ i. if is_key (key_is log t i) key then option_map freed_row (e i) else e i
+row_one log line (entry.Marked t counter to) key o o' e =
+    λ i. if is_key (key_is log t i) key then option_map (marked_row to) (e i) else e i
 row_one log line _ key o o' e = e
 
 pub row_is : (log : Journal) (key : ShardRef) → row (shown_journal log) key ≡ row log key
 row_is [] key = refl
 row_is (line ∷ log) key = row_one log line line.what key (row log key) (row (shown_journal log) key) (row_is log key)
 
-tenure_one : (log : Journal) (line : Line) (what : Entry) (t : ℕ) (o o' : Option TenureState) → o' ≡ o → tenure_after (shown_journal log) (shown_line line) what t o' ≡ tenure_after log line what t o
-tenure_one log line (entry.Taken key u counter owner) t o o' e = λ i. if t == taken_is log i + 1 then Some (new_tenure line.by key (checkpoint_in (row_is log key i))) else e i
+tenure_one : (log : Journal) (line : Line) (what : Entry) (t : ℕ) (o o' : Option TenureState) → o' ≡ o
+    → tenure_after (shown_journal log) (shown_line line) what t o' ≡ tenure_after log line what t o
+tenure_one log line (entry.Taken key u counter owner) t o o' e =
+    λ i. if t == taken_is log i + 1 then Some (new_tenure line.by key (checkpoint_in (row_is log key i))) else e i
 tenure_one log line (entry.Opened u) t o o' e = λ i. if u == t then option_map with_opened (e i) else e i
-tenure_one log line (entry.Read u limit ended numbers) t o o' e = λ i. if u == t then option_map (with_read numbers ended) (e i) else e i
+tenure_one log line (entry.Read u limit ended numbers) t o o' e =
+    λ i. if u == t then option_map (with_read numbers ended) (e i) else e i
 tenure_one log line (entry.Given u) t o o' e = λ i. if u == t then option_map with_given (e i) else e i
 tenure_one log line _ t o o' e = e
 
 pub tenure_is : (log : Journal) (t : ℕ) → tenure (shown_journal log) t ≡ tenure log t
 tenure_is [] t = refl
-tenure_is (line ∷ log) t = tenure_one log line line.what t (tenure log t) (tenure (shown_journal log) t) (tenure_is log t)
+tenure_is (line ∷ log) t =
+    tenure_one log line line.what t (tenure log t) (tenure (shown_journal log) t) (tenure_is log t)
 
 -- ---- the origin that counts
 
-reaches_is : (log : Journal) (s : ℕ) (o : Option ℕ) → parent_reaches_end (shown_journal log) s o ≡ parent_reaches_end log s o
+reaches_is : (log : Journal) (s : ℕ) (o : Option ℕ)
+    → parent_reaches_end (shown_journal log) s o ≡ parent_reaches_end log s o
 reaches_is log s None = refl
-reaches_is log s (Some parent) = λ i. row_reaches_end (row_is log (ref s parent) i) (slice_get (shards_are log s i) parent)
+reaches_is log s (Some parent) =
+    λ i. row_reaches_end (row_is log (ref s parent) i) (slice_get (shards_are log s i) parent)
 
 follows_is : (log : Journal) (key : ShardRef) → follows_parent (shown_journal log) key ≡ follows_parent log key
 follows_is log key =
-    λ i. reaches_is log key.stream (parent_of (slice_get (shards_are log key.stream i) key.shard)) i || reaches_is log key.stream (adjacent_of (slice_get (shards_are log key.stream i) key.shard)) i
+    λ i. reaches_is log key.stream (parent_of (slice_get (shards_are log key.stream i) key.shard)) i
+    || reaches_is log key.stream (adjacent_of (slice_get (shards_are log key.stream i) key.shard)) i
 
-pub origin_is : (log : Journal) (key : ShardRef) (from : Origin) → counting_origin (shown_journal log) key from ≡ counting_origin log key from
+pub origin_is : (log : Journal) (key : ShardRef) (from : Origin)
+    → counting_origin (shown_journal log) key from ≡ counting_origin log key from
 origin_is log key from = λ i. if follows_is log key i then origin.TrimHorizon else from

@@ -1,5 +1,6 @@
 -- What a tenure is is what the lines of the journal tell.
-use Rattle.std.proofs.Common.{◌≡◌, ℕ, ◌+◌, Bool, true, false, List, [], ◌∷◌, ◌++◌, length, Option, Some, None, refl, ap, ◌∙◌, arith}
+use Rattle.std.proofs.Common.{◌≡◌, ℕ, ◌+◌, Bool, true, false, List, [], ◌∷◌, ◌++◌, length, Option, Some, None, refl, ap}
+use Rattle.std.proofs.Common.{◌∙◌, arith}
 use Rattle.std.specs.Prelude.{◌==◌, ◌||◌, cond, if◌then◌else◌}
 use Rattle.std.specs.Option.{option_map}
 use Rattle.std.specs.List.{find}
@@ -7,8 +8,10 @@ use Rattle.kds_base.specs.declared.lease_key.ShardRef.{ShardRef}
 use Rattle.kds_defs.specs.declared.entry.Entry.{Entry}
 use Rattle.kds_defs.specs.declared.entry.Entry.TheVariants as entry
 use Rattle.kds_defs.specs.Journal.{Line, Journal}
-use Rattle.kds_defs.specs.Leases.{TenureState, checkpoint_in, new_tenure, row, taken_count, tenure, tenure_after, with_given, with_opened, with_read}
-use Rattle.kcl_laws.specs.TenureLines.{Told, all_told, begins, givings, newer_than, reads_told, since_taking, taken_key, taking, was_opened, IsToldTenure}
+use Rattle.kds_defs.specs.Leases.{TenureState, checkpoint_in, new_tenure, row, taken_count, tenure, tenure_after}
+use Rattle.kds_defs.specs.Leases.{with_given, with_opened, with_read}
+use Rattle.kcl_laws.specs.TenureLines.{Told, all_told, begins, givings, newer_than, reads_told, since_taking, taken_key}
+use Rattle.kcl_laws.specs.TenureLines.{taking, was_opened, IsToldTenure}
 
 -- the tenure that these lines tell, which began by this line
 abbrev told_by : ℕ → List Told → Told → TenureState
@@ -30,9 +33,11 @@ here by log e = record { by = by; what = e; before = log }
 
 -- ---- one line more, where it is the tenure's and where it isn't
 
-began : (t by : ℕ) (log : Journal) (k : ShardRef) (n c owner : ℕ) (ls : List Told) (b : Bool) (before : Option TenureState) → before ≡ told t ls
+began : (t by : ℕ) (log : Journal) (k : ShardRef) (n c owner : ℕ) (ls : List Told) (b : Bool)
+    (before : Option TenureState) → before ≡ told t ls
     → (if b then Some (new_tenure by k (checkpoint_in (row log k))) else before)
-    ≡ option_map (told_by t (if b then [] else here by log (entry.Taken k n c owner) ∷ newer_than t ls)) (cond b (Some (here by log (entry.Taken k n c owner))) (find (begins t) ls))
+    ≡ option_map (told_by t (if b then [] else here by log (entry.Taken k n c owner) ∷ newer_than t ls))
+    (cond b (Some (here by log (entry.Taken k n c owner))) (find (begins t) ls))
 began t by log k n c owner ls true before is = refl
 began t by log k n c owner ls false before is = is
 
@@ -46,7 +51,10 @@ opened t ls false (Some x) = refl
 
 read : (t : ℕ) (ls : List Told) (numbers : List ℕ) (ended : Bool) (b : Bool) (o : Option Told)
     → (if b then option_map (with_read numbers ended) (option_map (told_by t ls) o) else option_map (told_by t ls) o)
-    ≡ option_map (λ x. record (told_by t ls x) { reads = if b then reads_told t ls ++ (record { numbers = numbers; ended = ended } ∷ []) else reads_told t ls }) o
+    ≡ option_map (λ x. record (told_by t ls x) {
+      reads = if b then reads_told t ls
+          ++ (record { numbers = numbers; ended = ended } ∷ []) else reads_told t ls;
+    }) o
 read t ls numbers ended true None = refl
 read t ls numbers ended false None = refl
 read t ls numbers ended true (Some x) = refl
@@ -62,16 +70,20 @@ gave t ls l true (Some x) =
     ap (λ n. Some (record (told_by t ls x) { given = n })) one
 gave t ls l false (Some x) = refl
 
-told_line : (t by : ℕ) (log : Journal) (line : Line) (e : Entry) (ls : List Told) → line.by ≡ by → tenure log t ≡ told t ls → tenure_after log line e t (tenure log t) ≡ told t (here by log e ∷ ls)
+told_line : (t by : ℕ) (log : Journal) (line : Line) (e : Entry) (ls : List Told) → line.by ≡ by
+    → tenure log t ≡ told t ls → tenure_after log line e t (tenure log t) ≡ told t (here by log e ∷ ls)
 told_line t by log line (entry.Taken k n c owner) ls same is =
     ap (λ w. if t == taken_count log + 1 then Some (new_tenure w k (checkpoint_in (row log k))) else tenure log t) same
     ∙ began t by log k n c owner ls (t == taken_count log + 1) (tenure log t) is
 told_line t by log line (entry.Opened u) ls same is =
-    ap (λ o. if u == t then option_map with_opened o else o) is ∙ opened t (newer_than t ls) (u == t) (find (begins t) ls)
+    ap (λ o. if u == t then option_map with_opened o else o) is
+    ∙ opened t (newer_than t ls) (u == t) (find (begins t) ls)
 told_line t by log line (entry.Read u limit ended numbers) ls same is =
-    ap (λ o. if u == t then option_map (with_read numbers ended) o else o) is ∙ read t (newer_than t ls) numbers ended (u == t) (find (begins t) ls)
+    ap (λ o. if u == t then option_map (with_read numbers ended) o else o) is
+    ∙ read t (newer_than t ls) numbers ended (u == t) (find (begins t) ls)
 told_line t by log line (entry.Given u) ls same is =
-    ap (λ o. if u == t then option_map with_given o else o) is ∙ gave t (newer_than t ls) (here by log (entry.Given u)) (u == t) (find (begins t) ls)
+    ap (λ o. if u == t then option_map with_given o else o) is
+    ∙ gave t (newer_than t ls) (here by log (entry.Given u)) (u == t) (find (begins t) ls)
 told_line t by log line _ ls same is = is
 
 -- ---- all lines

@@ -13,11 +13,13 @@ use Rattle.kds_defs.specs.Safe.{IsCovered, IsRead, IsSettled, SettledBetween}
 -- trimmed, and each below the reach was read, was given or is trimmed
 pub record ReadsOn (log : Journal) (c floor : ℕ) (T : TenureState) : Type 0 where
   pub given : SettledBetween log c T.key floor (delivered T)
-  pub read : AllByRecursion (λ r. floor ≤ r.seq → r.seq < reach T → IsRead r.seq T.reads ⊎ IsSettled log c T.key r) (records log T.key.stream T.key.shard)
+  pub read : AllByRecursion (λ r. floor ≤ r.seq → r.seq < reach T → IsRead r.seq T.reads ⊎ IsSettled log c T.key r)
+      (records log T.key.stream T.key.shard)
 
 -- that holds of each tenure whose key has a row, from the row's floor on
 abbrev pub AreReadOn : Journal → ℕ → Type 0
-AreReadOn log c = (t : ℕ) (T : TenureState) (r : Row) → tenure log t ≡ Some T → row log T.key ≡ Some r → ReadsOn log c r.floor T
+AreReadOn log c = (t : ℕ) (T : TenureState) (r : Row) → tenure log t ≡ Some T → row log T.key ≡ Some r
+    → ReadsOn log c r.floor T
 
 -- each row from the trim horizon covers every record of its shard up to its checkpoint
 abbrev pub AreWhole : Journal → ℕ → Type 0

@@ -29,7 +29,8 @@ ghost use Rattle.kds_defs.specs.Lawful.{IsHistory};
 ghost use Rattle.kds_defs.specs.Leases.{TenureState, place_of, row, tenure};
 ghost use Rattle.kds_defs.specs.Legal.{IsGood, IsLegal, IsReached};
 ghost use Rattle.kds_defs.specs.Records.{next_number, records};
-ghost use Rattle.kds_defs.specs.Safe.{HasPartitions, ArePlaced, AreCovered, AreInLine, HoldsRow, AreFenced, IsSafe, RiseFrom, all_numbers};
+ghost use Rattle.kds_defs.specs.Safe.{HasPartitions, ArePlaced, AreCovered, AreInLine, HoldsRow, AreFenced, IsSafe};
+ghost use Rattle.kds_defs.specs.Safe.{RiseFrom, all_numbers};
 ghost use Rattle.kds_defs.specs.Shards.{shard_at, shards, start_of};
 ghost use Rattle.kds_defs.specs.StreamCommands.{last_number};
 ghost use Rattle.kds_defs.specs.Streams.{was_made};
@@ -78,7 +79,8 @@ pub fn delivery()
 /// deleted. An expired shard stays expired after each further line of the journal and at each later time.
 pub fn one_row()
     ensures once { (h : List Turn) → IsHistory h → (key : ShardRef) → times_made (journal h) key ≤ 1 }
-    ensures expired { (log : Journal) (line : Line) → IsLegal (line ∷ log) → (c : ℕ) (key : ShardRef) → was_made log key.stream ≡ true
+    ensures expired { (log : Journal) (line : Line) → IsLegal (line ∷ log) → (c : ℕ) (key : ShardRef)
+        → was_made log key.stream ≡ true
         → HasExpired log line.clock key → HasExpired (line ∷ log) c key }
     ensures later { (log : Journal) (c d : ℕ) (key : ShardRef) → c ≤ d → HasExpired log c key → HasExpired log d key }
 {}
@@ -113,7 +115,8 @@ pub fn step()
     ensures line { (log : Journal) (line : Line) → IsLegal log → IsGood log line → IsReached (line ∷ log) line.clock }
     ensures later { (log : Journal) (c d : ℕ) → IsReached log c → c ≤ d → IsReached log d }
     ensures history { (h : List Turn) → IsHistory h → IsReached (journal h) (clock h) }
-    ensures refused { (h : List Turn) (turn : Turn) (r : Refusal) → answer h turn ≡ Err r → journal (turn ∷ h) ≡ journal h }
+    ensures refused { (h : List Turn) (turn : Turn) (r : Refusal) → answer h turn ≡ Err r
+        → journal (turn ∷ h) ≡ journal h }
     ensures safe { (log : Journal) (c : ℕ) → IsReached log c → IsSafe log c }
 {}
 
@@ -130,7 +133,8 @@ pub fn step()
 /// number at which reading from the origin begins.
 pub fn rows()
     ensures removed { (log : Journal) (key : ShardRef) → making (last_bound log key) ≡ None → row log key ≡ None }
-    ensures made { (log : Journal) (key : ShardRef) (m : Making) → making (last_bound log key) ≡ Some m → IsToldRow log key m }
+    ensures made { (log : Journal) (key : ShardRef) (m : Making) → making (last_bound log key) ≡ Some m
+        → IsToldRow log key m }
 {}
 
 /// States how each field of a tenure follows from the lines of a journal. The journal can be any list of lines, even if
@@ -159,7 +163,8 @@ pub fn shard_records()
 pub fn checkpoints()
     ensures floor { (h : List Turn) → IsHistory h → (key : ShardRef) (r : Row) → IsFromHorizon (journal h) key r
         → r.floor ≡ start_of (shard_at (journal h) key.stream key.shard) }
-    ensures reached { (h : List Turn) → IsHistory h → (key : ShardRef) (r : Row) (q : ℕ) → IsFromHorizon (journal h) key r
+    ensures reached { (h : List Turn) → IsHistory h → (key : ShardRef) (r : Row) (q : ℕ)
+        → IsFromHorizon (journal h) key r
         → r.checkpoint ≡ At q → HasFrom q (records (journal h) key.stream key.shard) }
 {}
 

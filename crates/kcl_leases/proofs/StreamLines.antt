@@ -8,16 +8,21 @@ use Rattle.kcl_book.specs.Tenures.{TenureValue}
 use Rattle.kcl_leases.proofs.LeaseSteps.{HasRows, HasTenures, rows_of, same_rows, same_tenures, stands_of, tenures_of}
 use Rattle.kcl_leases.specs.Standing.{Facing, Stands, leases}
 
-pub rows_beside : (log : Journal) (line : Line) (rows : List Row) → stream_of line.what ≢ None → HasRows log rows → HasRows (line ∷ log) rows
+pub rows_beside : (log : Journal) (line : Line) (rows : List Row) → stream_of line.what ≢ None → HasRows log rows
+    → HasRows (line ∷ log) rows
 rows_beside log line rows of has =
-    same_rows log line rows (λ keys. keys_same line.what keys of) (λ key before. row_same log line line.what key before of) has
+    same_rows log line rows (λ keys. keys_same line.what keys of)
+    (λ key before. row_same log line line.what key before of) has
 
-pub tenures_beside : (log : Journal) (line : Line) (ts : List TenureValue) → stream_of line.what ≢ None → HasTenures log ts → HasTenures (line ∷ log) ts
+pub tenures_beside : (log : Journal) (line : Line) (ts : List TenureValue) → stream_of line.what ≢ None
+    → HasTenures log ts → HasTenures (line ∷ log) ts
 tenures_beside log line ts of has =
-    same_tenures log line ts (λ n. taken_same line.what n of) (λ t before. tenure_same log line line.what t before of) has
+    same_tenures log line ts (λ n. taken_same line.what n of) (λ t before. tenure_same log line line.what t before of)
+    has
 
 -- ... and what stands for the journal
-pub stands_beside : (old new : Facing) (rows : List Row) (ts : List TenureValue) (log : Journal) (line : Line) → stream_of line.what ≢ None
+pub stands_beside : (old new : Facing) (rows : List Row) (ts : List TenureValue) (log : Journal) (line : Line)
+    → stream_of line.what ≢ None
     → new.shows (line ∷ log) → Stands (leases old rows ts) log → Stands (leases new rows ts) (line ∷ log)
 stands_beside old new rows ts log line of shows st =
     stands_of new rows ts (line ∷ log) shows (rows_beside log line rows of (rows_of old rows ts log st))

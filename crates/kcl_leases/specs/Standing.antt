@@ -1,5 +1,6 @@
 -- What leases know of shards, and which rows and tenures stand for a journal.
-use Rattle.std.specs.Prelude.{ℕ, ◌≡◌, ◌≢◌, ◌≤◌, if◌then◌else◌, List, [], ◌∷◌, drop, length, map, Option, None, Result, IfSome}
+use Rattle.std.specs.Prelude.{ℕ, ◌≡◌, ◌≢◌, ◌≤◌, if◌then◌else◌, List, [], ◌∷◌, drop, length, map, Option, None, Result}
+use Rattle.std.specs.Prelude.{IfSome}
 use Rattle.std.specs.Option.{option_map}
 use Rattle.kds_base.specs.declared.lease_key.Checkpoint.TheVariants.{At}
 use Rattle.kds_base.specs.declared.lease_key.ShardRef.{ShardRef}
@@ -9,7 +10,8 @@ use Rattle.kds_defs.specs.declared.reply.Reply.{Reply}
 use Rattle.kds_defs.specs.declared.reply.Row.{Row}
 use Rattle.kds_defs.specs.Histories.{answer_of, decide, lines_of}
 use Rattle.kds_defs.specs.Journal.{Journal, Line, with_lines}
-use Rattle.kds_defs.specs.Leases.{ReadDone, TenureState, checkpoint_in, delivered, given_reads, last_ended, reach, row, row_keys, taken_count, tenure}
+use Rattle.kds_defs.specs.Leases.{ReadDone, TenureState, checkpoint_in, delivered, given_reads, last_ended, reach, row}
+use Rattle.kds_defs.specs.Leases.{row_keys, taken_count, tenure}
 use Rattle.kds_defs.specs.Records.{place_after}
 use Rattle.kds_defs.specs.Shards.{ShardState, shard_at}
 use Rattle.kds_defs.specs.StreamCommands.{last_number}
@@ -33,7 +35,8 @@ facing clock shows = record { clock = clock; shows = shows }
 
 -- a line of a lease at their clock changes no shard
 abbrev pub KeepsShards : ℕ → (Journal → Type 0) → Type 0
-KeepsShards clock shows = (log : Journal) (line : Line) → shows log → line.clock ≡ clock → stream_of line.what ≡ None → shows (line ∷ log)
+KeepsShards clock shows = (log : Journal) (line : Line) → shows log → line.clock ≡ clock → stream_of line.what ≡ None
+    → shows (line ∷ log)
 
 -- the shards, the rows of the leases, and the tenures in the order of their numbers
 pub record LeasesValue : Type 1 where
@@ -102,8 +105,11 @@ pub record Stands (w : LeasesValue) (log : Journal) : Type 0 where
 -- the command of this actor, at the shards' clock, is answered so and leads from one to the other
 abbrev pub Leads : LeasesValue → LeasesValue → ℕ → Command → Result Reply Refusal → Type 0
 Leads old new by what gives = (log : Journal) → Stands old log
-    → (gives ≡ answer_of (decide log old.shards.clock by what)) × Stands new (with_lines (lines_of (decide log old.shards.clock by what)) log)
+    → (gives ≡ answer_of (decide log old.shards.clock by what))
+    × Stands new (with_lines (lines_of (decide log old.shards.clock by what)) log)
 
 -- it leads from these rows and tenures to those, beside shards that stand at a clock and show these journals
-abbrev pub LeadsOver : ℕ → (Journal → Type 0) → List Row → List TenureValue → List Row → List TenureValue → ℕ → Command → Result Reply Refusal → Type 0
-LeadsOver clock shows rows ts rows' ts' by what gives = Leads (over clock shows rows ts) (over clock shows rows' ts') by what gives
+abbrev pub LeadsOver : ℕ → (Journal → Type 0) → List Row → List TenureValue → List Row → List TenureValue → ℕ → Command
+    → Result Reply Refusal → Type 0
+LeadsOver clock shows rows ts rows' ts' by what gives =
+    Leads (over clock shows rows ts) (over clock shows rows' ts') by what gives

@@ -27,7 +27,8 @@ pub fn make<L: Shards>(
     from: Origin,
 ) -> Result<Answer, Memory>
     ensures leads { (by : ℕ) (ts : List TenureValue)
-        → IfOk result (LeadsOver (L.clock shards.now) (L.shows shards.now) table.old ts table.new ts by (command.MakeLease key.now from)) }
+        → IfOk result (LeadsOver (L.clock shards.now) (L.shows shards.now) table.old ts table.new ts by
+        (command.MakeLease key.now from)) }
     ensures kept { OnErr result (table.new ≡ table.old) }
 {
     shards.lease_lines();
@@ -87,7 +88,8 @@ pub fn take<L: Shards>(
 ) -> Result<Answer, Memory>
     requires bounded { AreBounded table.old }
     requires few { length book.old.tenures ≤ last_number }
-    ensures leads { IfOk result (LeadsOver (L.clock shards.now) (L.shows shards.now) table.old book.old.tenures table.new book.new.tenures
+    ensures leads { IfOk result
+        (LeadsOver (L.clock shards.now) (L.shows shards.now) table.old book.old.tenures table.new book.new.tenures
         by (command.Take key.now counter owner)) }
     ensures kept { OnErr result ((table.new ≡ table.old) × (book.new.tenures ≡ book.old.tenures)) }
 {
@@ -162,7 +164,8 @@ pub fn free<L: Shards>(
 /// Removes the row of the shard `key`. The shard must not be listed, and the row's counter must be `counter`.
 pub fn cut<L: Shards>(shards: &L, table: &mut Table, key: &ShardRef, counter: u64) -> Answer
     ensures { (by : ℕ) (ts : List TenureValue)
-        → LeadsOver (L.clock shards.now) (L.shows shards.now) table.old ts table.new ts by (command.CutLease key.now counter) result }
+        → LeadsOver (L.clock shards.now) (L.shows shards.now) table.old ts table.new ts by
+        (command.CutLease key.now counter) result }
 {
     shards.lease_lines();
     let listed = shards.is_listed(*key);

@@ -23,7 +23,8 @@ pub fn open<L: Shards>(
     by: u32,
     tenure: TenureNo,
 ) -> Answer
-    ensures { LeadsOver (L.clock shards.now) (L.shows shards.now) table.now book.old.tenures table.now book.new.tenures by (command.OpenShard tenure) result }
+    ensures { LeadsOver (L.clock shards.now) (L.shows shards.now) table.now book.old.tenures table.now book.new.tenures
+        by (command.OpenShard tenure) result }
 {
     shards.lease_lines();
     let own = holding_tenure(table, book, by, tenure)?;
@@ -48,7 +49,8 @@ pub fn open<L: Shards>(
 /// read's batch.
 pub fn give<L: Shards>(shards: &L, book: &mut Book, by: u32, tenure: TenureNo) -> Answer
     ensures { (rows : List Row)
-        → LeadsOver (L.clock shards.now) (L.shows shards.now) rows book.old.tenures rows book.new.tenures by (command.Give tenure) result }
+        → LeadsOver (L.clock shards.now) (L.shows shards.now) rows book.old.tenures rows book.new.tenures by
+        (command.Give tenure) result }
 {
     shards.lease_lines();
     own_tenure(book, by, tenure)?;

@@ -21,9 +21,11 @@ use Rattle.kcl_defs.specs.Workers.{Release, Released, WorkerPast, id_of_held, re
 use Rattle.kcl_consumer.specs.Standing.{Standing as ConsumerStanding}
 use Rattle.kcl_hand.specs.declared.stand.Left.{Left}
 use Rattle.kcl_hand.specs.Handing.{HandPast, Hand_answered, Hand_called, command_at, hand_after, hand_command, left_at}
-use Rattle.kcl_hand.specs.Joints.{AreAllServed, AreOrderly, AreToldIn, JointPast, answered_deals, command_in, hand_of, hands_after, joint_deals, state_of, worker_in, worker_past}
+use Rattle.kcl_hand.specs.Joints.{AreAllServed, AreOrderly, AreToldIn, JointPast, answered_deals, command_in, hand_of}
+use Rattle.kcl_hand.specs.Joints.{hands_after, joint_deals, state_of, worker_in, worker_past}
 use Rattle.kcl_hand.specs.Runs.{with_hand}
-use Rattle.kcl_hand.specs.Standing.{AddsDueCall, AddsHandAnswer, AddsHandCall, AddsNothing, BeginsHand, HandStanding, KeepsCalls, StandsFor as HandStandsFor}
+use Rattle.kcl_hand.specs.Standing.{AddsDueCall, AddsHandAnswer, AddsHandCall, AddsNothing, BeginsHand, HandStanding}
+use Rattle.kcl_hand.specs.Standing.{KeepsCalls, StandsFor as HandStandsFor}
 use Rattle.kcl_hand.specs.Twice.{IsHandedOffIfFreed}
 use Rattle.kcl_hand.proofs.Running.{command_last, hands_with}
 use Rattle.kcl_worker.specs.Adding.{AddsRelease}
@@ -33,14 +35,16 @@ use Rattle.kds_turn.specs.declared.pass.TurnErr.{TurnErr}
 use Rattle.kds_turn.specs.Known.{Continues, turns_by}
 use Rattle.kds_turn.specs.Passes.{IsAnswered, Standing}
 use Rattle.kds_turn.proofs.Turns.{continues_same, continues_all}
-use Rattle.kcl_live.specs.Hands.{AreAnswered, AreServedJointly, Goes, HandWasCut, HasHandedOff, HasReleased, IsAlong, IsAnsweredAt, StoodStill, TellsJointly}
+use Rattle.kcl_live.specs.Hands.{AreAnswered, AreServedJointly, Goes, HandWasCut, HasHandedOff, HasReleased, IsAlong}
+use Rattle.kcl_live.specs.Hands.{IsAnsweredAt, StoodStill, TellsJointly}
 use Rattle.kcl_live.specs.Hands.{hand_calls, hand_commands, hand_deals, release_calls, release_state, turns_at}
 use Rattle.kcl_live.specs.Records.{OfEachLater}
 use Rattle.kcl_live.proofs.Histories.{before_own, told_more}
 
 -- ---- going on
 
-pub goes_on : {P : Type 0} (stands : P → List Call → Type 0) (at : ℕ) (x y z : HandStanding P) (q r s : Standing) → r.by ≡ q.by
+pub goes_on : {P : Type 0} (stands : P → List Call → Type 0) (at : ℕ) (x y z : HandStanding P) (q r s : Standing)
+    → r.by ≡ q.by
     → Goes stands at x y q r → Goes stands at y z r s → Goes stands at x z q s
 goes_on stands at x y z q r s same g f = λ start p before since by along.
     let one = g start p before since by along in
@@ -48,19 +52,31 @@ goes_on stands at x y z q r s same g f = λ start p before since by along.
 
 -- ---- answers
 
-answered_later : (by at : ℕ) (h : Held) (m : Tenancy) (before : Past) (seen : List Turn) (since : HandPast) (place later : List Turn) → Continues later place
+answered_later : (by at : ℕ) (h : Held) (m : Tenancy) (before : Past) (seen : List Turn) (since : HandPast)
+    (place later : List Turn) → Continues later place
     → AreAnswered by at h m before seen since place → AreAnswered by at h m before seen since later
 answered_later by at h m before seen [] place later c a = continues_all later place seen c a
-answered_later by at h m before seen (Hand_called asked ∷ since) place later c a = answered_later by at h m before seen since place later c a
+answered_later by at h m before seen (Hand_called asked ∷ since) place later c a =
+    answered_later by at h m before seen since place later c a
 answered_later by at h m before seen (Hand_answered r ∷ since) place later c a =
-    let one = a.2 in
-    (a.0, a.1, record { what = one.what; which = one.which; answered = one.answered; goes_on = continues_all later place _ c one.goes_on })
+    let one = a.2 in (
+      a.0,
+      a.1,
+      record {
+        what = one.what;
+        which = one.which;
+        answered = one.answered;
+        goes_on = continues_all later place _ c one.goes_on;
+      },
+    )
 
 -- of an equal lease
-answered_of : (by at : ℕ) (h g : Held) (m n : Tenancy) (before : Past) (seen : List Turn) (since : HandPast) (later : List Turn) → h ≡ g → m ≡ n
+answered_of : (by at : ℕ) (h g : Held) (m n : Tenancy) (before : Past) (seen : List Turn) (since : HandPast)
+    (later : List Turn) → h ≡ g → m ≡ n
     → AreAnswered by at h m before seen since later → AreAnswered by at g n before seen since later
 answered_of by at h g m n before seen since later e f a =
-    subst (λ k. AreAnswered by at g k before seen since later) f (subst (λ k. AreAnswered by at k m before seen since later) e a)
+    subst (λ k. AreAnswered by at g k before seen since later) f
+    (subst (λ k. AreAnswered by at k m before seen since later) e a)
 
 -- to a later history without a turn of the actor
 pub goes_later : {P : Type 0} (stands : P → List Call → Type 0) (at : ℕ) (x y : HandStanding P) (q r : Standing) → y ≡ x
@@ -74,7 +90,8 @@ goes_later stands at x y q r is same own seen =
         own = own ∙ along.own;
         answered = answered_later p.by at x.held x.consumer.made before p.seen since q.seen r.seen seen along.answered;
         told = λ ds f h c alone. ap (λ n. deals_of n h) same
-            ∙ along.told ds f h (continues_all h r.seen q.seen c seen) (ap (λ n. turns_by n h) (sym same) ∙ alone ∙ own);
+            ∙ along.told ds f h (continues_all h r.seen q.seen c seen) (ap (λ n. turns_by n h) (sym same) ∙ alone
+            ∙ own);
         added = along.added;
       },
     ))
@@ -82,11 +99,13 @@ goes_later stands at x y q r is same own seen =
 -- ---- a call
 
 -- made or not, no turn was made
-module _ {P : Type 0} (stands : P → List Call → Type 0) (at : ℕ) (x y : HandStanding P) (q : Standing) (held : y.held ≡ x.held)
+module _ {P : Type 0} (stands : P → List Call → Type 0) (at : ℕ) (x y : HandStanding P) (q : Standing)
+    (held : y.held ≡ x.held)
     (made : y.consumer.made ≡ x.consumer.made) where
   same_own : (start : P) (p : Standing) (before : Past) (since : HandPast) → IsAlong stands at start x p q before since
       → q.own ≡ turns_at p.by at (hand_commands y.held y.consumer.made before since) ++ p.own
-  same_own start p before since along = along.own ∙ (λ i. turns_at p.by at (hand_commands (sym held i) (sym made i) before since) ++ p.own)
+  same_own start p before since along =
+      along.own ∙ (λ i. turns_at p.by at (hand_commands (sym held i) (sym made i) before since) ++ p.own)
 
   same_told : (start : P) (p : Standing) (before : Past) (since : HandPast) → IsAlong stands at start x p q before since
       → (deals : List Deal) → OfEachLater p.by p.seen p.own (λ h. deals_of p.by h ≡ deals)
@@ -94,13 +113,16 @@ module _ {P : Type 0} (stands : P → List Call → Type 0) (at : ℕ) (x y : Ha
   same_told start p before since along deals f k c alone =
       along.told deals f k c alone ∙ (λ i. hand_deals (sym held i) (sym made i) before since deals)
 
-  same_answered : (start : P) (p : Standing) (before : Past) (since : HandPast) → IsAlong stands at start x p q before since
+  same_answered : (start : P) (p : Standing) (before : Past) (since : HandPast)
+      → IsAlong stands at start x p q before since
       → AreAnswered p.by at y.held y.consumer.made before p.seen since q.seen
   same_answered start p before since along =
-      answered_of p.by at x.held y.held x.consumer.made y.consumer.made before p.seen since q.seen (sym held) (sym made) along.answered
+      answered_of p.by at x.held y.held x.consumer.made y.consumer.made before p.seen since q.seen (sym held) (sym made)
+      along.answered
 
   -- the call that was due was made
-  pub goes_called : (asks : P → List Stored → Ask → Type 0) → AddsHandCall stands asks x y → AddsDueCall stands x y → Goes stands at x y q q
+  pub goes_called : (asks : P → List Stored → Ask → Type 0) → AddsHandCall stands asks x y → AddsDueCall stands x y
+      → Goes stands at x y q q
   goes_called asks called adds start p before since by along =
       let h = x.held in
       let m = x.consumer.made in
@@ -113,7 +135,8 @@ module _ {P : Type 0} (stands : P → List Call → Type 0) (at : ℕ) (x y : Ha
           told = same_told start p before since along;
           added = λ calls s.
               let so_far = hand_calls h m before since calls in
-              let is : with_call (call_at m x.consumer.phase) so_far ≡ hand_calls y.held y.consumer.made before (event ∷ since) calls
+              let is : with_call (call_at m x.consumer.phase) so_far
+              ≡ hand_calls y.held y.consumer.made before (event ∷ since) calls
               = ap (λ f. with_call (call_at m f) so_far) along.stood.consumer.phase
               ∙ (λ i. hand_calls (sym held i) (sym made i) before (event ∷ since) calls) in
               subst (stands y.consumer.processor) is (adds so_far (along.added calls s));
@@ -131,16 +154,20 @@ module _ {P : Type 0} (stands : P → List Call → Type 0) (at : ℕ) (x y : Ha
       told = same_told start p before since along;
       added = λ calls s.
           let so_far = hand_calls x.held x.consumer.made before since calls in
-          let is : so_far ≡ hand_calls y.held y.consumer.made before since calls = λ i. hand_calls (sym held i) (sym made i) before since calls in
+          let is : so_far ≡ hand_calls y.held y.consumer.made before since calls =
+          λ i. hand_calls (sym held i) (sym made i) before since calls in
           subst (stands y.consumer.processor) is (keeps so_far (along.added calls s));
     },
   )
 
 -- ---- an answer
 
-module _ {P : Type 0} (stands : P → List Call → Type 0) (at : ℕ) (x y : HandStanding P) (q r : Standing) (what : Command) (a : Result Reply Refusal)
-    (held : y.held ≡ x.held) (made : y.consumer.made ≡ x.consumer.made) (processor : y.consumer.processor ≡ x.consumer.processor)
-    (next : Some what ≡ command_at x.held x.consumer.made x.consumer.phase x.stand) (adds : AddsHandAnswer stands a x y) (same : r.by ≡ q.by)
+module _ {P : Type 0} (stands : P → List Call → Type 0) (at : ℕ) (x y : HandStanding P) (q r : Standing)
+    (what : Command) (a : Result Reply Refusal)
+    (held : y.held ≡ x.held) (made : y.consumer.made ≡ x.consumer.made) (processor : y.consumer.processor
+    ≡ x.consumer.processor)
+    (next : Some what ≡ command_at x.held x.consumer.made x.consumer.phase x.stand) (adds : AddsHandAnswer stands a x y)
+    (same : r.by ≡ q.by)
     (t : IsAnswered (record { by = q.by; at = at; what = what }) a q r) where
   command_is : (before : Past) (since : HandPast) → HandStandsFor stands x before since
       → Some what ≡ hand_command x.held x.consumer.made (hand_after x.held x.consumer.made before since)
@@ -168,41 +195,52 @@ module _ {P : Type 0} (stands : P → List Call → Type 0) (at : ℕ) (x y : Ha
           own = t.own ∙ ap (λ (o : List Turn). turn ∷ o) along.own
               ∙ ap (λ n. record { by = n; at = at; what = what } ∷ (turns_at p.by at cs ++ p.own)) (sym by)
               ∙ ap (λ o. turns_at p.by at (cons_option o cs) ++ p.own) is
-              ∙ (λ i. turns_at p.by at (hand_commands (sym held i) (sym made i) before (Hand_answered a ∷ since)) ++ p.own);
-          answered = answered_of p.by at h y.held m y.consumer.made before p.seen (Hand_answered a ∷ since) r.seen (sym held) (sym made)
+              ∙ (λ i. turns_at p.by at (hand_commands (sym held i) (sym made i) before (Hand_answered a ∷ since))
+              ++ p.own);
+          answered = answered_of p.by at h y.held m y.consumer.made before p.seen (Hand_answered a ∷ since) r.seen
+              (sym held) (sym made)
               (t.place, so_far, subst (λ n. IsAnsweredAt n at (hand_command h m state) a t.place r.seen) (sym by) here);
           told = λ deals f k c alone.
               let g = along.told deals f in
               let ds = hand_deals h m before since deals in
               ap (λ n. deals_of n k) same
-              ∙ told_more turn t.place q.own k ds all (subst (Continues k) t.seen c) (ap (λ n. turns_by n k) (sym same) ∙ alone ∙ t.own)
+              ∙ told_more turn t.place q.own k ds all (subst (Continues k) t.seen c) (ap (λ n. turns_by n k) (sym same)
+              ∙ alone ∙ t.own)
               (g t.place t.later (before_own turn t.place q.own all))
               ∙ ap (λ (z : Result Reply Refusal). record { what = what; answer = z } ∷ ds) (sym t.answered)
               ∙ ap (λ o. answered_deals o a ds) is
               ∙ (λ i. hand_deals (sym held i) (sym made i) before (Hand_answered a ∷ since) deals);
           added = λ calls s.
-              let is : hand_calls h m before since calls ≡ hand_calls y.held y.consumer.made before (Hand_answered a ∷ since) calls
+              let is : hand_calls h m before since calls
+              ≡ hand_calls y.held y.consumer.made before (Hand_answered a ∷ since) calls
               = λ i. hand_calls (sym held i) (sym made i) before (Hand_answered a ∷ since) calls in
-              subst (stands y.consumer.processor) is (subst (λ z. stands z (hand_calls h m before since calls)) (sym processor) (along.added calls s));
+              subst (stands y.consumer.processor) is
+              (subst (λ z. stands z (hand_calls h m before since calls)) (sym processor) (along.added calls s));
         },
       )
 
 -- ---- the worker with its hand-off
 
 -- the commands of a hand-off are the last of the worker with its hand-offs
-joint_hand : (key : ShardRef) (made : WorkerMade) (joint : JointPast) (r : Release) → released key (worker_in made joint) ≡ Some r → (since : HandPast)
-    → joint_deals made (with_hand key since made joint) ≡ hand_deals r.held r.known.made (Losing ∷ r.known.past) since (joint_deals made joint)
+joint_hand : (key : ShardRef) (made : WorkerMade) (joint : JointPast) (r : Release)
+    → released key (worker_in made joint) ≡ Some r → (since : HandPast)
+    → joint_deals made (with_hand key since made joint)
+    ≡ hand_deals r.held r.known.made (Losing ∷ r.known.past) since (joint_deals made joint)
 joint_hand key made joint r which [] = refl
 joint_hand key made joint r which (Hand_called asked ∷ since) = joint_hand key made joint r which since
 joint_hand key made joint r which (Hand_answered a ∷ since) =
     ap (λ o. answered_deals o a (joint_deals made (with_hand key since made joint)))
-    (ap (command_in (length (hands_after made joint))) (hands_with key made joint r which since) ∙ command_last (hands_after made joint) (hand_of r since))
-    ∙ ap (answered_deals (hand_command r.held r.known.made (state_of (hand_of r since))) a) (joint_hand key made joint r which since)
+    (ap (command_in (length (hands_after made joint))) (hands_with key made joint r which since)
+    ∙ command_last (hands_after made joint) (hand_of r since))
+    ∙ ap (answered_deals (hand_command r.held r.known.made (state_of (hand_of r since))) a)
+    (joint_hand key made joint r which since)
 
 -- and its events may happen there
-joint_orderly : (key : ShardRef) (made : WorkerMade) (joint : JointPast) (r : Release) → released key (worker_in made joint) ≡ Some r
+joint_orderly : (key : ShardRef) (made : WorkerMade) (joint : JointPast) (r : Release)
+    → released key (worker_in made joint) ≡ Some r
     → MayHappen made (Released key) (worker_in made joint)
-    → (by at : ℕ) (seen : List Turn) (since : HandPast) (later : List Turn) → AreAnswered by at r.held r.known.made (Losing ∷ r.known.past) seen since later
+    → (by at : ℕ) (seen : List Turn) (since : HandPast) (later : List Turn)
+    → AreAnswered by at r.held r.known.made (Losing ∷ r.known.past) seen since later
     → AreOrderly made joint → AreOrderly made (with_hand key since made joint)
 joint_orderly key made joint r which may by at seen [] later a orderly = (may, orderly)
 joint_orderly key made joint r which may by at seen (Hand_called asked ∷ since) later a orderly =
@@ -213,13 +251,18 @@ joint_orderly key made joint r which may by at seen (Hand_answered answered ∷ 
   joint_orderly key made joint r which may by at seen since a.0 a.1 orderly,
 )
 
-module _ {P F : Type 0} (stands : P → List Call → Type 0) (at : ℕ) (key : ShardRef) (w v : WorkerStanding P F) (worker : v.made ≡ w.made)
-    (p q : Standing) (h : Held) (c : ConsumerStanding P) (x y : HandStanding P) (held : x.held ≡ h) (made : x.consumer.made ≡ c.made)
+module _ {P F : Type 0} (stands : P → List Call → Type 0) (at : ℕ) (key : ShardRef) (w v : WorkerStanding P F)
+    (worker : v.made ≡ w.made)
+    (p q : Standing) (h : Held) (c : ConsumerStanding P) (x y : HandStanding P) (held : x.held ≡ h)
+    (made : x.consumer.made ≡ c.made)
     (processor : x.consumer.processor ≡ c.processor) (begins : BeginsHand stands c x) (same_held : y.held ≡ x.held)
-    (same_made : y.consumer.made ≡ x.consumer.made) (gone : Goes stands at x y p q) (adds : AddsRelease stands w v key (h, c))
+    (same_made : y.consumer.made ≡ x.consumer.made) (gone : Goes stands at x y p q)
+    (adds : AddsRelease stands w v key (h, c))
     (one : one_of (id_of_held h) w.consumers ≡ Some c)
-    (service : (by : ℕ) (t : List Turn) (m : WorkerMade) (joint : JointPast) → AreOrderly m joint → AreToldIn by t m joint → AreAllServed by t m joint)
-    (handed : (by : ℕ) (t : List Turn) (m : WorkerMade) (joint : JointPast) → IsHistory t → AreOrderly m joint → AreToldIn by t m joint
+    (service : (by : ℕ) (t : List Turn) (m : WorkerMade) (joint : JointPast) → AreOrderly m joint
+    → AreToldIn by t m joint → AreAllServed by t m joint)
+    (handed : (by : ℕ) (t : List Turn) (m : WorkerMade) (joint : JointPast) → IsHistory t → AreOrderly m joint
+    → AreToldIn by t m joint
     → AllByRecursion (IsHandedOffIfFreed by t) (hands_after m joint)) where
   served_jointly : (joint : JointPast) → TellsJointly q w.made joint → AreServedJointly q w.made joint
   served_jointly joint tells = record {
@@ -232,9 +275,11 @@ module _ {P F : Type 0} (stands : P → List Call → Type 0) (at : ℕ) (key : 
     so_far : HasReleased stands at key w v p q past
     phase : y.consumer.phase ≡ phase_after so_far.release.known.made (release_state so_far.release so_far.since).past
     stand : y.stand ≡ (release_state so_far.release so_far.since).stand
-    calls : stands y.consumer.processor (calls_after so_far.release.known.made (release_state so_far.release so_far.since).past)
+    calls : stands y.consumer.processor
+        (calls_after so_far.release.known.made (release_state so_far.release so_far.since).past)
     whose : one_of (id_of_held so_far.release.held) w.consumers ≡ Some c
-    added : (earlier : List Call) → stands c.processor earlier → stands y.consumer.processor (release_calls so_far.release so_far.since earlier)
+    added : (earlier : List Call) → stands c.processor earlier
+        → stands y.consumer.processor (release_calls so_far.release so_far.since earlier)
 
   went : (past : WorkerPast) → StandsFor stands w past → Went past
   went past st =
@@ -253,13 +298,16 @@ module _ {P F : Type 0} (stands : P → List Call → Type 0) (at : ℕ) (key : 
       let along = end.1 in
       let is_held : y.held ≡ r.held = same_held ∙ held ∙ rel.held in
       let is_made : y.consumer.made ≡ r.known.made = same_made ∙ made ∙ rel.made in
-      let answered = answered_of p.by at y.held r.held y.consumer.made r.known.made before p.seen since q.seen is_held is_made along.answered in
+      let answered = answered_of p.by at y.held r.held y.consumer.made r.known.made before p.seen since q.seen is_held
+      is_made along.answered in
       let may : MayHappen w.made (Released key) (worker_after w.made past)
       = subst (λ m. MayHappen m (Released key) (worker_after m past)) worker rel.rest.orderly.0 in
-      let in_joint = λ (joint : JointPast) (e : worker_past joint ≡ past). ap (λ o. released key (worker_after w.made o)) e ∙ rel.which in
+      let in_joint = λ (joint : JointPast) (e : worker_past joint ≡ past).
+      ap (λ o. released key (worker_after w.made o)) e ∙ rel.which in
       let tells : (joint : JointPast) → worker_past joint ≡ past → TellsJointly p w.made joint
       → TellsJointly q w.made (with_hand key since w.made joint) = λ joint e before. record {
-        orderly = joint_orderly key w.made joint r (in_joint joint e) (subst (λ o. MayHappen w.made (Released key) (worker_after w.made o)) (sym e) may)
+        orderly = joint_orderly key w.made joint r (in_joint joint e)
+            (subst (λ o. MayHappen w.made (Released key) (worker_after w.made o)) (sym e) may)
             p.by at p.seen since q.seen answered before.orderly;
         told = λ k later alone.
             along.told (joint_deals w.made joint) before.told k later alone
@@ -277,14 +325,17 @@ module _ {P F : Type 0} (stands : P → List Call → Type 0) (at : ℕ) (key : 
           told = tells;
           served = λ joint e before. served_jointly (with_hand key since w.made joint) (tells joint e before);
         };
-        phase = along.stood.consumer.phase ∙ (λ i. phase_after (is_made i) (hand_after (is_held i) (is_made i) before since).past);
+        phase = along.stood.consumer.phase
+            ∙ (λ i. phase_after (is_made i) (hand_after (is_held i) (is_made i) before since).past);
         stand = along.stood.stand ∙ (λ i. (hand_after (is_held i) (is_made i) before since).stand);
         calls = subst (λ m. stands y.consumer.processor (calls_after m (hand_after r.held m before since).past)) is_made
-            (subst (λ g. stands y.consumer.processor (calls_after y.consumer.made (hand_after g y.consumer.made before since).past)) is_held
+            (subst (λ g. stands y.consumer.processor
+            (calls_after y.consumer.made (hand_after g y.consumer.made before since).past)) is_held
             along.stood.consumer.calls);
         whose = ap (λ g. one_of (id_of_held g) w.consumers) (sym rel.held) ∙ one;
         added = λ earlier s.
-            let is : hand_calls y.held y.consumer.made before since earlier ≡ hand_calls r.held r.known.made before since earlier
+            let is : hand_calls y.held y.consumer.made before since earlier
+            ≡ hand_calls r.held r.known.made before since earlier
             = λ i. hand_calls (is_held i) (is_made i) before since earlier in
             subst (stands y.consumer.processor) is (along.added earlier s);
       }
@@ -296,13 +347,17 @@ module _ {P F : Type 0} (stands : P → List Call → Type 0) (at : ℕ) (key : 
       record {
         so_far = e.so_far;
         ended = ap left_at (sym e.stand) ∙ ended;
-        calls = subst (λ z. stands z (calls_after e.so_far.release.known.made (release_state e.so_far.release e.so_far.since).past)) (sym is) e.calls;
+        calls = subst (λ z. stands z
+            (calls_after e.so_far.release.known.made (release_state e.so_far.release e.so_far.since).past)) (sym is)
+            e.calls;
         consumer = c;
         whose = e.whose;
-        added = λ earlier s. subst (λ z. stands z (release_calls e.so_far.release e.so_far.since earlier)) (sym is) (e.added earlier s);
+        added = λ earlier s. subst (λ z. stands z (release_calls e.so_far.release e.so_far.since earlier)) (sym is)
+            (e.added earlier s);
       }
 
-  pub was_cut : (e : TurnErr) → StoodStill y q e → (past : WorkerPast) → StandsFor stands w past → HandWasCut stands at key w v p q e past
+  pub was_cut : (e : TurnErr) → StoodStill y q e → (past : WorkerPast) → StandsFor stands w past
+      → HandWasCut stands at key w v p q e past
   was_cut e (inl still) past st =
       let g = went past st in
       inl (record { so_far = g.so_far; error = still.0; due = subst (λ z. IsSome (due_call z)) g.phase still.1 })

@@ -1,5 +1,6 @@
 -- The moments of turns, one tick after the other.
-use Rattle.std.proofs.Common.{◌≡◌, ℕ, ◌+◌, ◌*◌, ◌^◌, ◌<◌, ◌≤◌, List, [], length, sym, ap, subst, ◌∙◌, arith, ◌⊎◌, inl, inr}
+use Rattle.std.proofs.Common.{◌≡◌, ℕ, ◌+◌, ◌*◌, ◌^◌, ◌<◌, ◌≤◌, List, [], length, sym, ap, subst, ◌∙◌, arith, ◌⊎◌, inl}
+use Rattle.std.proofs.Common.{inr}
 use Rattle.std.proofs.lemmas.Nat.{mul-le}
 use Rattle.kds_defs.specs.declared.command.Turn.{Turn}
 use Rattle.kcl_live.specs.Records.{AreOnLeasesAt, HasAdded}
@@ -20,11 +21,13 @@ moment_left n m tick at e le low = subst (λ x. x < 2 ^ 62) (sym (next_at n tick
 pub length_added : (at : ℕ) (own more : List Turn) → HasAdded at own more → length more ≡ length own + 1
 length_added at own more a = ap length a.1 ∙ omega arith
 
-pub moments_added : (tick now at n : ℕ) (own more : List Turn) → HasAdded now own more → now ≡ at → n ≡ length own → at ≡ (n + 1) * tick → AreOnLeasesAt tick own → AreOnLeasesAt tick more
+pub moments_added : (tick now at n : ℕ) (own more : List Turn) → HasAdded now own more → now ≡ at → n ≡ length own
+    → at ≡ (n + 1) * tick → AreOnLeasesAt tick own → AreOnLeasesAt tick more
 moments_added tick now at n own more a is count next moments =
     subst (AreOnLeasesAt tick) (sym a.1) ((a.2 ∙ is ∙ next ∙ ap (λ k. (k + 1) * tick) count, a.3), moments)
 
-pub most_may : (now m : ℕ) (own more : List Turn) → (more ≡ own) ⊎ HasAdded now own more → length own + 1 ≤ m → length more ≤ m
+pub most_may : (now m : ℕ) (own more : List Turn) → (more ≡ own) ⊎ HasAdded now own more → length own + 1 ≤ m
+    → length more ≤ m
 most_may now m own more (inl same) le = omega (arith, ap length same, le)
 most_may now m own more (inr a) le = omega (arith, length_added now own more a, le)
 

@@ -6,7 +6,8 @@ pub on_ok : {A E : Type 0} (r : Result A E) (X : Type 0) → X → OnOk r X
 on_ok (Ok a) X x = x
 on_ok (Err e) X x = tt
 
-pub err_both : {A E : Type 0} (r : Result A E) (X : E → Type 0) (Y : Type 0) (Z : E → Type 0) → ((e : E) → X e → Y → Z e) → IfErr r X → OnErr r Y → IfErr r Z
+pub err_both : {A E : Type 0} (r : Result A E) (X : E → Type 0) (Y : Type 0) (Z : E → Type 0)
+    → ((e : E) → X e → Y → Z e) → IfErr r X → OnErr r Y → IfErr r Z
 err_both (Ok a) X Y Z f x y = tt
 err_both (Err e) X Y Z f x y = f e x y
 

@@ -1,9 +1,11 @@
 -- Rounds of a worker before and after its stop.
-use Rattle.std.proofs.Common.{◌≡◌, ℕ, ◌+◌, ◌*◌, ◌≤◌, false, List, [], ◌∷◌, length, None, refl, sym, ap, subst, ◌∙◌, arith, inl}
+use Rattle.std.proofs.Common.{◌≡◌, ℕ, ◌+◌, ◌*◌, ◌≤◌, false, List, [], ◌∷◌, length, None, refl, sym, ap, subst, ◌∙◌}
+use Rattle.std.proofs.Common.{arith, inl}
 use Rattle.std.specs.Prelude.{IsSome}
 use Rattle.kcl_defs.specs.declared.consumer.Ask.{Ask}
 use Rattle.kcl_defs.specs.declared.consumer.Call.{Call}
-use Rattle.kcl_defs.specs.Workers.{Gave_command, Got_answer, Stopped, WorkerPast, is_due_known, is_idle, is_stopping, worker_after}
+use Rattle.kcl_defs.specs.Workers.{Gave_command, Got_answer, Stopped, WorkerPast, is_due_known, is_idle, is_stopping}
+use Rattle.kcl_defs.specs.Workers.{worker_after}
 use Rattle.kcl_worker_lists.specs.Lists.{due_in}
 use Rattle.std.specs.List.{find}
 use Rattle.kcl_worker.specs.Adding.{AddsStop}
@@ -23,7 +25,8 @@ use Rattle.kcl_live.proofs.Stopping.{calls_stopped, filter_fewer, some_left, sto
 module _ {P F : Type 0} (stands : P → List Call → Type 0) where
   -- processors were called, and nothing else
   abbrev pub HasCalled : WorkerStanding P F → WorkerStanding P F → Type 0
-  HasCalled w u = (past : WorkerPast) → StandsFor stands w past → (asked : List Ask) × StandsFor stands u (with_calls asked past)
+  HasCalled w u = (past : WorkerPast) → StandsFor stands w past → (asked : List Ask)
+      × StandsFor stands u (with_calls asked past)
 
   -- ---- before the stop
 
@@ -35,21 +38,24 @@ module _ {P F : Type 0} (stands : P → List Call → Type 0) where
     going = refl;
   }
 
-  pub going_called : (w u : WorkerStanding P F) (p : Standing) → u.made ≡ w.made → HasCalled w u → IsGoing stands w p → IsGoing stands u p
+  pub going_called : (w u : WorkerStanding P F) (p : Standing) → u.made ≡ w.made → HasCalled w u → IsGoing stands w p
+      → IsGoing stands u p
   going_called w u p made called g =
       let r = called g.past g.driven.stood in
       record {
         past = with_calls r.0 g.past;
         driven = driven_called stands p.by p.seen p.own w u g.past r.0 made r.1 g.driven;
         alone = g.alone;
-        going = ap (λ m. is_stopping (worker_after m (with_calls r.0 g.past)).round) made ∙ calls_on w.made r.0 g.past g.going;
+        going = ap (λ m. is_stopping (worker_after m (with_calls r.0 g.past)).round) made
+            ∙ calls_on w.made r.0 g.past g.going;
       }
 
   pub going_busy : (w : WorkerStanding P F) (p : Standing) → IsGoing stands w p → is_idle_in w ≡ false
   going_busy w p g = not_idle stands w g.past g.driven.stood g.going
 
   pub going_turned : (u v : WorkerStanding P F) (p q : Standing) (at : ℕ) → v.made ≡ u.made
-      → ((past : WorkerPast) → IsDriven stands p.by p.seen p.own u past → HasTurned stands q v at past) → IsGoing stands u p → IsGoing stands v q
+      → ((past : WorkerPast) → IsDriven stands p.by p.seen p.own u past → HasTurned stands q v at past)
+      → IsGoing stands u p → IsGoing stands v q
   going_turned u v p q at made turned g =
       let t = turned g.past g.driven in
       let later : WorkerPast = Got_answer at t.answer ∷ (Gave_command at ∷ g.past) in
@@ -57,17 +63,20 @@ module _ {P F : Type 0} (stands : P → List Call → Type 0) where
         past = later;
         driven = t.driven;
         alone = λ some. t.alone;
-        going = ap (λ m. is_stopping (worker_after m later).round) made ∙ answered_on u.made at at t.answer g.past g.going;
+        going = ap (λ m. is_stopping (worker_after m later).round) made
+            ∙ answered_on u.made at at t.answer g.past g.going;
       }
 
-  pub going_failed : (w u : WorkerStanding P F) (p : Standing) (e : TurnErr) → u.made ≡ w.made → HasCalled w u → IsGoing stands w p → IsSome (due_in u.consumers) → e ≡ failed.Memory → WasCut stands u p e
+  pub going_failed : (w u : WorkerStanding P F) (p : Standing) (e : TurnErr) → u.made ≡ w.made → HasCalled w u
+      → IsGoing stands w p → IsSome (due_in u.consumers) → e ≡ failed.Memory → WasCut stands u p e
   going_failed w u p e made called g due is =
       let h = going_called w u p made called g in
       inl (record { error = is; due = due; run = record { past = h.past; driven = h.driven; alone = h.alone } })
 
   -- ---- the stop
 
-  pub going_stopped : (w u : WorkerStanding P F) (p : Standing) (turns : ℕ) → u.made ≡ w.made → AddsStop stands w u → length p.own ≡ turns → IsGoing stands w p → IsFinishing stands u p (3 * turns)
+  pub going_stopped : (w u : WorkerStanding P F) (p : Standing) (turns : ℕ) → u.made ≡ w.made → AddsStop stands w u
+      → length p.own ≡ turns → IsGoing stands w p → IsFinishing stands u p (3 * turns)
   going_stopped w u p turns made stop count g =
       let past : WorkerPast = Stopped ∷ g.past in
       let driven = driven_stopped stands p.by p.seen p.own w u g.past made (stop g.past g.driven.stood) g.driven in
@@ -83,12 +92,14 @@ module _ {P F : Type 0} (stands : P → List Call → Type 0) where
 
   -- ---- after it
 
-  pub finishing_called : (w u : WorkerStanding P F) (p : Standing) (most : ℕ) → u.made ≡ w.made → HasCalled w u → IsFinishing stands w p most → IsFinishing stands u p most
+  pub finishing_called : (w u : WorkerStanding P F) (p : Standing) (most : ℕ) → u.made ≡ w.made → HasCalled w u
+      → IsFinishing stands w p most → IsFinishing stands u p most
   finishing_called w u p most made called f =
       let r = called f.past f.driven.stood in
       let s = calls_stopped w.made r.0 f.past f.stopped in
       let past = with_calls r.0 f.past in
-      let less : turns_left (worker_after u.made past) ≤ turns_left (worker_after w.made f.past) = subst (λ m. turns_left (worker_after m past) ≤ turns_left (worker_after w.made f.past)) (sym made) s.1 in
+      let less : turns_left (worker_after u.made past) ≤ turns_left (worker_after w.made f.past) =
+      subst (λ m. turns_left (worker_after m past) ≤ turns_left (worker_after w.made f.past)) (sym made) s.1 in
       record {
         past = past;
         driven = driven_called stands p.by p.seen p.own w u f.past r.0 made r.1 f.driven;
@@ -97,23 +108,31 @@ module _ {P F : Type 0} (stands : P → List Call → Type 0) where
         few = omega (arith, f.few, less);
       }
 
-  quiet : (w : WorkerStanding P F) (p : Standing) (most : ℕ) → (f : IsFinishing stands w p most) → due_in w.consumers ≡ None → find is_due_known (worker_after w.made f.past).consumers ≡ None
-  quiet w p most f none = none_due stands w.consumers (worker_after w.made f.past).consumers none f.driven.stood.shows.consumers
+  quiet : (w : WorkerStanding P F) (p : Standing) (most : ℕ) → (f : IsFinishing stands w p most)
+      → due_in w.consumers ≡ None → find is_due_known (worker_after w.made f.past).consumers ≡ None
+  quiet w p most f none =
+      none_due stands w.consumers (worker_after w.made f.past).consumers none f.driven.stood.shows.consumers
 
-  busy : (w : WorkerStanding P F) (p : Standing) (most : ℕ) → (f : IsFinishing stands w p most) → is_idle_in w ≡ false → is_idle (worker_after w.made f.past) ≡ false
+  busy : (w : WorkerStanding P F) (p : Standing) (most : ℕ) → (f : IsFinishing stands w p most) → is_idle_in w ≡ false
+      → is_idle (worker_after w.made f.past) ≡ false
   busy w p most f is = sym (idle_same stands w f.past f.driven.stood) ∙ is
 
   -- one turn more is left
-  pub finishing_left : (w : WorkerStanding P F) (p : Standing) (most : ℕ) → IsFinishing stands w p most → due_in w.consumers ≡ None → is_idle_in w ≡ false → length p.own + 1 ≤ most
-  finishing_left w p most f none is = omega (arith, f.few, some_left w.made f.past f.stopped (quiet w p most f none) (busy w p most f is))
+  pub finishing_left : (w : WorkerStanding P F) (p : Standing) (most : ℕ) → IsFinishing stands w p most
+      → due_in w.consumers ≡ None → is_idle_in w ≡ false → length p.own + 1 ≤ most
+  finishing_left w p most f none is =
+      omega (arith, f.few, some_left w.made f.past f.stopped (quiet w p most f none) (busy w p most f is))
 
-  pub finishing_turned : (u v : WorkerStanding P F) (p q : Standing) (most at : ℕ) → v.made ≡ u.made → due_in u.consumers ≡ None → is_idle_in u ≡ false → HasAdded at p.own q.own
-      → ((past : WorkerPast) → IsDriven stands p.by p.seen p.own u past → HasTurned stands q v at past) → IsFinishing stands u p most → IsFinishing stands v q most
+  pub finishing_turned : (u v : WorkerStanding P F) (p q : Standing) (most at : ℕ) → v.made ≡ u.made
+      → due_in u.consumers ≡ None → is_idle_in u ≡ false → HasAdded at p.own q.own
+      → ((past : WorkerPast) → IsDriven stands p.by p.seen p.own u past → HasTurned stands q v at past)
+      → IsFinishing stands u p most → IsFinishing stands v q most
   finishing_turned u v p q most at made none is added turned f =
       let t = turned f.past f.driven in
       let later : WorkerPast = Got_answer at t.answer ∷ (Gave_command at ∷ f.past) in
       let s = turn_stopped u.made at t.answer f.past f.stopped (quiet u p most f none) (busy u p most f is) in
-      let less : turns_left (worker_after v.made later) + 1 ≤ turns_left (worker_after u.made f.past) = subst (λ m. turns_left (worker_after m later) + 1 ≤ turns_left (worker_after u.made f.past)) (sym made) s.1 in
+      let less : turns_left (worker_after v.made later) + 1 ≤ turns_left (worker_after u.made f.past) =
+      subst (λ m. turns_left (worker_after m later) + 1 ≤ turns_left (worker_after u.made f.past)) (sym made) s.1 in
       record {
         past = later;
         driven = t.driven;
@@ -122,9 +141,12 @@ module _ {P F : Type 0} (stands : P → List Call → Type 0) where
         few = omega (arith, f.few, less, ap length added.1);
       }
 
-  pub finishing_run : (w : WorkerStanding P F) (p : Standing) (most : ℕ) → IsFinishing stands w p most → HasRun stands w p
+  pub finishing_run : (w : WorkerStanding P F) (p : Standing) (most : ℕ) → IsFinishing stands w p most
+      → HasRun stands w p
   finishing_run w p most f = record { past = f.past; driven = f.driven; alone = f.alone }
 
-  pub finishing_failed : (w u : WorkerStanding P F) (p : Standing) (most : ℕ) (e : TurnErr) → u.made ≡ w.made → HasCalled w u → IsFinishing stands w p most → IsSome (due_in u.consumers) → e ≡ failed.Memory → WasCut stands u p e
+  pub finishing_failed : (w u : WorkerStanding P F) (p : Standing) (most : ℕ) (e : TurnErr) → u.made ≡ w.made
+      → HasCalled w u → IsFinishing stands w p most → IsSome (due_in u.consumers) → e ≡ failed.Memory
+      → WasCut stands u p e
   finishing_failed w u p most e made called f due is =
       inl (record { error = is; due = due; run = finishing_run u p most (finishing_called w u p most made called f) })

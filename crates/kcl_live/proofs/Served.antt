@@ -10,8 +10,11 @@ use Rattle.kds_turn.specs.Passes.{Standing}
 use Rattle.kcl_live.specs.Records.{AreServedLater, IsDriven}
 use Rattle.kcl_live.specs.Runs.{AreServedSoFar, HasRun, WasCut}
 
-module _ {P F : Type 0} (stands : P → List Call → Type 0) (w : WorkerStanding P F) (law : (by : ℕ) (h : List Turn) (past : WorkerPast) → StandsFor stands w past → IsToldIn by h w.made past → AreServedIn stands by h w) where
-  driven_served : (by : ℕ) (seen own : List Turn) (past : WorkerPast) → IsDriven stands by seen own w past → AreServedLater stands by seen own w
+module _ {P F : Type 0} (stands : P → List Call → Type 0) (w : WorkerStanding P F)
+    (law : (by : ℕ) (h : List Turn) (past : WorkerPast) → StandsFor stands w past → IsToldIn by h w.made past
+    → AreServedIn stands by h w) where
+  driven_served : (by : ℕ) (seen own : List Turn) (past : WorkerPast) → IsDriven stands by seen own w past
+      → AreServedLater stands by seen own w
   driven_served by seen own past d = λ h c same. law by h past d.stood (d.told h c same)
 
   pub run_served : (p : Standing) → HasRun stands w p → AreServedLater stands p.by p.seen p.own w

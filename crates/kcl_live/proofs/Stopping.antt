@@ -1,5 +1,6 @@
 -- After a stop each batch is given once and each lease is freed once.
-use Rattle.std.proofs.Common.{◌≡◌, ℕ, suc, ◌+◌, ◌≤◌, Bool, true, false, List, [], ◌∷◌, length, Option, Some, None, Result, Ok, Err, refl, sym, ap, ap₂, subst, ◌∙◌, arith}
+use Rattle.std.proofs.Common.{◌≡◌, ℕ, suc, ◌+◌, ◌≤◌, Bool, true, false, List, [], ◌∷◌, length, Option, Some, None}
+use Rattle.std.proofs.Common.{Result, Ok, Err, refl, sym, ap, ap₂, subst, ◌∙◌, arith}
 use Rattle.std.specs.Prelude.{◌&&◌, cond, if◌then◌else◌, is_some, not}
 use Rattle.std.specs.List.{AllByRecursion, filter, find, list_any}
 use Rattle.std.proofs.lemmas.Bool.{cond_both, not-true}
@@ -17,7 +18,11 @@ use Rattle.kcl_defs.specs.declared.plans.Held.{Held}
 use Rattle.kcl_defs.specs.declared.plans.LeaseId.{LeaseId}
 use Rattle.kcl_defs.specs.Consumers.{Answered, Called, Giving, Leaving, Losing, Opening, Over, Phase, Starting}
 use Rattle.kcl_defs.specs.Consumers.{after_answer, after_call, after_loss, due_call, over_at, was_handed}
-use Rattle.kcl_defs.specs.Workers.{Finishing, Freeing, Gave_command, Got_answer, Known, Pending, Stopped, WorkerPast, WorkerState, absorbed, chore_from, consumed, freeing_chore, happens_to, happens_to_first, id_of, id_of_held, is_due_known, is_giving, is_giving_phase, is_idle, is_nothing_held, is_over, is_stopping, next_pending, pending_chore, phase_of_known, same_id, stopping_chore, with_event, without_held, worker_after}
+use Rattle.kcl_defs.specs.Workers.{Finishing, Freeing, Gave_command, Got_answer, Known, Pending, Stopped, WorkerPast}
+use Rattle.kcl_defs.specs.Workers.{WorkerState, absorbed, chore_from, consumed, freeing_chore, happens_to}
+use Rattle.kcl_defs.specs.Workers.{happens_to_first, id_of, id_of_held, is_due_known, is_giving, is_giving_phase}
+use Rattle.kcl_defs.specs.Workers.{is_idle, is_nothing_held, is_over, is_stopping, next_pending, pending_chore}
+use Rattle.kcl_defs.specs.Workers.{phase_of_known, same_id, stopping_chore, with_event, without_held, worker_after}
 use Rattle.kcl_live.specs.Records.{with_calls}
 use Rattle.kcl_live.specs.Steps.{IsLost, IsStopped, turns_left}
 use Rattle.kcl_live.proofs.Bounds.{filter_less}
@@ -38,7 +43,8 @@ settled_lost [] all = tt
 settled_lost (k ∷ ks) all =
     let rest = filter (λ j. not (is_over j)) ks in
     let lost = settled_lost ks all.1 in
-    cond_both (not (is_over k)) (k ∷ rest) rest AreLost (λ stays. (all.0 (not-true (is_over k) stays), lost)) (λ over. lost)
+    cond_both (not (is_over k)) (k ∷ rest) rest AreLost (λ stays. (all.0 (not-true (is_over k) stays), lost))
+    (λ over. lost)
 
 lost_or_over : (ks : List Known) → AreLost ks → AreLostOrOver ks
 lost_or_over [] all = tt
@@ -54,11 +60,13 @@ no_less : (b : Bool) (k : Known) (ks : List Known) → is_giving k ≡ b → giv
 no_less true k ks e = omega (arith, count_giving k ks e)
 no_less false k ks e = omega (arith, count_quiet k ks e)
 
-one_more : (b : Bool) (k : Known) (ks js : List Known) → is_giving k ≡ b → givings ks ≤ givings js → givings (k ∷ ks) ≤ givings (k ∷ js)
+one_more : (b : Bool) (k : Known) (ks js : List Known) → is_giving k ≡ b → givings ks ≤ givings js
+    → givings (k ∷ ks) ≤ givings (k ∷ js)
 one_more true k ks js e h = omega (arith, h, count_giving k ks e, count_giving k js e)
 one_more false k ks js e h = omega (arith, h, count_quiet k ks e, count_quiet k js e)
 
-fewer_by : (c : Bool) (k : Known) (ks js : List Known) → givings ks ≤ givings js → givings (cond c (k ∷ ks) ks) ≤ givings (k ∷ js)
+fewer_by : (c : Bool) (k : Known) (ks js : List Known) → givings ks ≤ givings js
+    → givings (cond c (k ∷ ks) ks) ≤ givings (k ∷ js)
 fewer_by true k ks js h = one_more (is_giving k) k ks js refl h
 fewer_by false k ks js h = omega (arith, h, no_less (is_giving k) k js refl)
 
@@ -74,7 +82,8 @@ after_loss_lost Opening h = absurd cc
 after_loss_lost Starting h = absurd cc
 after_loss_lost (Over why) h = absurd cc
 after_loss_lost (Giving reach waiting asked lost) h =
-    cond_both (was_handed waiting) (Giving reach waiting asked true) (Leaving why.Lost) IsLost (λ handed. refl) (λ none. tt)
+    cond_both (was_handed waiting) (Giving reach waiting asked true) (Leaving why.Lost) IsLost (λ handed. refl)
+    (λ none. tt)
 after_loss_lost _ h = tt
 
 losing_lost : (ks : List Known) → AreLostOrOver (happens_to (λ k. true) Losing ks)
@@ -82,12 +91,18 @@ losing_lost [] = tt
 losing_lost (k ∷ ks) = ((λ e. after_loss_lost (phase_of_known k) e), losing_lost ks)
 
 pub stop_stops : (made : WorkerMade) (past : WorkerPast) → IsStopped (worker_after made (Stopped ∷ past))
-stop_stops made past = record { round = refl; lost = settled_lost (happens_to (λ k. true) Losing (worker_after made past).consumers) (losing_lost (worker_after made past).consumers) }
+stop_stops made past =
+    record {
+      round = refl;
+      lost = settled_lost (happens_to (λ k. true) Losing (worker_after made past).consumers)
+          (losing_lost (worker_after made past).consumers);
+    }
 
 -- ---- a call
 
 -- what is due of a lost consumer is its leaving
-called_lost : (made : Tenancy) (a : Ask) (p : Phase) → IsLost p → is_some (due_call p) ≡ true → (is_some (over_at (after_call made a p)) ≡ true) × (is_giving_phase (after_call made a p) ≡ false)
+called_lost : (made : Tenancy) (a : Ask) (p : Phase) → IsLost p → is_some (due_call p) ≡ true
+    → (is_some (over_at (after_call made a p)) ≡ true) × (is_giving_phase (after_call made a p) ≡ false)
 called_lost made a (Leaving why) l d = (refl, refl)
 called_lost made a (Giving reach waiting asked lost) l d = absurd cc
 called_lost made a _ l d = absurd l
@@ -96,22 +111,31 @@ calling_lost : (a : Ask) (ks : List Known) → AreLost ks → AreLostOrOver (hap
 calling_lost a [] all = tt
 calling_lost a (k ∷ ks) all =
     let called = with_event (Called a) k in
-    let leaves : is_due_known k ≡ true → is_over called ≡ true = λ due. (called_lost k.made a (phase_of_known k) all.0 due).0 in
+    let leaves : is_due_known k ≡ true → is_over called ≡ true =
+    λ due. (called_lost k.made a (phase_of_known k) all.0 due).0 in
     cond_both (is_due_known k) (called ∷ ks) (k ∷ happens_to_first is_due_known (Called a) ks) AreLostOrOver
     (λ due. ((λ over. absurd (apart (is_over called) (leaves due) over)), lost_or_over ks all.1))
     (λ quiet. ((λ over. all.0), calling_lost a ks all.1))
 
-calling_fewer : (a : Ask) (ks : List Known) → AreLost ks → givings (happens_to_first is_due_known (Called a) ks) ≤ givings ks
+calling_fewer : (a : Ask) (ks : List Known) → AreLost ks
+    → givings (happens_to_first is_due_known (Called a) ks) ≤ givings ks
 calling_fewer a [] all = omega arith
 calling_fewer a (k ∷ ks) all = one (is_due_known k) refl (calling_fewer a ks all.1)
   where
-    one : (b : Bool) → is_due_known k ≡ b → givings (happens_to_first is_due_known (Called a) ks) ≤ givings ks → givings (if b then with_event (Called a) k ∷ ks else k ∷ happens_to_first is_due_known (Called a) ks) ≤ givings (k ∷ ks)
-    one true e rest = omega (arith, count_quiet (with_event (Called a) k) ks (called_lost k.made a (phase_of_known k) all.0 e).1, no_less (is_giving k) k ks refl)
+    one : (b : Bool) → is_due_known k ≡ b → givings (happens_to_first is_due_known (Called a) ks) ≤ givings ks
+        → givings (if b then with_event (Called a) k ∷ ks else k ∷ happens_to_first is_due_known (Called a) ks)
+        ≤ givings (k ∷ ks)
+    one true e rest = omega (
+      arith,
+      count_quiet (with_event (Called a) k) ks (called_lost k.made a (phase_of_known k) all.0 e).1,
+      no_less (is_giving k) k ks refl,
+    )
     one false e rest = one_more (is_giving k) k (happens_to_first is_due_known (Called a) ks) ks refl rest
 
 -- calls leave no more to do
 pub calls_stopped : (made : WorkerMade) (asked : List Ask) (past : WorkerPast) → IsStopped (worker_after made past)
-    → IsStopped (worker_after made (with_calls asked past)) × (turns_left (worker_after made (with_calls asked past)) ≤ turns_left (worker_after made past))
+    → IsStopped (worker_after made (with_calls asked past))
+    × (turns_left (worker_after made (with_calls asked past)) ≤ turns_left (worker_after made past))
 calls_stopped made [] past s = (s, omega arith)
 calls_stopped made (a ∷ asked) past s =
     let r = calls_stopped made asked past s in
@@ -142,19 +166,23 @@ first_of k j rest true e h = cc
 first_of k j rest false e h = absurd cc
 
 same_id_self : (id : LeaseId) → same_id id id ≡ true
-same_id_self id = ap₂ (λ a b. a && b) (ap₂ (λ a b. a && b) (is_itself id.key.stream) (is_itself id.key.shard)) (is_itself id.tenure)
+same_id_self id = ap₂ (λ a b. a && b) (ap₂ (λ a b. a && b) (is_itself id.key.stream) (is_itself id.key.shard))
+    (is_itself id.tenure)
 
 -- the first of them gives its batch
-giving_first : (a : Result Reply Refusal) (ks : List Known) (k : Known) → AreLost ks → find is_due_known ks ≡ None → find is_giving ks ≡ Some k
+giving_first : (a : Result Reply Refusal) (ks : List Known) (k : Known) → AreLost ks → find is_due_known ks ≡ None
+    → find is_giving ks ≡ Some k
     → AreLostOrOver (consumed (id_of k) a ks) × (givings (consumed (id_of k) a ks) + 1 ≡ givings ks)
 giving_first a [] k all none found = absurd cc
 giving_first a (j ∷ js) k all none found =
     let quiet = first_quiet (is_due_known j) j (find is_due_known js) none in
     let l = answered_lost j.made a (phase_of_known j) all.0 quiet in
     let same : j ≡ k = first_of k j (find is_giving js) (is_giving j) l.2 found in
-    let own : same_id (id_of j) (id_of k) ≡ true = ap (λ x. same_id (id_of j) (id_of x)) (sym same) ∙ same_id_self (id_of j) in
+    let own : same_id (id_of j) (id_of k) ≡ true = ap (λ x. same_id (id_of j) (id_of x)) (sym same)
+    ∙ same_id_self (id_of j) in
     let now : consumed (id_of k) a (j ∷ js) ≡ with_event (Answered a) j ∷ js =
-    ap (λ b. if b then with_event (Answered a) j ∷ js else j ∷ happens_to_first (λ i. same_id (id_of i) (id_of k)) (Answered a) js) own in (
+    ap (λ b. if b then with_event (Answered a) j ∷ js else j
+    ∷ happens_to_first (λ i. same_id (id_of i) (id_of k)) (Answered a) js) own in (
       subst AreLostOrOver (sym now) ((λ over. l.0), lost_or_over js all.1),
       omega (arith, ap givings now, count_quiet (with_event (Answered a) j) js l.1, count_giving j js l.2),
     )
@@ -164,53 +192,86 @@ record Leaves (s t : WorkerState) : Type 0 where
   stopped : IsStopped t
   fewer : turns_left t + 1 ≤ turns_left s
 
-finished : (made : WorkerMade) (at : ℕ) (a : Result Reply Refusal) (s : WorkerState) (k : Known) → IsStopped s → find is_due_known s.consumers ≡ None → find is_giving s.consumers ≡ Some k → (o : Option Pending) → o ≡ next_pending made at s
+finished : (made : WorkerMade) (at : ℕ) (a : Result Reply Refusal) (s : WorkerState) (k : Known) → IsStopped s
+    → find is_due_known s.consumers ≡ None → find is_giving s.consumers ≡ Some k → (o : Option Pending)
+    → o ≡ next_pending made at s
     → Leaves s (absorbed made at a (record s { waiting = o }) o)
 finished made at a s k stopped none found o is =
     let p : Pending = record { chore = Finishing (id_of k); what = command.Give k.made.tenure } in
-    let next : o ≡ Some p = is ∙ ap (λ r. pending_chore made s (chore_from made.settings.failover at s r)) stopped.round ∙ ap (λ f. pending_chore made s (stopping_chore s f)) found in
+    let next : o ≡ Some p = is ∙ ap (λ r. pending_chore made s (chore_from made.settings.failover at s r)) stopped.round
+    ∙ ap (λ f. pending_chore made s (stopping_chore s f)) found in
     let g = giving_first a s.consumers k stopped.lost none found in
     subst (λ q. Leaves s (absorbed made at a (record s { waiting = q }) q)) (sym next) (record {
       stopped = record { round = stopped.round; lost = settled_lost (consumed (id_of k) a s.consumers) g.0 };
       fewer = omega (arith, g.1, part_fewer (λ j. not (is_over j)) (consumed (id_of k) a s.consumers));
     })
 
-freed : (made : WorkerMade) (at : ℕ) (a : Result Reply Refusal) (s : WorkerState) (h : Held) (hs : List Held) → IsStopped s → s.held ≡ h ∷ hs → find is_giving s.consumers ≡ None → (o : Option Pending) → o ≡ next_pending made at s
+freed : (made : WorkerMade) (at : ℕ) (a : Result Reply Refusal) (s : WorkerState) (h : Held) (hs : List Held)
+    → IsStopped s → s.held ≡ h ∷ hs → find is_giving s.consumers ≡ None → (o : Option Pending)
+    → o ≡ next_pending made at s
     → Leaves s (absorbed made at a (record s { waiting = o }) o)
 freed made at a s h hs stopped held none o is =
     let p : Pending = record { chore = Freeing h; what = command.Free h.tenure h.counter } in
-    let next : o ≡ Some p = is ∙ ap (λ r. pending_chore made s (chore_from made.settings.failover at s r)) stopped.round ∙ ap (λ f. pending_chore made s (stopping_chore s f)) none ∙ ap (λ l. pending_chore made s (freeing_chore l)) held in
+    let next : o ≡ Some p = is ∙ ap (λ r. pending_chore made s (chore_from made.settings.failover at s r)) stopped.round
+    ∙ ap (λ f. pending_chore made s (stopping_chore s f)) none
+    ∙ ap (λ l. pending_chore made s (freeing_chore l)) held in
     let id = id_of_held h in
-    let gone : without_held id (h ∷ hs) ≡ without_held id hs = ap (λ b. cond (not b) (h ∷ without_held id hs) (without_held id hs)) (same_id_self id) in
+    let gone : without_held id (h ∷ hs) ≡ without_held id hs =
+    ap (λ b. cond (not b) (h ∷ without_held id hs) (without_held id hs)) (same_id_self id) in
     subst (λ q. Leaves s (absorbed made at a (record s { waiting = q }) q)) (sym next) (record {
-      stopped = record { round = stopped.round; lost = settled_lost s.consumers (lost_or_over s.consumers stopped.lost) };
-      fewer = omega (arith, ap length held, ap (λ l. length (without_held id l)) held, ap length gone, filter_less (λ g. not (same_id (id_of_held g) id)) hs, part_fewer (λ j. not (is_over j)) s.consumers);
+      stopped = record {
+        round = stopped.round;
+        lost = settled_lost s.consumers (lost_or_over s.consumers stopped.lost);
+      };
+      fewer = omega (
+        arith,
+        ap length held,
+        ap (λ l. length (without_held id l)) held,
+        ap length gone,
+        filter_less (λ g. not (same_id (id_of_held g) id)) hs,
+        part_fewer (λ j. not (is_over j)) s.consumers,
+      );
     })
 
-idle_then : (s : WorkerState) → IsStopped s → find is_due_known s.consumers ≡ None → find is_giving s.consumers ≡ None → s.held ≡ [] → is_idle s ≡ true
+idle_then : (s : WorkerState) → IsStopped s → find is_due_known s.consumers ≡ None → find is_giving s.consumers ≡ None
+    → s.held ≡ [] → is_idle s ≡ true
 idle_then s stopped due giving held =
-    ap (λ r. is_stopping r && not (list_any is_due_known s.consumers) && not (list_any is_giving s.consumers) && is_nothing_held s.held) stopped.round
-    ∙ ap (λ b. not b && not (list_any is_giving s.consumers) && is_nothing_held s.held) (none_found_any is_due_known s.consumers due)
+    ap (λ r. is_stopping r && not (list_any is_due_known s.consumers) && not (list_any is_giving s.consumers)
+    && is_nothing_held s.held) stopped.round
+    ∙ ap (λ b. not b && not (list_any is_giving s.consumers) && is_nothing_held s.held)
+    (none_found_any is_due_known s.consumers due)
     ∙ ap (λ b. not b && is_nothing_held s.held) (none_found_any is_giving s.consumers giving)
     ∙ ap is_nothing_held held
 
-turned_by : (made : WorkerMade) (at : ℕ) (a : Result Reply Refusal) (s : WorkerState) (f : Option Known) (held : List Held) → IsStopped s → find is_due_known s.consumers ≡ None → find is_giving s.consumers ≡ f → s.held ≡ held → is_idle s ≡ false
+turned_by : (made : WorkerMade) (at : ℕ) (a : Result Reply Refusal) (s : WorkerState) (f : Option Known)
+    (held : List Held) → IsStopped s → find is_due_known s.consumers ≡ None → find is_giving s.consumers ≡ f
+    → s.held ≡ held → is_idle s ≡ false
     → Leaves s (absorbed made at a (record s { waiting = next_pending made at s }) (next_pending made at s))
-turned_by made at a s (Some k) held stopped due giving is busy = finished made at a s k stopped due giving (next_pending made at s) refl
-turned_by made at a s None [] stopped due giving is busy = absurd (apart (is_idle s) (idle_then s stopped due giving is) busy)
-turned_by made at a s None (h ∷ hs) stopped due giving is busy = freed made at a s h hs stopped is giving (next_pending made at s) refl
+turned_by made at a s (Some k) held stopped due giving is busy =
+    finished made at a s k stopped due giving (next_pending made at s) refl
+turned_by made at a s None [] stopped due giving is busy =
+    absurd (apart (is_idle s) (idle_then s stopped due giving is) busy)
+turned_by made at a s None (h ∷ hs) stopped due giving is busy =
+    freed made at a s h hs stopped is giving (next_pending made at s) refl
 
 -- after a command and its answer there is less to do
-pub turn_stopped : (made : WorkerMade) (at : ℕ) (a : Result Reply Refusal) (past : WorkerPast) → IsStopped (worker_after made past) → find is_due_known (worker_after made past).consumers ≡ None → is_idle (worker_after made past) ≡ false
-    → IsStopped (worker_after made (Got_answer at a ∷ (Gave_command at ∷ past))) × (turns_left (worker_after made (Got_answer at a ∷ (Gave_command at ∷ past))) + 1 ≤ turns_left (worker_after made past))
+pub turn_stopped : (made : WorkerMade) (at : ℕ) (a : Result Reply Refusal) (past : WorkerPast)
+    → IsStopped (worker_after made past) → find is_due_known (worker_after made past).consumers ≡ None
+    → is_idle (worker_after made past) ≡ false
+    → IsStopped (worker_after made (Got_answer at a ∷ (Gave_command at ∷ past)))
+    × (turns_left (worker_after made (Got_answer at a ∷ (Gave_command at ∷ past))) + 1
+    ≤ turns_left (worker_after made past))
 turn_stopped made at a past stopped due busy =
     let s = worker_after made past in
     let l = turned_by made at a s (find is_giving s.consumers) s.held stopped due refl refl busy in
     (l.stopped, l.fewer)
 
 -- so there is something to do where it isn't idle
-pub some_left : (made : WorkerMade) (past : WorkerPast) → IsStopped (worker_after made past) → find is_due_known (worker_after made past).consumers ≡ None → is_idle (worker_after made past) ≡ false → 1 ≤ turns_left (worker_after made past)
-some_left made past stopped due busy = omega (arith, (turn_stopped made 0 (Err refusal.ShardGone) past stopped due busy).1)
+pub some_left : (made : WorkerMade) (past : WorkerPast) → IsStopped (worker_after made past)
+    → find is_due_known (worker_after made past).consumers ≡ None → is_idle (worker_after made past) ≡ false
+    → 1 ≤ turns_left (worker_after made past)
+some_left made past stopped due busy =
+    omega (arith, (turn_stopped made 0 (Err refusal.ShardGone) past stopped due busy).1)
 
 pub filter_fewer : (ks : List Known) → length (filter is_giving ks) ≤ length ks
 filter_fewer ks = filter_less is_giving ks

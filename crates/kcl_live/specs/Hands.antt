@@ -1,5 +1,6 @@
 -- A lease that is handed off by a pass.
-use Rattle.std.specs.Prelude.{ℕ, ◌≡◌, ◌⊎◌, ◌+◌, ◌^◌, List, [], ◌∷◌, ◌++◌, length, map, Option, IsSome, Some, None, Result}
+use Rattle.std.specs.Prelude.{ℕ, ◌≡◌, ◌⊎◌, ◌+◌, ◌^◌, List, [], ◌∷◌, ◌++◌, length, map, Option, IsSome, Some, None}
+use Rattle.std.specs.Prelude.{Result}
 use Rattle.std.specs.List.{AllByRecursion, cons_option}
 use Rattle.kds_base.specs.declared.lease_key.ShardRef.{ShardRef}
 use Rattle.kds_defs.specs.declared.command.Command.{Command}
@@ -17,8 +18,10 @@ use Rattle.kcl_defs.specs.Lives.{Deal, deals_of}
 use Rattle.kcl_defs.specs.Workers.{Release, Released, WorkerPast, id_of_held, released, worker_after}
 use Rattle.kcl_consumer.specs.Standing.{Standing as ConsumerStanding}
 use Rattle.kcl_hand.specs.declared.stand.Left.{Left}
-use Rattle.kcl_hand.specs.Handing.{HandPast, HandState, Hand_answered, Hand_called, hand_after, hand_call, hand_command, hand_due, hand_left, left_at}
-use Rattle.kcl_hand.specs.Joints.{AreAllServed, AreOrderly, AreToldIn, JointPast, answered_deals, hands_after, worker_past}
+use Rattle.kcl_hand.specs.Handing.{HandPast, HandState, Hand_answered, Hand_called, hand_after, hand_call, hand_command}
+use Rattle.kcl_hand.specs.Handing.{hand_due, hand_left, left_at}
+use Rattle.kcl_hand.specs.Joints.{AreAllServed, AreOrderly, AreToldIn, JointPast, answered_deals, hands_after}
+use Rattle.kcl_hand.specs.Joints.{worker_past}
 use Rattle.kcl_hand.specs.Runs.{with_hand}
 use Rattle.kcl_hand.specs.Standing.{HandStanding, StandsFor as HandStandsFor}
 use Rattle.kcl_hand.specs.Twice.{IsHandedOffIfFreed}
@@ -66,7 +69,8 @@ hand_deals h made before (Hand_answered answer ∷ since) deals =
     answered_deals (hand_command h made (hand_after h made before since)) answer (hand_deals h made before since deals)
 
 -- a command was answered at this place of the history, by the definitions, and the later history goes on with its turn
-pub record IsAnsweredAt (by at : ℕ) (command : Option Command) (a : Result Reply Refusal) (place later : List Turn) : Type 0 where
+pub record IsAnsweredAt (by at : ℕ) (command : Option Command) (a : Result Reply Refusal) (place later : List Turn) :
+    Type 0 where
   pub what : Command
   pub which : command ≡ Some what
   pub answered : a ≡ answer place (record { by = by; at = at; what = what })
@@ -75,26 +79,33 @@ pub record IsAnsweredAt (by at : ℕ) (command : Option Command) (a : Result Rep
 -- and so was each of them in order, since the history was `seen`
 abbrev pub AreAnswered : ℕ → ℕ → Held → Tenancy → Past → List Turn → HandPast → List Turn → Type 0
 AreAnswered by at h made before seen [] later = Continues later seen
-AreAnswered by at h made before seen (Hand_called asked ∷ since) later = AreAnswered by at h made before seen since later
-AreAnswered by at h made before seen (Hand_answered a ∷ since) later = (place : List Turn) × AreAnswered by at h made before seen since place
+AreAnswered by at h made before seen (Hand_called asked ∷ since) later =
+    AreAnswered by at h made before seen since later
+AreAnswered by at h made before seen (Hand_answered a ∷ since) later =
+    (place : List Turn) × AreAnswered by at h made before seen since place
     × IsAnsweredAt by at (hand_command h made (hand_after h made before since)) a place later
 
 -- ---- the hand-off alone
 
--- A hand-off stands for what happened to it since the pass was p, and its processor the one at the start. Since then the pass
--- q gained its commands and nothing else, and the processor's calls come after each list of calls that it stood for.
-pub record IsAlong {P : Type 0} (stands : P → List Call → Type 0) (at : ℕ) (start : P) (x : HandStanding P) (p q : Standing) (before : Past)
+-- A hand-off stands for what happened to it since the pass was p, and its processor the one at the start. Since then
+-- the pass q gained its commands and nothing else, and the processor's calls come after each list of calls that it
+-- stood for.
+pub record IsAlong {P : Type 0} (stands : P → List Call → Type 0) (at : ℕ) (start : P) (x : HandStanding P)
+    (p q : Standing) (before : Past)
     (since : HandPast) : Type 0 where
   pub stood : HandStandsFor stands x before since
   pub own : q.own ≡ turns_at p.by at (hand_commands x.held x.consumer.made before since) ++ p.own
   pub answered : AreAnswered p.by at x.held x.consumer.made before p.seen since q.seen
   pub told : (deals : List Deal) → OfEachLater p.by p.seen p.own (λ h. deals_of p.by h ≡ deals)
       → OfEachLater q.by q.seen q.own (λ h. deals_of q.by h ≡ hand_deals x.held x.consumer.made before since deals)
-  pub added : (calls : List Call) → stands start calls → stands x.consumer.processor (hand_calls x.held x.consumer.made before since calls)
+  pub added : (calls : List Call) → stands start calls
+      → stands x.consumer.processor (hand_calls x.held x.consumer.made before since calls)
 
 -- it went on from here, at the pass q, to there, at the pass r: so it is still along
-abbrev pub Goes : {P : Type 0} → (P → List Call → Type 0) → ℕ → HandStanding P → HandStanding P → Standing → Standing → Type 0
-Goes {P} stands at x y q r = (start : P) (p : Standing) (before : Past) (since : HandPast) → p.by ≡ q.by → IsAlong stands at start x p q before since
+abbrev pub Goes : {P : Type 0} → (P → List Call → Type 0) → ℕ → HandStanding P → HandStanding P → Standing → Standing
+    → Type 0
+Goes {P} stands at x y q r = (start : P) (p : Standing) (before : Past) (since : HandPast) → p.by ≡ q.by
+    → IsAlong stands at start x p q before since
     → (later : HandPast) × IsAlong stands at start y p r before later
 
 -- its next command, before which no call is due, became no turn, since the hall's history is full
@@ -115,16 +126,19 @@ pub record TellsJointly (p : Standing) (made : WorkerMade) (joint : JointPast) :
   pub orderly : AreOrderly made joint
   pub told : OfEachLater p.by p.seen p.own (λ h. AreToldIn p.by h made joint)
 
--- Its processors, and those of what it released, are called for the given reads of their tenures. Where a hand-off freed its
--- row, each batch that its processor was handed is given, and what was given is at or below the row's checkpoint.
+-- Its processors, and those of what it released, are called for the given reads of their tenures. Where a hand-off
+-- freed its row, each batch that its processor was handed is given, and what was given is at or below the row's
+-- checkpoint.
 pub record AreServedJointly (p : Standing) (made : WorkerMade) (joint : JointPast) : Type 0 where
   pub calls : OfEachLater p.by p.seen p.own (λ h. AreAllServed p.by h made joint)
-  pub handed : OfEachLater p.by p.seen p.own (λ h. IsHistory h → AllByRecursion (IsHandedOffIfFreed p.by h) (hands_after made joint))
+  pub handed : OfEachLater p.by p.seen p.own (λ h. IsHistory h
+      → AllByRecursion (IsHandedOffIfFreed p.by h) (hands_after made joint))
 
-module _ {P F : Type 0} (stands : P → List Call → Type 0) (at : ℕ) (key : ShardRef) (w v : WorkerStanding P F) (p q : Standing) where
-  -- The key's lease was released. What the pass gained are the commands of its hand-off that were answered, each at this
-  -- moment, and each answer is that of the definitions at its turn's place. So where the old turns tell a record of the
-  -- worker with its earlier hand-offs, the new ones tell the longer record, and its processors are served.
+module _ {P F : Type 0} (stands : P → List Call → Type 0) (at : ℕ) (key : ShardRef) (w v : WorkerStanding P F)
+    (p q : Standing) where
+  -- The key's lease was released. What the pass gained are the commands of its hand-off that were answered, each at
+  -- this moment, and each answer is that of the definitions at its turn's place. So where the old turns tell a record
+  -- of the worker with its earlier hand-offs, the new ones tell the longer record, and its processors are served.
   pub record HasReleased (past : WorkerPast) : Type 0 where
     pub release : Release
     pub which : released key (worker_after w.made past) ≡ Some release
@@ -132,18 +146,22 @@ module _ {P F : Type 0} (stands : P → List Call → Type 0) (at : ℕ) (key : 
     pub since : HandPast
     pub own : q.own ≡ turns_at p.by at (release_commands release since) ++ p.own
     pub answered : AreAnswered p.by at release.held release.known.made (Losing ∷ release.known.past) p.seen since q.seen
-    pub told : (joint : JointPast) → worker_past joint ≡ past → TellsJointly p w.made joint → TellsJointly q w.made (with_hand key since w.made joint)
-    pub served : (joint : JointPast) → worker_past joint ≡ past → TellsJointly p w.made joint → AreServedJointly q w.made (with_hand key since w.made joint)
+    pub told : (joint : JointPast) → worker_past joint ≡ past → TellsJointly p w.made joint
+        → TellsJointly q w.made (with_hand key since w.made joint)
+    pub served : (joint : JointPast) → worker_past joint ≡ past → TellsJointly p w.made joint
+        → AreServedJointly q w.made (with_hand key since w.made joint)
 
-  -- And the hand-off ended so, with this processor: that of the lease's consumer. It stands for each list of calls that it
-  -- stood for in the worker, with the calls of the hand-off added.
+  -- And the hand-off ended so, with this processor: that of the lease's consumer. It stands for each list of calls that
+  -- it stood for in the worker, with the calls of the hand-off added.
   pub record HasHandedOff (left : Left) (processor : P) (past : WorkerPast) : Type 0 where
     pub so_far : HasReleased past
     pub ended : hand_left (release_state so_far.release so_far.since) ≡ Some left
-    pub calls : stands processor (calls_after so_far.release.known.made (release_state so_far.release so_far.since).past)
+    pub calls : stands processor
+        (calls_after so_far.release.known.made (release_state so_far.release so_far.since).past)
     pub consumer : ConsumerStanding P
     pub whose : one_of (id_of_held so_far.release.held) w.consumers ≡ Some consumer
-    pub added : (earlier : List Call) → stands consumer.processor earlier → stands processor (release_calls so_far.release so_far.since earlier)
+    pub added : (earlier : List Call) → stands consumer.processor earlier
+        → stands processor (release_calls so_far.release so_far.since earlier)
 
   -- memory ran out in the processor's call, which is still due
   pub record HandCallFailed (e : TurnErr) (past : WorkerPast) : Type 0 where

@@ -15,7 +15,8 @@ module _ {M P F G : Type 0} (stands : P → List Call → Type 0) where
 
   -- its own turns are the commands of its worker at their moments, and its processors are called for the given reads
   pub record HasEnded (turns tick : ℕ) (before after : Member M P F G) : Type 0 where
-    pub kept : (after.pass.hall ≡ before.pass.hall) × (after.pass.by ≡ before.pass.by) × (after.pass.joined ≡ before.pass.joined)
+    pub kept : (after.pass.hall ≡ before.pass.hall) × (after.pass.by ≡ before.pass.by)
+        × (after.pass.joined ≡ before.pass.joined)
     pub made : after.worker.made ≡ before.worker.made
     pub seen : Continues after.pass.seen before.pass.seen
     pub moments : AreOnLeasesAt tick after.pass.own

@@ -5,20 +5,23 @@ use Rattle.kds_defs.specs.declared.reply.Refusal.{Refusal}
 use Rattle.kds_defs.specs.declared.reply.Reply.{Reply}
 use Rattle.kcl_defs.specs.declared.consumer.Call.{Call}
 use Rattle.kcl_defs.specs.Consumers.{Giving, Leaving, Phase}
-use Rattle.kcl_defs.specs.Workers.{AtStopping, Gave_command, Got_answer, WorkerPast, WorkerState, is_giving, is_stopping, phase_of_known, worker_after}
+use Rattle.kcl_defs.specs.Workers.{AtStopping, Gave_command, Got_answer, WorkerPast, WorkerState, is_giving}
+use Rattle.kcl_defs.specs.Workers.{is_stopping, phase_of_known, worker_after}
 use Rattle.kcl_worker.specs.Standing.{WorkerStanding}
 use Rattle.kds_turn.specs.Known.{turns_by}
 use Rattle.kds_turn.specs.Passes.{Standing}
 use Rattle.kcl_live.specs.Records.{IsDriven}
 
 -- after this record, a command was given and answered at this moment
-pub record HasTurned {P F : Type 0} (stands : P → List Call → Type 0) (p : Standing) (w : WorkerStanding P F) (at : ℕ) (past : WorkerPast) : Type 0 where
+pub record HasTurned {P F : Type 0} (stands : P → List Call → Type 0) (p : Standing) (w : WorkerStanding P F) (at : ℕ)
+    (past : WorkerPast) : Type 0 where
   pub answer : Result Reply Refusal
   pub driven : IsDriven stands p.by p.seen p.own w (Got_answer at answer ∷ (Gave_command at ∷ past))
   pub alone : turns_by p.by p.seen ≡ p.own
 
 -- the worker wasn't stopped
-pub record IsGoing {P F : Type 0} (stands : P → List Call → Type 0) (w : WorkerStanding P F) (p : Standing) : Type 0 where
+pub record IsGoing {P F : Type 0} (stands : P → List Call → Type 0) (w : WorkerStanding P F) (p : Standing) :
+    Type 0 where
   pub past : WorkerPast
   pub driven : IsDriven stands p.by p.seen p.own w past
   pub alone : 0 < length p.own → turns_by p.by p.seen ≡ p.own
@@ -40,7 +43,8 @@ pub record IsStopped (s : WorkerState) : Type 0 where
   pub lost : AllByRecursion (λ k. IsLost (phase_of_known k)) s.consumers
 
 -- the worker was stopped, and this many turns are the most that it then has
-pub record IsFinishing {P F : Type 0} (stands : P → List Call → Type 0) (w : WorkerStanding P F) (p : Standing) (most : ℕ) : Type 0 where
+pub record IsFinishing {P F : Type 0} (stands : P → List Call → Type 0) (w : WorkerStanding P F) (p : Standing)
+    (most : ℕ) : Type 0 where
   pub past : WorkerPast
   pub driven : IsDriven stands p.by p.seen p.own w past
   pub alone : 0 < length p.own → turns_by p.by p.seen ≡ p.own

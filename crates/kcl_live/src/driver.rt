@@ -1,7 +1,8 @@
 //! Runs a worker. A hall is a machine with a lock around it, and a turn is one command, applied atomically to the
 //! machine. A pass is the right of one thread to make turns of a hall. Each command of the worker becomes a turn, which
 //! the worker makes with its pass. A worker that was stopped is idle when it has nothing left to do.
-ghost use Rattle.std.specs.Prelude.{◌≡◌, ◌⊎◌, ℕ, ◌*◌, ◌+◌, ◌<◌, ◌≤◌, ◌^◌, [], length, None, IfErr, OnErr, OnOk, true, false};
+ghost use Rattle.std.specs.Prelude.{◌≡◌, ◌⊎◌, ℕ, ◌*◌, ◌+◌, ◌<◌, ◌≤◌, ◌^◌, [], length, None, IfErr, OnErr, OnOk, true};
+ghost use Rattle.std.specs.Prelude.{false};
 ghost use Rattle.kcl_worker_lists.specs.Lists.{due_in};
 ghost use Rattle.kcl_worker.specs.Standing.{StandsFor, is_idle_in};
 ghost use Rattle.kds_turn.specs.Known.{Continues};
@@ -76,7 +77,8 @@ fn last_round<M: Machine, P: Processor + Drop, F: Maker<P>, G: Gate, R: Wait>(
     ensures none_due { OnOk result (due_in worker.new.consumers ≡ None) }
     ensures added { OnOk result (HasAdded now pass.old.own pass.new.own) }
     ensures added_or_not { OnErr result ((pass.new.own ≡ pass.old.own) ⊎ HasAdded now pass.old.own pass.new.own) }
-    ensures finishing { OnOk result ((most : ℕ) → IsFinishing P.stands_for worker.old pass.old most → IsFinishing P.stands_for worker.new pass.new most) }
+    ensures finishing { OnOk result ((most : ℕ) → IsFinishing P.stands_for worker.old pass.old most
+        → IsFinishing P.stands_for worker.new pass.new most) }
     ensures err { IfErr result (λ e. WasCut P.stands_for worker.new pass.new e) }
 {
     match make_turn(rt, hall, pass, worker, now) {

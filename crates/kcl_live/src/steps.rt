@@ -33,7 +33,8 @@ pub(crate) fn call_all<P: Processor, F: Maker<P>, G: Gate>(
         → (asked : List Ask) × StandsFor P.stands_for worker.new (with_calls asked past) }
     ensures none_due { OnOk result (due_in worker.new.consumers ≡ None) }
     ensures error { IfErr result (λ e. e ≡ TurnErr.Memory) }
-    ensures left { OnErr result ((past : WorkerPast) → StandsFor P.stands_for worker.old past → IsSome (due_in worker.new.consumers)) }
+    ensures left { OnErr result ((past : WorkerPast) → StandsFor P.stands_for worker.old past
+        → IsSome (due_in worker.new.consumers)) }
 {
     while let Some((_, due)) = worker.due() {
         let name = worker.name();
@@ -76,9 +77,11 @@ pub(crate) fn make_turn<M: Machine, P: Processor + Drop, F: Maker<P>, R: Wait>(
     ensures free { OnOk result (worker.new.waiting ≡ None) }
     ensures added { OnOk result (HasAdded now pass.old.own pass.new.own) }
     ensures added_or_not { OnErr result ((pass.new.own ≡ pass.old.own) ⊎ HasAdded now pass.old.own pass.new.own) }
-    ensures ok { OnOk result ((past : WorkerPast) → IsDriven P.stands_for pass.old.by pass.old.seen pass.old.own worker.old past
+    ensures ok { OnOk result ((past : WorkerPast)
+        → IsDriven P.stands_for pass.old.by pass.old.seen pass.old.own worker.old past
         → HasTurned P.stands_for pass.new worker.new now past) }
-    ensures err { IfErr result (λ e. (past : WorkerPast) → IsDriven P.stands_for pass.old.by pass.old.seen pass.old.own worker.old past
+    ensures err { IfErr result (λ e. (past : WorkerPast)
+        → IsDriven P.stands_for pass.old.by pass.old.seen pass.old.own worker.old past
         → WasCut P.stands_for worker.new pass.new e) }
 {
     let what = worker.next(now);

@@ -1,5 +1,6 @@
 -- A form reads exactly what it spells.
-use Rattle.std.proofs.Common.{◌≡◌, ℕ, ◌<◌, ◌≤◌, ◌^◌, List, [], ◌∷◌, ◌++◌, Bool, true, false, Option, Some, None, refl, ap, ◌∙◌, arith, decimal, inl, inr, subst}
+use Rattle.std.proofs.Common.{◌≡◌, ℕ, ◌<◌, ◌≤◌, ◌^◌, List, [], ◌∷◌, ◌++◌, Bool, true, false, Option, Some, None, refl}
+use Rattle.std.proofs.Common.{ap, ◌∙◌, arith, decimal, inl, inr, subst}
 use Rattle.std.proofs.lemmas.Grind.{common_steps}
 use Rattle.std.proofs.lemmas.Bool.{cases_Bool, eqb-true}
 use Rattle.std.specs.Prelude.{◌==◌, ◌&&◌, if◌then◌else◌, option_map, option_and_then, nat_le, nat_lt}
@@ -8,7 +9,8 @@ use Rattle.std.specs.Char.{is_ascii_digit}
 use Rattle.kds_base.specs.declared.lease_key.ShardRef.{ShardRef}
 use Rattle.kds_base.specs.NumberText.{number_of}
 use Rattle.kds_base.proofs.NumberLemmas.{own, decimal_of_number, number_of_decimal}
-use Rattle.kcl_script_fields.specs.Fields.{parted, Lacks, two, in_time, moment_of, number, from_one_to, count_of, greatest32, worker_of, worker_text, key_from, key_of, key_text}
+use Rattle.kcl_script_fields.specs.Fields.{parted, Lacks, two, in_time, moment_of, number, from_one_to, count_of}
+use Rattle.kcl_script_fields.specs.Fields.{greatest32, worker_of, worker_text, key_from, key_of, key_text}
 use Rattle.kcl_script_fields.specs.Commands.{IsKey}
 use Rattle.kcl_script_fields.proofs.Parts.{lacks-append, parted_at, parted_spells, kind_lacks, bind_some, map_some}
 
@@ -22,21 +24,26 @@ abbrev pub Is64 : ℕ → Type 0
 Is64 n = n < 2 ^ 64
 
 pub number_form : IsForm Is64 number decimal
-number_form = record { spells = λ text n h. let d = decimal_of_number text n h in (d.1, d.0); again = number_of_decimal }
+number_form = record {
+  spells = λ text n h. let d = decimal_of_number text n h in (d.1, d.0);
+  again = number_of_decimal;
+}
 
 abbrev pub IsCount : ℕ → ℕ → Type 0
 IsCount most n = (1 ≤ n) × (n ≤ most)
 
 count_is : (most n m : ℕ) → from_one_to most n ≡ Some m → (n ≡ m) × IsCount most n
 count_is most n m h = elim (cases_Bool (nat_le 1 n && nat_le n most)) [
-  | inl within ↦ let e : Some n ≡ Some m = rw within at h in let same : n ≡ m = cc in (same, (grind (arith, common_steps), grind (arith, common_steps)))
+  | inl within ↦ let e : Some n ≡ Some m = rw within at h in let same : n ≡ m = cc in
+      (same, (grind (arith, common_steps), grind (arith, common_steps)))
   | inr beyond ↦ let e : None ≡ Some m = rw beyond at h in absurd (cc)
 ]
 
 count_again : (most n : ℕ) → IsCount most n → from_one_to most n ≡ Some n
 count_again most n v = grind (arith, common_steps, v.0, v.1)
 
-count_of_text : (most : ℕ) (o : Option ℕ) (text : List ℕ) (m : ℕ) → number_of 64 text ≡ o → option_and_then (from_one_to most) o ≡ Some m → IsCount most m × (text ≡ decimal m)
+count_of_text : (most : ℕ) (o : Option ℕ) (text : List ℕ) (m : ℕ) → number_of 64 text ≡ o
+    → option_and_then (from_one_to most) o ≡ Some m → IsCount most m × (text ≡ decimal m)
 count_of_text most None text m e h = absurd (cc)
 count_of_text most (Some n) text m e h =
     let t = count_is most n m h in
@@ -46,7 +53,8 @@ count_of_text most (Some n) text m e h =
 pub count_form : (most : ℕ) → most < 2 ^ 64 → IsForm (IsCount most) (count_of most) decimal
 count_form most small = record {
   spells = λ text m h. count_of_text most (number_of 64 text) text m refl h;
-  again = λ m v. ap (option_and_then (from_one_to most)) (number_of_decimal m (omega (arith, v.1))) ∙ count_again most m v;
+  again = λ m v. ap (option_and_then (from_one_to most)) (number_of_decimal m (omega (arith, v.1)))
+      ∙ count_again most m v;
 }
 
 pub decimal_lacks : (sep n : ℕ) → is_ascii_digit sep ≡ false → n < 2 ^ 64 → Lacks sep (decimal n)
@@ -63,7 +71,8 @@ in_time_is n m h = elim (cases_Bool (nat_lt n (2 ^ 62))) [
   | inr big ↦ let e : None ≡ Some m = rw big at h in absurd (cc)
 ]
 
-moment_of_text : (o : Option ℕ) (text : List ℕ) (at : ℕ) → number_of 64 text ≡ o → option_and_then in_time o ≡ Some at → (text ≡ decimal at) × (at < 2 ^ 62)
+moment_of_text : (o : Option ℕ) (text : List ℕ) (at : ℕ) → number_of 64 text ≡ o → option_and_then in_time o ≡ Some at
+    → (text ≡ decimal at) × (at < 2 ^ 62)
 moment_of_text None text at e h = absurd (cc)
 moment_of_text (Some n) text at e h =
     let t = in_time_is n at h in
@@ -77,14 +86,18 @@ moment_again : (at : ℕ) → at < 2 ^ 62 → moment_of (decimal at) ≡ Some at
 moment_again at small = ap (option_and_then in_time) (number_of_decimal at (omega arith)) ∙ in_time_again at small
 
 pub moment_form : IsForm IsMoment moment_of decimal
-moment_form = record { spells = λ text at h. let d = moment_of_text _ text at refl h in (d.1, d.0); again = moment_again }
+moment_form = record {
+  spells = λ text at h. let d = moment_of_text _ text at refl h in (d.1, d.0);
+  again = moment_again;
+}
 
 -- ---- workers
 
 abbrev pub IsWorker : ℕ → Type 0
 IsWorker n = IsCount greatest32 n
 
-worker_is : (c : Bool) (b : ℕ) (digits : List ℕ) (n : ℕ) → (b == 119) ≡ c → (if c then count_of greatest32 digits else None) ≡ Some n → IsWorker n × (b ∷ digits ≡ worker_text n)
+worker_is : (c : Bool) (b : ℕ) (digits : List ℕ) (n : ℕ) → (b == 119) ≡ c
+    → (if c then count_of greatest32 digits else None) ≡ Some n → IsWorker n × (b ∷ digits ≡ worker_text n)
 worker_is false b digits n c h = absurd (cc)
 worker_is true b digits n c h =
     let d = (count_form greatest32 (omega arith)).spells digits n h in
@@ -99,7 +112,8 @@ worker_form = record { spells = worker_spells; again = λ n v. (count_form great
 
 -- ---- two parts
 
-pub two_form : {A B : Type 0} {V : A → Type 0} {f : List ℕ → Option A} {s : A → List ℕ} {W : B → Type 0} {g : List ℕ → Option B} {u : B → List ℕ}
+pub two_form : {A B : Type 0} {V : A → Type 0} {f : List ℕ → Option A} {s : A → List ℕ} {W : B → Type 0} {g : List ℕ
+    → Option B} {u : B → List ℕ}
     → (sep : ℕ) → (sep == sep) ≡ true → ((x : A) → V x → Lacks sep (s x)) → IsForm V f s → IsForm W g u
     → IsForm (λ (p : A × B). V p.0 × W p.1) (two sep f g) (λ (p : A × B). s p.0 ++ sep ∷ u p.1)
 unfolding two
@@ -114,7 +128,11 @@ two_form {A} {B} {V} {f} {s} {W} {g} {u} sep same lacks first second = record {
       let y = second.spells a.0.1 c.0 c.1 in
       subst (λ (z : A × B). (V z.0 × W z.1) × (text ≡ s z.0 ++ sep ∷ u z.1)) e
       ((x.0, y.0), t.0 ∙ ap (λ z. z ++ sep ∷ a.0.1) x.1 ∙ ap (λ z. s b.0 ++ sep ∷ z) y.1);
-  again = λ p v. rw (parted_at sep (s p.0) (u p.1) (lacks p.0 v.0) same, first.again p.0 v.0, second.again p.1 v.1) refl;
+  again = λ p v. rw (
+    parted_at sep (s p.0) (u p.1) (lacks p.0 v.0) same,
+    first.again p.0 v.0,
+    second.again p.1 v.1,
+  ) refl;
 }
 
 -- ---- keys
@@ -131,4 +149,7 @@ key_form =
     }
 
 pub key_lacks : (k : ShardRef) → IsKey k → Lacks 32 (key_text k)
-key_lacks k v = lacks-append 32 (decimal k.stream) (47 ∷ decimal k.shard) (decimal_lacks 32 k.stream refl v.0) (refl, decimal_lacks 32 k.shard refl v.1)
+key_lacks k v = lacks-append 32 (decimal k.stream) (47 ∷ decimal k.shard) (decimal_lacks 32 k.stream refl v.0) (
+  refl,
+  decimal_lacks 32 k.shard refl v.1,
+)

@@ -5,10 +5,16 @@ use Rattle.kcl_script_fields.specs.Fields.{AddsFront}
 -- a front of the first part
 pub adds_first : (old now text more : List ℕ) → AddsFront old now text → AddsFront old now (text ++ more)
 adds_first old now text more a =
-    record { front = a.front; back = a.back ++ more; parts = ap (λ (t : List ℕ). t ++ more) a.parts ∙ append_assoc a.front a.back more; added = a.added }
+    record {
+      front = a.front;
+      back = a.back ++ more;
+      parts = ap (λ (t : List ℕ). t ++ more) a.parts ∙ append_assoc a.front a.back more;
+      added = a.added;
+    }
 
 -- the first part, and a front of the second
-pub adds_later : (old mid now text more : List ℕ) → mid ≡ old ++ text → AddsFront mid now more → AddsFront old now (text ++ more)
+pub adds_later : (old mid now text more : List ℕ) → mid ≡ old ++ text → AddsFront mid now more
+    → AddsFront old now (text ++ more)
 adds_later old mid now text more e a = record {
   front = text ++ a.front;
   back = a.back;

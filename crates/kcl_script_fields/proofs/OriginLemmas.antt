@@ -1,5 +1,6 @@
 -- What is read with the origin behind it has one text.
-use Rattle.std.proofs.Common.{◌≡◌, ℕ, ◌<◌, ◌^◌, List, ◌∷◌, ◌++◌, Bool, true, false, Option, Some, None, refl, sym, ap, ◌∙◌, codes, decimal, subst}
+use Rattle.std.proofs.Common.{◌≡◌, ℕ, ◌<◌, ◌^◌, List, ◌∷◌, ◌++◌, Bool, true, false, Option, Some, None, refl, sym, ap}
+use Rattle.std.proofs.Common.{◌∙◌, codes, decimal, subst}
 use Rattle.std.proofs.lemmas.List.{append-nil}
 use Rattle.std.proofs.lemmas.Slice.Eq.{bytes_eq-Decides}
 use Rattle.std.specs.Prelude.{if◌then◌else◌, option_map}
@@ -18,35 +19,47 @@ abbrev SpellsOrigin : List ℕ → Origin → Type 0
 SpellsOrigin text from = IsOrigin from × (32 ∷ text ≡ origin_text from)
 
 time_is : (c : Bool) (word rest : List ℕ) (from : Origin) → bytes_eq word (codes "time") ≡ c
-    → (if c then option_map (λ m. origin.Time m) (moment_of rest) else None) ≡ Some from → SpellsOrigin (word ++ 32 ∷ rest) from
+    → (if c then option_map (λ m. origin.Time m) (moment_of rest) else None) ≡ Some from
+    → SpellsOrigin (word ++ 32 ∷ rest) from
 time_is false word rest from c h = absurd (cc)
 time_is true word rest from c h =
     let m = map_some (λ n. origin.Time n) (moment_of rest) from h in
     let d = moment_form.spells rest m.0 m.1 in
-    let spelled : SpellsOrigin (codes "time" ++ 32 ∷ rest) (origin.Time m.0) = (d.0, ap (λ z. codes " time " ++ z) d.1) in
-    let at_word : SpellsOrigin (word ++ 32 ∷ rest) (origin.Time m.0) = subst (λ (z : List ℕ). SpellsOrigin (z ++ 32 ∷ rest) (origin.Time m.0)) (sym ((bytes_eq-Decides word (codes "time")).0 c)) spelled in
+    let spelled : SpellsOrigin (codes "time" ++ 32 ∷ rest) (origin.Time m.0) =
+    (d.0, ap (λ z. codes " time " ++ z) d.1) in
+    let at_word : SpellsOrigin (word ++ 32 ∷ rest) (origin.Time m.0) =
+    subst (λ (z : List ℕ). SpellsOrigin (z ++ 32 ∷ rest) (origin.Time m.0))
+    (sym ((bytes_eq-Decides word (codes "time")).0 c)) spelled in
     subst (λ (z : Origin). SpellsOrigin (word ++ 32 ∷ rest) z) m.2 at_word
 
 time_spells : (text : List ℕ) (from : Origin) → time_of text ≡ Some from → SpellsOrigin text from
 time_spells text from h =
     let p = bind_some (field text) _ from h in
-    subst (λ (z : List ℕ). SpellsOrigin z from) (sym (parted_spells 32 text p.0 p.1).0) (time_is (bytes_eq p.0.0 (codes "time")) p.0.0 p.0.1 from refl p.2)
+    subst (λ (z : List ℕ). SpellsOrigin z from) (sym (parted_spells 32 text p.0 p.1).0)
+    (time_is (bytes_eq p.0.0 (codes "time")) p.0.0 p.0.1 from refl p.2)
 
 origin_is : (c : Bool) (text : List ℕ) (from : Origin) → bytes_eq text (codes "latest") ≡ c
     → (if c then Some origin.Latest else time_of text) ≡ Some from → SpellsOrigin text from
 origin_is true text from c h =
     let same : origin.Latest ≡ from = cc in
-    subst (λ (z : Origin). SpellsOrigin text z) same (tt, ap (λ z. 32 ∷ z) ((bytes_eq-Decides text (codes "latest")).0 c))
+    subst (λ (z : Origin). SpellsOrigin text z) same (
+      tt,
+      ap (λ z. 32 ∷ z) ((bytes_eq-Decides text (codes "latest")).0 c),
+    )
 origin_is false text from c h = time_spells text from h
 
 -- ---- a thing with its origin
 
-with_is : {A : Type 0} {V : A → Type 0} {f : List ℕ → Option A} {s : A → List ℕ} → IsForm V f s → (text : List ℕ) (o : Option (List ℕ × List ℕ)) (a : A × Origin)
+with_is : {A : Type 0} {V : A → Type 0} {f : List ℕ → Option A} {s : A → List ℕ} → IsForm V f s
+    → (text : List ℕ) (o : Option (List ℕ × List ℕ)) (a : A × Origin)
     → field text ≡ o → with_origin_at f text o ≡ Some a → (V a.0 × IsOrigin a.1) × (text ≡ s a.0 ++ origin_text a.1)
 with_is {A} {V} {f} {s} form text None a e h =
     let m = map_some (λ k. (k, origin.TrimHorizon)) (f text) a h in
     let d = form.spells text m.0 m.1 in
-    subst (λ (z : A × Origin). (V z.0 × IsOrigin z.1) × (text ≡ s z.0 ++ origin_text z.1)) m.2 ((d.0, tt), d.1 ∙ sym (append-nil (s m.0)))
+    subst (λ (z : A × Origin). (V z.0 × IsOrigin z.1) × (text ≡ s z.0 ++ origin_text z.1)) m.2 (
+      (d.0, tt),
+      d.1 ∙ sym (append-nil (s m.0)),
+    )
 with_is {A} {V} {f} {s} form text (Some p) a e h =
     let k = bind_some (f p.0) _ a h in
     let m = map_some (λ o. (k.0, o)) (origin_of p.1) a k.2 in
@@ -56,19 +69,26 @@ with_is {A} {V} {f} {s} form text (Some p) a e h =
     ((d.0, o.0), (parted_spells 32 text p e).0 ∙ ap (λ z. z ++ 32 ∷ p.1) d.1 ∙ ap (λ z. s k.0 ++ z) o.1)
 
 -- what reads a thing with an origin after it
-with_again : {A : Type 0} {V : A → Type 0} {f : List ℕ → Option A} {s : A → List ℕ} → ((x : A) → V x → Lacks 32 (s x)) → IsForm V f s → (x : A) (from : Origin) (text : List ℕ)
+with_again : {A : Type 0} {V : A → Type 0} {f : List ℕ → Option A} {s : A → List ℕ} → ((x : A) → V x → Lacks 32 (s x))
+    → IsForm V f s → (x : A) (from : Origin) (text : List ℕ)
     → V x → origin_of text ≡ Some from → with_origin f (s x ++ 32 ∷ text) ≡ Some (x, from)
-with_again {A} {V} {f} {s} lacks form x from text v e = rw (parted_at 32 (s x) text (lacks x v) refl, form.again x v, e) refl
+with_again {A} {V} {f} {s} lacks form x from text v e =
+    rw (parted_at 32 (s x) text (lacks x v) refl, form.again x v, e) refl
 
 time_again : (at : ℕ) → at < 2 ^ 62 → origin_of (codes "time " ++ decimal at) ≡ Some (origin.Time at)
 time_again at small = ap (option_map (λ m. origin.Time m)) (moment_form.again at small)
 
-all_again : {A : Type 0} {V : A → Type 0} {f : List ℕ → Option A} {s : A → List ℕ} → ((x : A) → V x → Lacks 32 (s x)) → IsForm V f s → (a : A × Origin)
+all_again : {A : Type 0} {V : A → Type 0} {f : List ℕ → Option A} {s : A → List ℕ} → ((x : A) → V x → Lacks 32 (s x))
+    → IsForm V f s → (a : A × Origin)
     → V a.0 × IsOrigin a.1 → with_origin f (s a.0 ++ origin_text a.1) ≡ Some a
-all_again {A} {V} {f} {s} lacks form (x, origin.TrimHorizon) v = rw (append-nil (s x), parted_none 32 (s x) (lacks x v.0), form.again x v.0) refl
+all_again {A} {V} {f} {s} lacks form (x, origin.TrimHorizon) v =
+    rw (append-nil (s x), parted_none 32 (s x) (lacks x v.0), form.again x v.0) refl
 all_again lacks form (x, origin.Latest) v = with_again lacks form x origin.Latest (codes "latest") v.0 refl
-all_again lacks form (x, origin.Time at) v = with_again lacks form x (origin.Time at) (codes "time " ++ decimal at) v.0 (time_again at v.1)
+all_again lacks form (x, origin.Time at) v =
+    with_again lacks form x (origin.Time at) (codes "time " ++ decimal at) v.0 (time_again at v.1)
 
-pub with_origin_form : {A : Type 0} {V : A → Type 0} {f : List ℕ → Option A} {s : A → List ℕ} → ((x : A) → V x → Lacks 32 (s x)) → IsForm V f s
+pub with_origin_form : {A : Type 0} {V : A → Type 0} {f : List ℕ → Option A} {s : A → List ℕ}
+    → ((x : A) → V x → Lacks 32 (s x)) → IsForm V f s
     → IsForm (λ (a : A × Origin). V a.0 × IsOrigin a.1) (with_origin f) (λ (a : A × Origin). s a.0 ++ origin_text a.1)
-with_origin_form lacks form = record { spells = λ text a h. with_is form text (field text) a refl h; again = λ a v. all_again lacks form a v }
+with_origin_form lacks form =
+    record { spells = λ text a h. with_is form text (field text) a refl h; again = λ a v. all_again lacks form a v }

@@ -1,5 +1,6 @@
 -- Parts of a text, which a byte parts.
-use Rattle.std.proofs.Common.{◌≡◌, ℕ, zero, suc, ◌+◌, ◌<◌, List, length, [], ◌∷◌, ◌++◌, take, drop, Bool, true, false, Option, Some, None, refl, ap, ◌∙◌, inl, inr, subst, arith}
+use Rattle.std.proofs.Common.{◌≡◌, ℕ, zero, suc, ◌+◌, ◌<◌, List, length, [], ◌∷◌, ◌++◌, take, drop, Bool, true, false}
+use Rattle.std.proofs.Common.{Option, Some, None, refl, ap, ◌∙◌, inl, inr, subst, arith}
 use Rattle.std.proofs.lemmas.Bool.{cases_Bool, eqb-true, and_parts}
 use Rattle.std.specs.Prelude.{◌==◌, if◌then◌else◌, option_map}
 use Rattle.std.specs.List.{list_all}
@@ -25,28 +26,37 @@ other_byte sep b differs = elim (cases_Bool (b == sep)) [
 ]
 
 -- where a search finds the byte
-found_at : (sep : ℕ) (text : List ℕ) (at : ℕ) → at < length text → ((k : ℕ) → k < at → Passes (is_byte sep) text k → ⊥) → Passes (is_byte sep) text at → parted sep text ≡ Some (take at text, drop (suc at) text)
+found_at : (sep : ℕ) (text : List ℕ) (at : ℕ) → at < length text → ((k : ℕ) → k < at → Passes (is_byte sep) text k → ⊥)
+    → Passes (is_byte sep) text at → parted sep text ≡ Some (take at text, drop (suc at) text)
 found_at sep [] at within before here = absurd (omega (arith, within))
 found_at sep (b ∷ bs) zero within before here = rw here refl
 found_at sep (b ∷ bs) (suc at) within before here =
-    rw (other_byte sep b (before 0 (omega arith)), found_at sep bs at (omega (arith, within)) (λ k lt. before (suc k) (omega (arith, lt))) here) refl
+    rw (
+      other_byte sep b (before 0 (omega arith)),
+      found_at sep bs at (omega (arith, within)) (λ k lt. before (suc k) (omega (arith, lt))) here,
+    ) refl
 
-pub parted_found : (sep : ℕ) (text : List ℕ) (at : ℕ) → NoneBefore (Passes (is_byte sep) text) 0 (length text) at × Passes (is_byte sep) text at → parted sep text ≡ Some (take at text, drop (at + 1) text)
+pub parted_found : (sep : ℕ) (text : List ℕ) (at : ℕ) → NoneBefore (Passes (is_byte sep) text) 0 (length text) at
+    × Passes (is_byte sep) text at → parted sep text ≡ Some (take at text, drop (at + 1) text)
 parted_found sep text at found =
     let next : suc at ≡ at + 1 = omega arith in
-    found_at sep text at found.0.high (λ k lt. found.0.before k (omega arith) lt) found.1 ∙ ap (λ n. Some (take at text, drop n text)) next
+    found_at sep text at found.0.high (λ k lt. found.0.before k (omega arith) lt) found.1
+    ∙ ap (λ n. Some (take at text, drop n text)) next
 
 -- where it finds none
-pub parted_nowhere : (sep : ℕ) (text : List ℕ) → ((k : ℕ) → k < length text → Passes (is_byte sep) text k → ⊥) → parted sep text ≡ None
+pub parted_nowhere : (sep : ℕ) (text : List ℕ) → ((k : ℕ) → k < length text → Passes (is_byte sep) text k → ⊥)
+    → parted sep text ≡ None
 parted_nowhere sep [] nowhere = refl
 parted_nowhere sep (b ∷ bs) nowhere =
-    rw (other_byte sep b (nowhere 0 (omega arith)), parted_nowhere sep bs (λ k lt. nowhere (suc k) (omega (arith, lt)))) refl
+    rw (other_byte sep b (nowhere 0 (omega arith)), parted_nowhere sep bs (λ k lt. nowhere (suc k) (omega (arith, lt))))
+    refl
 
 abbrev pub IsParted : ℕ → List ℕ → List ℕ × List ℕ → Type 0
 IsParted sep text p = (text ≡ p.0 ++ sep ∷ p.1) × Lacks sep p.0
 
 parted_rest : (sep b : ℕ) (bs : List ℕ) (o : Option (List ℕ × List ℕ)) (p : List ℕ × List ℕ) → (b == sep) ≡ false
-    → ((q : List ℕ × List ℕ) → o ≡ Some q → IsParted sep bs q) → option_map (λ (q : List ℕ × List ℕ). (b ∷ q.0, q.1)) o ≡ Some p → IsParted sep (b ∷ bs) p
+    → ((q : List ℕ × List ℕ) → o ≡ Some q → IsParted sep bs q) → option_map (λ (q : List ℕ × List ℕ). (b ∷ q.0, q.1)) o
+    ≡ Some p → IsParted sep (b ∷ bs) p
 parted_rest sep b bs None p n rest e = absurd (cc)
 parted_rest sep b bs (Some q) p n rest e =
     let same : (b ∷ q.0, q.1) ≡ p = cc in
@@ -55,7 +65,8 @@ parted_rest sep b bs (Some q) p n rest e =
 
 parted_cases : (sep : ℕ) (c : Bool) (b : ℕ) (bs : List ℕ) (p : List ℕ × List ℕ) → (b == sep) ≡ c
     → ((q : List ℕ × List ℕ) → parted sep bs ≡ Some q → IsParted sep bs q)
-    → (if c then Some ([], bs) else option_map (λ (q : List ℕ × List ℕ). (b ∷ q.0, q.1)) (parted sep bs)) ≡ Some p → IsParted sep (b ∷ bs) p
+    → (if c then Some ([], bs) else option_map (λ (q : List ℕ × List ℕ). (b ∷ q.0, q.1)) (parted sep bs)) ≡ Some p
+    → IsParted sep (b ∷ bs) p
 parted_cases sep true b bs p c rest e =
     let same : ([], bs) ≡ p = cc in
     let byte : b ≡ sep = eqb-true b sep c in
@@ -78,14 +89,17 @@ kind_not p sep b lacks has = elim (cases_Bool (b == sep)) [
 -- bytes of a kind lack each byte of another
 pub kind_lacks : (p : ℕ → Bool) (sep : ℕ) (text : List ℕ) → p sep ≡ false → list_all p text ≡ true → Lacks sep text
 kind_lacks p sep [] lacks all = tt
-kind_lacks p sep (b ∷ bs) lacks all = let h = and_parts (p b) (list_all p bs) all in (kind_not p sep b lacks h.0, kind_lacks p sep bs lacks h.1)
+kind_lacks p sep (b ∷ bs) lacks all = let h = and_parts (p b) (list_all p bs) all in
+    (kind_not p sep b lacks h.0, kind_lacks p sep bs lacks h.1)
 
 -- ---- options
 
-pub bind_some : {A B : Type 0} (o : Option A) (f : A → Option B) (y : B) → (o >>= f) ≡ Some y → (x : A) × (o ≡ Some x) × (f x ≡ Some y)
+pub bind_some : {A B : Type 0} (o : Option A) (f : A → Option B) (y : B) → (o >>= f) ≡ Some y → (x : A) × (o ≡ Some x)
+    × (f x ≡ Some y)
 bind_some None f y h = absurd (cc)
 bind_some (Some x) f y h = (x, refl, h)
 
-pub map_some : {A B : Type 0} (f : A → B) (o : Option A) (y : B) → option_map f o ≡ Some y → (x : A) × (o ≡ Some x) × (f x ≡ y)
+pub map_some : {A B : Type 0} (f : A → B) (o : Option A) (y : B) → option_map f o ≡ Some y → (x : A) × (o ≡ Some x)
+    × (f x ≡ y)
 map_some f None y h = absurd (cc)
 map_some f (Some x) y h = let same : f x ≡ y = cc in (x, refl, same)

@@ -1,5 +1,6 @@
 -- The answers to commands for leases.
-use Rattle.std.specs.Prelude.{ℕ, List, [], ◌∷◌, ◌++◌, length, flat_map, codes, decimal, Bool, if◌then◌else◌, Option, Some, None, Result, Ok, Err}
+use Rattle.std.specs.Prelude.{ℕ, List, [], ◌∷◌, ◌++◌, length, flat_map, codes, decimal, Bool, if◌then◌else◌, Option}
+use Rattle.std.specs.Prelude.{Some, None, Result, Ok, Err}
 use Rattle.std.specs.List.{join_by}
 use Rattle.kds_base.specs.declared.lease_key.Checkpoint.{Checkpoint}
 use Rattle.kds_base.specs.declared.lease_key.Checkpoint.TheVariants as checkpoint
@@ -26,7 +27,9 @@ owner_text (Some n) = worker_text n
 
 -- a space, and `KEY OWNER COUNTER CHECKPOINT SWITCHES`
 abbrev pub row_text : RowValue → List ℕ
-row_text r = 32 ∷ (key_text r.key ++ 32 ∷ (owner_text r.owner ++ 32 ∷ (decimal r.counter ++ 32 ∷ (checkpoint_text r.checkpoint ++ 32 ∷ decimal r.switches))))
+row_text r = 32 ∷ (key_text r.key
+    ++ 32 ∷ (owner_text r.owner
+    ++ 32 ∷ (decimal r.counter ++ 32 ∷ (checkpoint_text r.checkpoint ++ 32 ∷ decimal r.switches))))
 
 -- the rows, parted by `;`
 abbrev pub rows_text : List RowValue → List ℕ
@@ -42,16 +45,19 @@ end_text ended = if ended then codes " end" else codes " more"
 -- `ok N` and the rows, where the longer answer is asked for, else `ok SHARDS ROWS`
 abbrev pub survey_text : Bool → ℕ → List RowValue → List ℕ
 survey_text long shards rows =
-    if long then codes "ok " ++ (decimal (length rows) ++ rows_text rows) else codes "ok " ++ (decimal shards ++ 32 ∷ decimal (length rows))
+    if long then codes "ok " ++ (decimal (length rows) ++ rows_text rows) else codes "ok "
+    ++ (decimal shards ++ 32 ∷ decimal (length rows))
 
 abbrev pub reply_text : Bool → Reply → List ℕ
 reply_text long reply.Done = codes "ok"
 reply_text long (reply.Leased from) = codes "ok"
 reply_text long (reply.Survey shards rows) = survey_text long (length shards) rows
 reply_text long (reply.Taken tenure counter start) =
-    codes "ok tenure " ++ (decimal tenure ++ (codes " counter " ++ (decimal counter ++ (codes " start " ++ checkpoint_text start))))
+    codes "ok tenure " ++ (decimal tenure
+    ++ (codes " counter " ++ (decimal counter ++ (codes " start " ++ checkpoint_text start))))
 reply_text long (reply.Counter counter) = codes "ok counter " ++ decimal counter
-reply_text long (reply.Read batch reach ended) = codes "ok reach " ++ (decimal reach ++ (end_text ended ++ flat_map number_text batch))
+reply_text long (reply.Read batch reach ended) =
+    codes "ok reach " ++ (decimal reach ++ (end_text ended ++ flat_map number_text batch))
 reply_text long (reply.Given delivered) = codes "ok delivered " ++ decimal delivered
 reply_text long _ = []
 

@@ -1,5 +1,6 @@
 -- The commands of raw lines.
-use Rattle.std.specs.Prelude.{◌≡◌, ℕ, ◌^◌, ◌<◌, List, [], ◌∷◌, ◌++◌, codes, decimal, Bool, true, false, if◌then◌else◌, Option, Some, None, option_map}
+use Rattle.std.specs.Prelude.{◌≡◌, ℕ, ◌^◌, ◌<◌, List, [], ◌∷◌, ◌++◌, codes, decimal, Bool, true, false, if◌then◌else◌}
+use Rattle.std.specs.Prelude.{Option, Some, None, option_map}
 use Rattle.std.specs.Str.{bytes_eq}
 use Rattle.kds_base.specs.declared.lease_key.ShardRef.{ShardRef}
 use Rattle.kds_defs.specs.declared.command.Command.{Command}
@@ -11,7 +12,8 @@ use Rattle.kds_defs.specs.declared.limits.TheConstants.{MOST}
 use Rattle.kds_defs.specs.Kinds.{is_service}
 use Rattle.kds_defs.specs.Lawful.{IsLawfulCommand}
 use Rattle.kcl_script_fields.specs.Origins.{IsOrigin, origin_text, with_origin}
-use Rattle.kcl_script_fields.specs.Fields.{◌>>=◌, field, two, number, count_of, worker_of, worker_text, key_of, key_text}
+use Rattle.kcl_script_fields.specs.Fields.{◌>>=◌, field, two, number, count_of, worker_of, worker_text, key_of}
+use Rattle.kcl_script_fields.specs.Fields.{key_text}
 
 -- what a checkpoint is set to: a record's number, or `end`
 abbrev pub target_of : List ℕ → Option Target
@@ -90,13 +92,16 @@ command_of text =
 abbrev pub command_text : Command → List ℕ
 command_text command.Survey = codes "survey"
 command_text (command.MakeLease key from) = codes "make " ++ (key_text key ++ origin_text from)
-command_text (command.Take key counter owner) = codes "take " ++ (key_text key ++ 32 ∷ (decimal counter ++ 32 ∷ worker_text owner))
+command_text (command.Take key counter owner) =
+    codes "take " ++ (key_text key ++ 32 ∷ (decimal counter ++ 32 ∷ worker_text owner))
 command_text (command.Renew tenure counter) = codes "renew " ++ (decimal tenure ++ 32 ∷ decimal counter)
 command_text (command.Free tenure counter) = codes "free " ++ (decimal tenure ++ 32 ∷ decimal counter)
 command_text (command.OpenShard tenure) = codes "open " ++ decimal tenure
-command_text (command.Read tenure position limit) = codes "read " ++ (decimal tenure ++ 32 ∷ (decimal position ++ 32 ∷ decimal limit))
+command_text (command.Read tenure position limit) =
+    codes "read " ++ (decimal tenure ++ 32 ∷ (decimal position ++ 32 ∷ decimal limit))
 command_text (command.Give tenure) = codes "give " ++ decimal tenure
-command_text (command.Mark tenure counter to) = codes "mark " ++ (decimal tenure ++ 32 ∷ (decimal counter ++ 32 ∷ target_text to))
+command_text (command.Mark tenure counter to) =
+    codes "mark " ++ (decimal tenure ++ 32 ∷ (decimal counter ++ 32 ∷ target_text to))
 command_text (command.CutLease key counter) = codes "cut " ++ (key_text key ++ 32 ∷ decimal counter)
 command_text _ = []
 

@@ -1,5 +1,6 @@
 -- Where reading begins, behind what is read.
-use Rattle.std.specs.Prelude.{ℕ, ◌^◌, ◌<◌, List, [], ◌++◌, codes, decimal, if◌then◌else◌, Option, Some, None, option_map}
+use Rattle.std.specs.Prelude.{ℕ, ◌^◌, ◌<◌, List, [], ◌++◌, codes, decimal, if◌then◌else◌, Option, Some, None}
+use Rattle.std.specs.Prelude.{option_map}
 use Rattle.std.specs.Str.{bytes_eq}
 use Rattle.kds_defs.specs.declared.command.Origin.{Origin}
 use Rattle.kds_defs.specs.declared.command.Origin.TheVariants as origin
@@ -7,7 +8,8 @@ use Rattle.kcl_script_fields.specs.Fields.{◌>>=◌, field, moment_of}
 
 -- the moment of `time M`
 abbrev pub time_of : List ℕ → Option Origin
-time_of text = field text >>= λ p. if bytes_eq p.0 (codes "time") then option_map (λ m. origin.Time m) (moment_of p.1) else None
+time_of text = field text >>= λ p.
+    if bytes_eq p.0 (codes "time") then option_map (λ m. origin.Time m) (moment_of p.1) else None
 
 -- where reading begins: `latest` or `time M`
 abbrev pub origin_of : List ℕ → Option Origin

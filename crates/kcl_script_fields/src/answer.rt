@@ -2,7 +2,9 @@
 ghost use Rattle.std.specs.Prelude.{◌≡◌, ◌∷◌, ◌++◌, flat_map, codes, length, true, OnOk, OnErr};
 ghost use Rattle.kds_defs.specs.Kinds.{is_lease_answer, is_lease_reply};
 ghost use Rattle.kcl_script_fields.specs.Fields.{key_text};
-ghost use Rattle.kcl_script_fields.specs.Answers.{checkpoint_text, owner_text, row_text, rows_text, number_text, end_text, survey_text, reply_text, refusal_name as name_of, refusal_value, refusal_text, answer_text};
+ghost use Rattle.kcl_script_fields.specs.Answers.{checkpoint_text, owner_text, row_text, rows_text, number_text};
+ghost use Rattle.kcl_script_fields.specs.Answers.{end_text, survey_text, reply_text, refusal_name as name_of};
+ghost use Rattle.kcl_script_fields.specs.Answers.{refusal_value, refusal_text, answer_text};
 
 use crate::words::{number_field, with_key, with_number, with_numbers};
 use kds_base::{Checkpoint, Memory, Octets, ShardRef, WorkerNo, write_u64};

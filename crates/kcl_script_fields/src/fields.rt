@@ -1,7 +1,8 @@
 //! Reads the fields of a line, and the numbers, workers and lease keys in these fields. If a text can't be read, the
 //! result is `None`.
 ghost use Rattle.std.specs.Prelude.{◌≡◌, ◌∷◌, option_map};
-ghost use Rattle.kcl_script_fields.specs.Fields.{parted, field as field_of, two, moment_of, number, from_one_to, count_of, worker_of, key_of};
+ghost use Rattle.kcl_script_fields.specs.Fields.{parted, field as field_of, two, moment_of, number, from_one_to};
+ghost use Rattle.kcl_script_fields.specs.Fields.{count_of, worker_of, key_of};
 
 use kds_base::{Moment, ShardNo, ShardRef, StreamNo, WorkerNo, read_u64};
 use memchr::memchr;

@@ -2,7 +2,8 @@
 //! be read, the result is `None`.
 ghost use Rattle.std.specs.Prelude.{◌≡◌, option_map};
 ghost use Rattle.kcl_script_fields.specs.Fields.{two, number, count_of, worker_of, key_of};
-ghost use Rattle.kcl_script_fields.specs.Commands.{target_of, row_of, make_of, take_of, renew_of, free_of, open_of, read_of, give_of, mark_of, cut_of, words_of, longer_of, command_of};
+ghost use Rattle.kcl_script_fields.specs.Commands.{target_of, row_of, make_of, take_of, renew_of, free_of, open_of};
+ghost use Rattle.kcl_script_fields.specs.Commands.{read_of, give_of, mark_of, cut_of, words_of, longer_of, command_of};
 
 use crate::fields::{count, field, key_of, two_numbers, worker};
 use crate::origins::origin;

@@ -1,5 +1,6 @@
 -- The workers of a run, side by side with their records.
-use Rattle.std.proofs.Common.{◌≡◌, ℕ, zero, suc, ◌<◌, ◌≤◌, Bool, true, false, List, [], ◌∷◌, ◌++◌, length, Some, None, refl, sym, ap, subst, ◌∙◌, arith}
+use Rattle.std.proofs.Common.{◌≡◌, ℕ, zero, suc, ◌<◌, ◌≤◌, Bool, true, false, List, [], ◌∷◌, ◌++◌, length, Some, None}
+use Rattle.std.proofs.Common.{refl, sym, ap, subst, ◌∙◌, arith}
 use Rattle.std.specs.Prelude.{IfSome, get_or, nat_le, nat_lt, if◌then◌else◌, slice_get, slice_set}
 use Rattle.std.specs.List.{AllByRecursion}
 use Rattle.std.proofs.lemmas.Bool.Decides.{nat_tests}
@@ -16,22 +17,26 @@ employ_length (w ∷ ws) [] s = absurd s
 employ_length (w ∷ ws) (e ∷ es) s = ap suc (employ_length ws es s.1)
 
 -- one more
-pub employ_more : (ws : List Stepped) (es : List Employed) (w : Stepped) (e : Employed) → EmployAll ws es → Employs w e → EmployAll (ws ++ w ∷ []) (es ++ e ∷ [])
+pub employ_more : (ws : List Stepped) (es : List Employed) (w : Stepped) (e : Employed) → EmployAll ws es → Employs w e
+    → EmployAll (ws ++ w ∷ []) (es ++ e ∷ [])
 employ_more [] [] w e s h = (h, tt)
 employ_more [] (d ∷ es) w e s h = absurd s
 employ_more (v ∷ ws) [] w e s h = absurd s
 employ_more (v ∷ ws) (d ∷ es) w e s h = (s.0, employ_more ws es w e s.1 h)
 
 -- the one at a place
-pub employ_at : (ws : List Stepped) (es : List Employed) (place : ℕ) (w : Stepped) → EmployAll ws es → slice_get ws place ≡ Some w → (e : Employed) × (slice_get es place ≡ Some e) × Employs w e
+pub employ_at : (ws : List Stepped) (es : List Employed) (place : ℕ) (w : Stepped) → EmployAll ws es
+    → slice_get ws place ≡ Some w → (e : Employed) × (slice_get es place ≡ Some e) × Employs w e
 employ_at [] [] place w s is = absurd cc
 employ_at [] (e ∷ es) place w s is = absurd s
 employ_at (v ∷ ws) [] place w s is = absurd s
-employ_at (v ∷ ws) (e ∷ es) zero w s is = let same : v ≡ w = cc in (e, refl, subst (λ (u : Stepped). Employs u e) same s.0)
+employ_at (v ∷ ws) (e ∷ es) zero w s is = let same : v ≡ w = cc in
+    (e, refl, subst (λ (u : Stepped). Employs u e) same s.0)
 employ_at (v ∷ ws) (e ∷ es) (suc place) w s is = employ_at ws es place w s.1 is
 
 -- and with another in its place
-pub employ_set : (ws : List Stepped) (es : List Employed) (place : ℕ) (w : Stepped) (e : Employed) → EmployAll ws es → Employs w e → EmployAll (slice_set ws place w) (slice_set es place e)
+pub employ_set : (ws : List Stepped) (es : List Employed) (place : ℕ) (w : Stepped) (e : Employed) → EmployAll ws es
+    → Employs w e → EmployAll (slice_set ws place w) (slice_set es place e)
 employ_set [] [] place w e s h = tt
 employ_set [] (d ∷ es) place w e s h = absurd s
 employ_set (v ∷ ws) [] place w e s h = absurd s
@@ -40,8 +45,10 @@ employ_set (v ∷ ws) (d ∷ es) (suc place) w e s h = (s.0, employ_set ws es pl
 
 -- ---- places
 
-nobody_by : (low within : Bool) (by count : ℕ) (es : List Employed) → count ≡ length es → nat_le by MOST_ACTOR ≡ low → nat_lt (place_of by) count ≡ within
-    → (if low then None else (if within then Some (place_of by) else None)) ≡ None → (if low then None else slice_get es (place_of by)) ≡ None
+nobody_by : (low within : Bool) (by count : ℕ) (es : List Employed) → count ≡ length es → nat_le by MOST_ACTOR ≡ low
+    → nat_lt (place_of by) count ≡ within
+    → (if low then None else (if within then Some (place_of by) else None)) ≡ None
+    → (if low then None else slice_get es (place_of by)) ≡ None
 nobody_by true within by count es same l w h = refl
 nobody_by false true by count es same l w h = absurd cc
 nobody_by false false by count es same l w h =
@@ -49,11 +56,13 @@ nobody_by false false by count es same l w h =
     slice_get_past es (place_of by) (subst (λ n. n ≤ place_of by) same past)
 
 -- an actor without a place has no worker
-pub nobody : (by count : ℕ) (es : List Employed) → count ≡ length es → place_among by count ≡ None → employed_by by es ≡ None
+pub nobody : (by count : ℕ) (es : List Employed) → count ≡ length es → place_among by count ≡ None
+    → employed_by by es ≡ None
 nobody by count es same h = nobody_by (nat_le by MOST_ACTOR) (nat_lt (place_of by) count) by count es same refl refl h
 
 placed_by : (low within : Bool) (by count place : ℕ) → nat_le by MOST_ACTOR ≡ low → nat_lt (place_of by) count ≡ within
-    → (if low then None else (if within then Some (place_of by) else None)) ≡ Some place → (low ≡ false) × (place_of by ≡ place) × (place < count)
+    → (if low then None else (if within then Some (place_of by) else None)) ≡ Some place
+    → (low ≡ false) × (place_of by ≡ place) × (place < count)
 placed_by true within by count place l w h = absurd cc
 placed_by false false by count place l w h = absurd cc
 placed_by false true by count place l w h =
@@ -62,24 +71,29 @@ placed_by false true by count place l w h =
     (refl, same, subst (λ n. n < count) same lt)
 
 -- a place that an actor has lies within
-placed : (by count place : ℕ) → place_among by count ≡ Some place → (nat_le by MOST_ACTOR ≡ false) × (place_of by ≡ place) × (place < count)
+placed : (by count place : ℕ) → place_among by count ≡ Some place → (nat_le by MOST_ACTOR ≡ false)
+    × (place_of by ≡ place) × (place < count)
 placed by count place h = placed_by (nat_le by MOST_ACTOR) (nat_lt (place_of by) count) by count place refl refl h
 
 -- and one with a place has the worker there
-pub somebody : (by count place : ℕ) (es : List Employed) → place_among by count ≡ Some place → (place_of by ≡ place) × (employed_by by es ≡ slice_get es place)
+pub somebody : (by count place : ℕ) (es : List Employed) → place_among by count ≡ Some place → (place_of by ≡ place)
+    × (employed_by by es ≡ slice_get es place)
 somebody by count place es h =
     let p = placed by count place h in
     (p.1, ap (λ b. if b then None else slice_get es (place_of by)) p.0 ∙ ap (slice_get es) p.1)
 
 -- what stands at a place within
-pub got_there : (ws : List Stepped) (place : ℕ) (d w : Stepped) → place < length ws → w ≡ get_or ws place d → slice_get ws place ≡ Some w
+pub got_there : (ws : List Stepped) (place : ℕ) (d w : Stepped) → place < length ws → w ≡ get_or ws place d
+    → slice_get ws place ≡ Some w
 got_there ws place d w lt is = slice_get-get_or ws place d lt ∙ ap Some (sym is)
 
 -- the worker at an actor's place, as the values show it
-pub shown_there : (inside shown : SimValue) (by place : ℕ) (d w : Stepped) → inside ≡ shown → place_among by (length shown.workers) ≡ Some place
+pub shown_there : (inside shown : SimValue) (by place : ℕ) (d w : Stepped) → inside ≡ shown
+    → place_among by (length shown.workers) ≡ Some place
     → w ≡ get_or inside.workers place d → slice_get shown.workers place ≡ Some w
 shown_there inside shown by place d w is there got =
-    let lt = subst (λ (v : SimValue). place < length v.workers) (sym is) (placed by (length shown.workers) place there).2 in
+    let lt = subst (λ (v : SimValue). place < length v.workers) (sym is)
+    (placed by (length shown.workers) place there).2 in
     ap (λ (v : SimValue). slice_get v.workers place) (sym is) ∙ got_there inside.workers place d w lt got
 
 -- the worker at a place of workers that are all free
@@ -89,17 +103,20 @@ free_at (v ∷ ws) zero h = h.0
 free_at (v ∷ ws) (suc place) h = free_at ws place h.1
 
 -- what was written at a place stands there
-pub got_set : (ws : List Stepped) (place : ℕ) (w : Stepped) → place < length ws → slice_get (slice_set ws place w) place ≡ Some w
+pub got_set : (ws : List Stepped) (place : ℕ) (w : Stepped) → place < length ws
+    → slice_get (slice_set ws place w) place ≡ Some w
 got_set [] place w lt = absurd (omega (arith, lt))
 got_set (v ∷ ws) zero w lt = refl
 got_set (v ∷ ws) (suc place) w lt = got_set ws place w (omega (arith, lt))
 
 -- and is written over
-pub set_again : (ws : List Stepped) (place : ℕ) (w v : Stepped) → slice_set (slice_set ws place w) place v ≡ slice_set ws place v
+pub set_again : (ws : List Stepped) (place : ℕ) (w v : Stepped)
+    → slice_set (slice_set ws place w) place v ≡ slice_set ws place v
 set_again ws place w v = set-set ws place w v
 
 -- what a loan of a place gives, where something was written there before
-pub lent_again : (ws : List Stepped) (place : ℕ) (d w u : Stepped) → place < length ws → u ≡ get_or (slice_set ws place w) place d → u ≡ w
+pub lent_again : (ws : List Stepped) (place : ℕ) (d w u : Stepped) → place < length ws
+    → u ≡ get_or (slice_set ws place w) place d → u ≡ w
 lent_again [] place d w u lt is = absurd (omega (arith, lt))
 lent_again (v ∷ ws) zero d w u lt is = is
 lent_again (v ∷ ws) (suc place) d w u lt is = lent_again ws place d w u (omega (arith, lt)) is

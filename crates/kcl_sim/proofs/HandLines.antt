@@ -1,5 +1,6 @@
 -- What the line of a hand-off makes of a run.
-use Rattle.std.proofs.Common.{◌≡◌, ℕ, Bool, zero, suc, true, false, List, [], ◌∷◌, ◌++◌, length, Some, None, codes, refl, sym, ap, subst, ◌∙◌, inr}
+use Rattle.std.proofs.Common.{◌≡◌, ℕ, Bool, zero, suc, true, false, List, [], ◌∷◌, ◌++◌, length, Some, None, codes}
+use Rattle.std.proofs.Common.{refl, sym, ap, subst, ◌∙◌, inr}
 use Rattle.std.specs.Prelude.{option_map, slice_get, slice_set}
 use Rattle.kds_base.specs.declared.lease_key.ShardRef.{ShardRef}
 use Rattle.kcl_defs.specs.declared.plans.Held.{Held}
@@ -34,9 +35,11 @@ pub record IsReleased (key : ShardRef) (e : Employed) (now : Stepped) (v : Handi
   pub hand : IsHandOf v (hand_of release [])
   pub worker : (since : HandPast) → Employs now (record e { past = with_hand key since e.made e.past })
 
-pub released_so : (was now : Stepped) (key : ShardRef) (h : Held) (c : Standing Stock) (v : Handing) → AddsRelease Calls was now key (h, c)
+pub released_so : (was now : Stepped) (key : ShardRef) (h : Held) (c : Standing Stock) (v : Handing)
+    → AddsRelease Calls was now key (h, c)
     → now.made ≡ was.made → now.maker ≡ was.maker
-    → v.held ≡ h → v.consumer.made ≡ c.made → BeginsHand Calls c v → (e : Employed) → Employs was e → IsReleased key e now v
+    → v.held ≡ h → v.consumer.made ≡ c.made → BeginsHand Calls c v → (e : Employed) → Employs was e
+    → IsReleased key e now v
 released_so was now key h c v adds made maker held of_it begins e s =
     let r = adds (worker_past e.past) s.stands in
     let stands : StandsFor Calls v (hand_of r.release []).before [] = begins r.release.known.past r.consumer in
@@ -47,7 +50,8 @@ released_so was now key h c v adds made maker held of_it begins e s =
         held = held ∙ r.held;
         made = of_it ∙ r.made;
         stands = stands;
-        leaving = subst IsLeaving (sym stands.consumer.phase) (lost_leaves (phase_after v.consumer.made r.release.known.past));
+        leaving = subst IsLeaving (sym stands.consumer.phase)
+            (lost_leaves (phase_after v.consumer.made r.release.known.past));
       };
       worker = λ since. record {
         made = made ∙ s.made;
@@ -58,12 +62,15 @@ released_so was now key h c v adds made maker held of_it begins e s =
 
 -- ---- where nothing is released
 
-pub nobody_hands : (wanted : Bool) (old new : SimValue) (ran : Ran) (at by : ℕ) (key : ShardRef) (before after : List ℕ) → RunsSo old ran
+pub nobody_hands : (wanted : Bool) (old new : SimValue) (ran : Ran) (at by : ℕ) (key : ShardRef) (before after : List ℕ)
+    → RunsSo old ran
     → old.over ≡ false → new ≡ old
     → place_among by (length old.workers) ≡ None
-    → after ≡ before ++ if_wanted wanted (codes "none" ++ 10 ∷ []) → GoesOn wanted new ran (line.Hand at by key) before after
+    → after ≡ before ++ if_wanted wanted (codes "none" ++ 10 ∷ [])
+    → GoesOn wanted new ran (line.Hand at by key) before after
 nobody_hands wanted old new ran at by key before after s going same none wrote =
-    let is = nobody by (length old.workers) ran.workers (employ_length old.workers ran.workers (s.workers going)) none in
+    let is = nobody by (length old.workers) ran.workers (employ_length old.workers ran.workers (s.workers going))
+    none in
     record {
       made = subst (λ o. RunsSo new (with_handed ran at by key o)) (sym is) (subst (λ v. RunsSo v ran) (sym same) s);
       wrote = wrote ∙ ap (λ o. before ++ if_wanted wanted (hand_output ran.history at by (release_by key o))) (sym is);
@@ -75,20 +82,26 @@ set_same [] place w is = refl
 set_same (v ∷ ws) zero w is = let same : v ≡ w = cc in ap (λ u. u ∷ ws) (sym same)
 set_same (v ∷ ws) (suc place) w is = ap (λ us. v ∷ us) (set_same ws place w is)
 
-pub nothing_hands : (wanted : Bool) (old new : SimValue) (ran : Ran) (at by place : ℕ) (key : ShardRef) (was now : Stepped) (before after : List ℕ)
+pub nothing_hands : (wanted : Bool) (old new : SimValue) (ran : Ran) (at by place : ℕ) (key : ShardRef)
+    (was now : Stepped) (before after : List ℕ)
     → RunsSo old ran
     → old.over ≡ false → place_among by (length old.workers) ≡ Some place
-    → slice_get old.workers place ≡ Some was → new ≡ record old { workers = slice_set old.workers place now } → now ≡ was → ReleasesNone Calls was key
+    → slice_get old.workers place ≡ Some was → new ≡ record old { workers = slice_set old.workers place now }
+    → now ≡ was → ReleasesNone Calls was key
     → after ≡ before ++ if_wanted wanted (codes "none" ++ 10 ∷ [])
     → GoesOn wanted new ran (line.Hand at by key) before after
 nothing_hands wanted old new ran at by place key was now before after s going there stood is kept releases wrote =
     let w = works old ran by place was s going there stood in
     let none : release_by key (Some w.e) ≡ None =
-    ap (λ m. released key (worker_after m (worker_past w.e.past))) (sym w.employs.made) ∙ releases (worker_past w.e.past) w.employs.stands in
-    let same : new ≡ old = is ∙ ap (λ ws. record old { workers = ws }) (ap (slice_set old.workers place) kept ∙ set_same old.workers place was stood) in
+    ap (λ m. released key (worker_after m (worker_past w.e.past))) (sym w.employs.made)
+    ∙ releases (worker_past w.e.past) w.employs.stands in
+    let same : new ≡ old =
+    is ∙ ap (λ ws. record old { workers = ws }) (ap (slice_set old.workers place) kept
+    ∙ set_same old.workers place was stood) in
     record {
       made = subst (λ o. RunsSo new (with_handed ran at by key o)) (sym w.is)
-          (subst (λ o. RunsSo new (with_release ran at by key w.e o)) (sym none) (subst (λ v. RunsSo v ran) (sym same) s));
+          (subst (λ o. RunsSo new (with_release ran at by key w.e o)) (sym none)
+          (subst (λ v. RunsSo v ran) (sym same) s));
       wrote = wrote ∙ ap (λ o. before ++ if_wanted wanted (hand_output ran.history at by o)) (sym none)
           ∙ ap (λ o. before ++ if_wanted wanted (hand_output ran.history at by (release_by key o)))
           (sym w.is);
@@ -97,19 +110,24 @@ nothing_hands wanted old new ran at by place key was now before after s going th
 
 -- ---- where it ran to its end
 
-pub hand_goes : (wanted : Bool) (old mid now new : SimValue) (ran : Ran) (at by place : ℕ) (key : ShardRef) (was next : Stepped) (v : Handing) (before after : List ℕ)
+pub hand_goes : (wanted : Bool) (old mid now new : SimValue) (ran : Ran) (at by place : ℕ) (key : ShardRef)
+    (was next : Stepped) (v : Handing) (before after : List ℕ)
     → RunsSo old ran → old.over ≡ false
-    → place_among by (length old.workers) ≡ Some place → slice_get old.workers place ≡ Some was → ((e : Employed) → Employs was e → IsReleased key e next v)
-    → mid ≡ record old { workers = slice_set old.workers place next; over = true } → RanToEnd wanted at by mid now v before after → now.workers ≡ mid.workers
+    → place_among by (length old.workers) ≡ Some place → slice_get old.workers place ≡ Some was
+    → ((e : Employed) → Employs was e → IsReleased key e next v)
+    → mid ≡ record old { workers = slice_set old.workers place next; over = true }
+    → RanToEnd wanted at by mid now v before after → now.workers ≡ mid.workers
     → new ≡ record now { over = false }
     → GoesOn wanted new ran (line.Hand at by key) before after
-hand_goes wanted old mid now new ran at by place key was next v before after s going there stood releases mid_is t kept new_is =
+hand_goes wanted old mid now new ran at by place key was next v before after s going there stood releases mid_is t kept
+    new_is =
     let w = works old ran by place was s going there stood in
     let r = releases w.e w.employs in
     let first : mid.history ≡ ran.history = ap (λ (z : SimValue). z.history) mid_is ∙ s.history in
     let run = hand_run at by ran.history (hand_of r.release []) in
     let x : Employed = record w.e { past = with_hand key run.hand.since w.e.made w.e.past } in
-    let workers : new.workers ≡ slice_set old.workers place next = ap (λ (z : SimValue). z.workers) new_is ∙ kept ∙ ap (λ (z : SimValue). z.workers) mid_is in
+    let workers : new.workers ≡ slice_set old.workers place next =
+    ap (λ (z : SimValue). z.workers) new_is ∙ kept ∙ ap (λ (z : SimValue). z.workers) mid_is in
     record {
       made = subst (λ o. RunsSo new (with_handed ran at by key o)) (sym w.is)
           (subst (λ o. RunsSo new (with_release ran at by key w.e o)) (sym r.which)
@@ -119,7 +137,8 @@ hand_goes wanted old mid now new ran at by place key was next v before after s g
             workers = λ g. subst (λ ws. EmployAll ws (slice_set ran.workers (place_of by) x)) (sym workers)
                 (replaced old ran by place was next x w (r.worker run.hand.since));
           }));
-      wrote = t.wrote (hand_of r.release []) r.hand ∙ ap (λ h. before ++ if_wanted wanted (run_text (hand_run at by h (hand_of r.release [])))) first
+      wrote = t.wrote (hand_of r.release []) r.hand
+          ∙ ap (λ h. before ++ if_wanted wanted (run_text (hand_run at by h (hand_of r.release [])))) first
           ∙ ap (λ o. before ++ if_wanted wanted (hand_output ran.history at by o)) (sym r.which)
           ∙ ap (λ o. before ++ if_wanted wanted (hand_output ran.history at by (release_by key o))) (sym w.is);
       going = ap (λ (z : SimValue). z.over) new_is;
@@ -127,9 +146,12 @@ hand_goes wanted old mid now new ran at by place key was next v before after s g
 
 -- ---- out of memory
 
-pub hand_may : (old mid new : SimValue) (ran : Ran) (at by place : ℕ) (key : ShardRef) (was next : Stepped) (v : Handing) → RunsSo old ran → old.over ≡ false
-    → place_among by (length old.workers) ≡ Some place → slice_get old.workers place ≡ Some was → ((e : Employed) → Employs was e → IsReleased key e next v)
-    → mid ≡ record old { workers = slice_set old.workers place next; over = true } → RanFirst at by mid new v → new.over ≡ true
+pub hand_may : (old mid new : SimValue) (ran : Ran) (at by place : ℕ) (key : ShardRef) (was next : Stepped)
+    (v : Handing) → RunsSo old ran → old.over ≡ false
+    → place_among by (length old.workers) ≡ Some place → slice_get old.workers place ≡ Some was
+    → ((e : Employed) → Employs was e → IsReleased key e next v)
+    → mid ≡ record old { workers = slice_set old.workers place next; over = true } → RanFirst at by mid new v
+    → new.over ≡ true
     → MayHaveBroken new ran (line.Hand at by key)
 hand_may old mid new ran at by place key was next v s going there stood releases mid_is t over =
     let w = works old ran by place was s going there stood in
@@ -139,7 +161,8 @@ hand_may old mid new ran at by place key was next v s going there stood releases
     inr (record {
       ran_of_it = n;
       few = t.few;
-      history = ap (λ o. option_map (history_at n ran.history at by) (release_by key o)) w.is ∙ ap (option_map (history_at n ran.history at by)) r.which
+      history = ap (λ o. option_map (history_at n ran.history at by) (release_by key o)) w.is
+          ∙ ap (option_map (history_at n ran.history at by)) r.which
           ∙ ap Some (sym (t.history (hand_of r.release []) r.hand ∙ ap (λ h. history_at n h at by r.release) first));
       over = over;
     })

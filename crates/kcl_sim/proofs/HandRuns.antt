@@ -1,5 +1,6 @@
 -- A hand-off that is under way, beside its record.
-use Rattle.std.proofs.Common.{◌≡◌, ℕ, Bool, zero, suc, ◌+◌, ◌-◌, ◌<◌, ◌≤◌, List, [], ◌∷◌, ◌++◌, Some, None, Result, refl, sym, ap, subst, ◌∙◌, arith, ◌⊎◌, inl, inr}
+use Rattle.std.proofs.Common.{◌≡◌, ℕ, Bool, zero, suc, ◌+◌, ◌-◌, ◌<◌, ◌≤◌, List, [], ◌∷◌, ◌++◌, Some, None, Result}
+use Rattle.std.proofs.Common.{refl, sym, ap, subst, ◌∙◌, arith, ◌⊎◌, inl, inr}
 use Rattle.std.specs.Prelude.{IsSome}
 use Rattle.std.proofs.lemmas.List.{append_assoc, append-nil}
 use Rattle.kds_defs.specs.declared.command.Command.{Command}
@@ -13,7 +14,8 @@ use Rattle.kcl_defs.specs.Consumers.{Giving, Phase, due_call, phase_after}
 use Rattle.kcl_defs.specs.Lives.{Deal}
 use Rattle.kcl_hand.specs.declared.stand.Stand.{Stand}
 use Rattle.kcl_hand.specs.declared.stand.Stand.TheVariants as stand
-use Rattle.kcl_hand.specs.Handing.{HandState, Hand_answered, answered_at, command_at, hand_after, hand_command, hand_due, hand_left, left_at}
+use Rattle.kcl_hand.specs.Handing.{HandState, Hand_answered, answered_at, command_at, hand_after, hand_command}
+use Rattle.kcl_hand.specs.Handing.{hand_due, hand_left, left_at}
 use Rattle.kcl_hand.specs.Joints.{HandOff, state_of}
 use Rattle.kcl_hand.specs.Runs.{HandRun, answered_by, called_if, called_up, hand_run, run_hand, with_first}
 use Rattle.kcl_hand.specs.Standing.{AddsHandAnswer, IsLeaving, StandsFor, turns_left, turns_left_in}
@@ -30,7 +32,8 @@ use Rattle.kcl_sim.proofs.Wanting.{joined, none_wanted}
 
 -- where it stands is where its record leaves it
 pub phase_is : (v : Handing) (x : HandOff) → IsHandOf v x → v.consumer.phase ≡ phase_after x.made (state_of x).past
-phase_is v x s = s.stands.consumer.phase ∙ (λ i. phase_after (s.made i) (hand_after (s.held i) (s.made i) x.before x.since).past)
+phase_is v x s = s.stands.consumer.phase
+    ∙ (λ i. phase_after (s.made i) (hand_after (s.held i) (s.made i) x.before x.since).past)
 
 pub stand_is : (v : Handing) (x : HandOff) → IsHandOf v x → v.stand ≡ (state_of x).stand
 stand_is v x s = s.stands.stand ∙ (λ i. (hand_after (s.held i) (s.made i) x.before x.since).stand)
@@ -39,19 +42,23 @@ pub due_is : (v : Handing) (x : HandOff) → IsHandOf v x → due_call v.consume
 due_is v x s = ap due_call (phase_is v x s)
 
 -- the command is that of the record
-pub next_is : (v : Handing) (x : HandOff) → IsHandOf v x → command_at v.held v.consumer.made v.consumer.phase v.stand ≡ hand_command x.held x.made (state_of x)
+pub next_is : (v : Handing) (x : HandOff) → IsHandOf v x → command_at v.held v.consumer.made v.consumer.phase v.stand
+    ≡ hand_command x.held x.made (state_of x)
 next_is v x s = λ i. command_at (s.held i) (s.made i) (phase_is v x s i) (stand_is v x s i)
 
 -- an answer leaves it leaving
-answered_leaves_at : (h : Held) (made : Tenancy) (a : Result Reply Refusal) (s : HandState) (st : Stand) → IsLeaving (phase_after made s.past)
+answered_leaves_at : (h : Held) (made : Tenancy) (a : Result Reply Refusal) (s : HandState) (st : Stand)
+    → IsLeaving (phase_after made s.past)
     → IsLeaving (phase_after made (answered_at h made a s st).past)
 answered_leaves_at h made a s stand.Consumer l = answered_leaves made a (phase_after made s.past) l
 answered_leaves_at h made a s _ l = l
 
-leaves_so : (w : Handing) (x : HandOff) → w.held ≡ x.held → w.consumer.made ≡ x.made → StandsFor Calls w x.before x.since
+leaves_so : (w : Handing) (x : HandOff) → w.held ≡ x.held → w.consumer.made ≡ x.made
+    → StandsFor Calls w x.before x.since
     → IsLeaving (phase_after x.made (state_of x).past) → IsLeaving w.consumer.phase
 leaves_so w x held made s l =
-    subst IsLeaving (sym (s.consumer.phase ∙ (λ i. phase_after (made i) (hand_after (held i) (made i) x.before x.since).past))) l
+    subst IsLeaving (sym (s.consumer.phase
+    ∙ (λ i. phase_after (made i) (hand_after (held i) (made i) x.before x.since).past))) l
 
 hand_on : (w : Handing) (x : HandOff) → w.held ≡ x.held → w.consumer.made ≡ x.made → StandsFor Calls w x.before x.since
     → IsLeaving (phase_after x.made (state_of x).past) → IsHandOf w x
@@ -62,13 +69,15 @@ pub called_none : (x : HandOff) → hand_due x.made (state_of x) ≡ None → ca
 called_none x is = ap (λ o. called_if o x) is
 
 -- an answer was taken
-pub answered_on : (at by : ℕ) (h : List Turn) (what : Command) (a : Result Reply Refusal) (v w : Handing) → w.held ≡ v.held
+pub answered_on : (at by : ℕ) (h : List Turn) (what : Command) (a : Result Reply Refusal) (v w : Handing)
+    → w.held ≡ v.held
     → w.consumer.made ≡ v.consumer.made → AddsHandAnswer Calls a v w → a ≡ answer h (raw_turn at by what)
     → (x : HandOff) → IsHandOf v x → IsHandOf w (answered_by at by h x what)
 answered_on at by h what a v w held made adds is x s =
     let old : IsLeaving (phase_after x.made (state_of x).past) = subst IsLeaving (phase_is v x s) s.leaving in
     subst (λ z. IsHandOf w (record x { since = Hand_answered z ∷ x.since })) is
-    (hand_on w (record x { since = Hand_answered a ∷ x.since }) (held ∙ s.held) (made ∙ s.made) (adds x.before x.since s.stands)
+    (hand_on w (record x { since = Hand_answered a ∷ x.since }) (held ∙ s.held) (made ∙ s.made)
+    (adds x.before x.since s.stands)
     (answered_leaves_at x.held x.made a (state_of x) (state_of x).stand old))
 
 -- ---- so many commands of one
@@ -83,20 +92,26 @@ IsRest at by h x n deals k y = (j : ℕ) → run_hand (n + j) at by h x ≡ with
 
 run_called : (j at by : ℕ) (h : List Turn) (x : HandOff) → hand_due (called_up x).made (state_of (called_up x)) ≡ None
     → run_hand j at by h x ≡ run_hand j at by h (called_up x)
-run_called zero at by h x none = ap (λ y. record { history = h; hand = y; deals = [] }) (sym (called_none (called_up x) none))
+run_called zero at by h x none =
+    ap (λ y. record { history = h; hand = y; deals = [] }) (sym (called_none (called_up x) none))
 run_called (suc j) at by h x none = ap (round j at by h) (sym (called_none (called_up x) none))
 
-rest_begins : (at by : ℕ) (h : List Turn) (x : HandOff) → hand_due (called_up x).made (state_of (called_up x)) ≡ None → IsRest at by h x 0 [] h (called_up x)
+rest_begins : (at by : ℕ) (h : List Turn) (x : HandOff) → hand_due (called_up x).made (state_of (called_up x)) ≡ None
+    → IsRest at by h x 0 [] h (called_up x)
 unfolding with_deals
 rest_begins at by h x none j =
     let same : 0 + j ≡ j = omega arith in
     ap (λ m. run_hand m at by h x) same ∙ run_called j at by h x none
 
 -- one command more
-rest_more : (at by : ℕ) (h : List Turn) (x : HandOff) (n : ℕ) (deals : List Deal) (k : List Turn) (y : HandOff) (what : Command)
+rest_more : (at by : ℕ) (h : List Turn) (x : HandOff) (n : ℕ) (deals : List Deal) (k : List Turn) (y : HandOff)
+    (what : Command)
     → IsRest at by h x n deals k y → hand_command y.held y.made (state_of y) ≡ Some what
-    → hand_due y.made (state_of y) ≡ None → hand_due (called_up (answered_by at by k y what)).made (state_of (called_up (answered_by at by k y what))) ≡ None
-    → IsRest at by h x (n + 1) (deals ++ deal_at at by k what ∷ []) (raw_turn at by what ∷ k) (called_up (answered_by at by k y what))
+    → hand_due y.made (state_of y) ≡ None
+    → hand_due (called_up (answered_by at by k y what)).made (state_of (called_up (answered_by at by k y what)))
+    ≡ None
+    → IsRest at by h x (n + 1) (deals ++ deal_at at by k what ∷ []) (raw_turn at by what ∷ k)
+    (called_up (answered_by at by k y what))
 unfolding with_deals
 rest_more at by h x n deals k y what rest next none then_none j =
     let more : n + 1 + j ≡ n + suc j = omega arith in
@@ -104,18 +119,22 @@ rest_more at by h x n deals k y what rest next none then_none j =
     ap (λ m. run_hand m at by h x) more ∙ rest (suc j)
     ∙ ap (λ z. with_deals deals (round j at by k z)) (called_none y none)
     ∙ ap (λ o. with_deals deals (rounds j at by k y o)) next
-    ∙ ap (λ z. with_deals deals (with_first k what at by z)) (run_called j at by (raw_turn at by what ∷ k) (answered_by at by k y what) then_none)
-    ∙ ap (λ ds. record { history = r.history; hand = r.hand; deals = ds }) (sym (append_assoc deals (deal_at at by k what ∷ []) r.deals))
+    ∙ ap (λ z. with_deals deals (with_first k what at by z))
+    (run_called j at by (raw_turn at by what ∷ k) (answered_by at by k y what) then_none)
+    ∙ ap (λ ds. record { history = r.history; hand = r.hand; deals = ds })
+    (sym (append_assoc deals (deal_at at by k what ∷ []) r.deals))
 
 -- at its end nothing more comes
-ends_so : (j at by : ℕ) (k : List Turn) (y : HandOff) → hand_command y.held y.made (state_of y) ≡ None → hand_due y.made (state_of y) ≡ None
+ends_so : (j at by : ℕ) (k : List Turn) (y : HandOff) → hand_command y.held y.made (state_of y) ≡ None
+    → hand_due y.made (state_of y) ≡ None
     → run_hand j at by k y ≡ record { history = k; hand = y; deals = [] }
 ends_so zero at by k y ended none = ap (λ z. record { history = k; hand = z; deals = [] }) (called_none y none)
 ends_so (suc j) at by k y ended none = ap (round j at by k) (called_none y none) ∙ ap (rounds j at by k y) ended
 
 deals_more : (deals : List Deal) (deal : Deal) → deals_text (deals ++ deal ∷ []) ≡ deals_text deals ++ deal_text deal
 deals_more [] deal = append-nil (deal_text deal)
-deals_more (d ∷ deals) deal = ap (λ z. deal_text d ++ z) (deals_more deals deal) ∙ sym (append_assoc (deal_text d) (deals_text deals) (deal_text deal))
+deals_more (d ∷ deals) deal = ap (λ z. deal_text d ++ z) (deals_more deals deal)
+    ∙ sym (append_assoc (deal_text d) (deals_text deals) (deal_text deal))
 
 -- ---- a run in which it is under way
 
@@ -129,12 +148,15 @@ pub record UnderWay (wanted : Bool) (at by : ℕ) (old now : SimValue) (v w : Ha
   pub workers : now.workers ≡ old.workers
   pub told : now.told ≡ old.told
   pub none_due : due_call w.consumer.phase ≡ None
-  pub rest : (x : HandOff) → IsHandOf v x → (y : HandOff) × IsHandOf w y × IsRest at by old.history x ran_of_it deals now.history y
+  pub rest : (x : HandOff) → IsHandOf v x → (y : HandOff) × IsHandOf w y
+      × IsRest at by old.history x ran_of_it deals now.history y
 
-none_of : (w : Handing) (y : HandOff) → IsHandOf w y → due_call w.consumer.phase ≡ None → hand_due y.made (state_of y) ≡ None
+none_of : (w : Handing) (y : HandOff) → IsHandOf w y → due_call w.consumer.phase ≡ None
+    → hand_due y.made (state_of y) ≡ None
 none_of w y s none = sym (due_is w y s) ∙ none
 
-pub way_begins : (wanted : Bool) (at by : ℕ) (old now : SimValue) (v w : Handing) (text : List ℕ) → now ≡ old → text ≡ [] → turns_left_in v ≤ 3
+pub way_begins : (wanted : Bool) (at by : ℕ) (old now : SimValue) (v w : Handing) (text : List ℕ) → now ≡ old
+    → text ≡ [] → turns_left_in v ≤ 3
     → turns_left_in w ≤ turns_left_in v → due_call w.consumer.phase ≡ None
     → ((x : HandOff) → IsHandOf v x → IsHandOf w (called_up x)) → UnderWay wanted at by old now v w text
 way_begins wanted at by old now v w text same empty few fewer none called = record {
@@ -155,8 +177,10 @@ way_begins wanted at by old now v w text same empty few fewer none called = reco
       );
 }
 
-pub way_goes : (wanted : Bool) (at by : ℕ) (old now new : SimValue) (v w u : Handing) (text more : List ℕ) → UnderWay wanted at by old now v w text
-    → MadeRound wanted at by now new w u text more → new.over ≡ now.over → new.workers ≡ now.workers → new.told ≡ now.told
+pub way_goes : (wanted : Bool) (at by : ℕ) (old now new : SimValue) (v w u : Handing) (text more : List ℕ)
+    → UnderWay wanted at by old now v w text
+    → MadeRound wanted at by now new w u text more → new.over ≡ now.over → new.workers ≡ now.workers
+    → new.told ≡ now.told
     → turns_left_in u < turns_left_in w → due_call u.consumer.phase ≡ None → UnderWay wanted at by old new v u more
 way_goes wanted at by old now new v w u text more way r over workers told fewer none = record {
   ran_of_it = way.ran_of_it + 1;
@@ -174,20 +198,28 @@ way_goes wanted at by old now new v w u text more way r over workers told fewer 
       let z = called_up (answered_by at by now.history y.0 r.what) in
       let here : IsHandOf u z = r.hand y.0 y.1 in
       let on =
-      rest_more at by old.history x way.ran_of_it way.deals now.history y.0 r.what y.2 (r.next y.0 y.1) (none_of w y.0 y.1 way.none_due)
-      (none_of u z here none) in
-      (z, here, subst (λ k. IsRest at by old.history x (way.ran_of_it + 1) (way.deals ++ deal_at at by now.history r.what ∷ []) k z) (sym r.history) on);
+      rest_more at by old.history x way.ran_of_it way.deals now.history y.0 r.what y.2 (r.next y.0 y.1)
+      (none_of w y.0 y.1 way.none_due)
+      (none_of u z here none) in (
+        z,
+        here,
+        subst (λ k.
+            IsRest at by old.history x (way.ran_of_it + 1) (way.deals ++ deal_at at by now.history r.what ∷ []) k z)
+            (sym r.history) on,
+      );
 }
 
 -- ---- it ended
 
 -- where it is over no command comes next
-ended_quiet : (h : Held) (made : Tenancy) (phase : Phase) (s : Stand) → IsSome (left_at s) → command_at h made phase s ≡ None
+ended_quiet : (h : Held) (made : Tenancy) (phase : Phase) (s : Stand) → IsSome (left_at s)
+    → command_at h made phase s ≡ None
 ended_quiet h made phase (stand.Ended left) over = refl
 ended_quiet h made phase _ over = absurd cc
 
 -- the whole run of it
-whole_run : (wanted : Bool) (at by : ℕ) (old now : SimValue) (v w : Handing) (text : List ℕ) (way : UnderWay wanted at by old now v w text)
+whole_run : (wanted : Bool) (at by : ℕ) (old now : SimValue) (v w : Handing) (text : List ℕ)
+    (way : UnderWay wanted at by old now v w text)
     → IsSome (left_at w.stand)
     → (x : HandOff) (s : IsHandOf v x)
     → hand_run at by old.history x ≡ record { history = now.history; hand = (way.rest x s).0; deals = way.deals ++ [] }
@@ -201,11 +233,13 @@ whole_run wanted at by old now v w text way over x s =
     ap (λ m. run_hand m at by old.history x) three ∙ y.2 left ∙ ap (with_deals way.deals)
     (ends_so left at by now.history y.0 quiet (none_of w y.0 y.1 way.none_due))
 
-pub way_ends : (wanted : Bool) (at by : ℕ) (old now new : SimValue) (v w : Handing) (text line before after : List ℕ) → UnderWay wanted at by old now v w text
+pub way_ends : (wanted : Bool) (at by : ℕ) (old now new : SimValue) (v w : Handing) (text line before after : List ℕ)
+    → UnderWay wanted at by old now v w text
     → IsSome (left_at w.stand) → line ≡ text ++ if_wanted wanted (left_text (left_at w.stand) ++ 10 ∷ [])
     → after ≡ before ++ line → new ≡ now → RanToEnd wanted at by old new v before after
 way_ends wanted at by old now new v w text line before after way over line_is wrote same = record {
-  history = λ x s. ap (λ (z : SimValue). z.history) same ∙ ap (λ r. r.history) (sym (whole_run wanted at by old now v w text way over x s));
+  history = λ x s. ap (λ (z : SimValue). z.history) same
+      ∙ ap (λ r. r.history) (sym (whole_run wanted at by old now v w text way over x s));
   wrote = λ x s.
       let y = way.rest x s in
       let left : left_at w.stand ≡ hand_left (state_of y.0) = ap left_at (stand_is w y.0 y.1) in
@@ -220,7 +254,8 @@ way_ends wanted at by old now new v w text line before after way over line_is wr
 -- ---- out of memory
 
 -- between its commands
-pub broke_between : (wanted : Bool) (at by : ℕ) (old now new : SimValue) (v w : Handing) (text : List ℕ) → UnderWay wanted at by old now v w text
+pub broke_between : (wanted : Bool) (at by : ℕ) (old now new : SimValue) (v w : Handing) (text : List ℕ)
+    → UnderWay wanted at by old now v w text
     → new.history ≡ now.history
     → RanFirst at by old new v
 unfolding with_deals
@@ -239,7 +274,8 @@ one_left stand.Consumer (Giving reach waiting asked lost) going = omega arith
 one_left _ _ going = omega arith
 
 -- after the turn of one
-pub broke_after : (wanted : Bool) (at by : ℕ) (old now new : SimValue) (v w : Handing) (text : List ℕ) → UnderWay wanted at by old now v w text
+pub broke_after : (wanted : Bool) (at by : ℕ) (old now new : SimValue) (v w : Handing) (text : List ℕ)
+    → UnderWay wanted at by old now v w text
     → left_at w.stand ≡ None
     → RanCommand at by now new w → RanFirst at by old new v
 unfolding with_deals
@@ -253,29 +289,37 @@ broke_after wanted at by old now new v w text way going r = record {
       ∙ ap (λ z. z.history) (sym (y.2 1));
 }
 
-pub broke_round : (wanted : Bool) (at by : ℕ) (old now new : SimValue) (v w : Handing) (text : List ℕ) → UnderWay wanted at by old now v w text
+pub broke_round : (wanted : Bool) (at by : ℕ) (old now new : SimValue) (v w : Handing) (text : List ℕ)
+    → UnderWay wanted at by old now v w text
     → left_at w.stand ≡ None
     → (new.history ≡ now.history) ⊎ RanCommand at by now new w
     → RanFirst at by old new v
-broke_round wanted at by old now new v w text way going (inl same) = broke_between wanted at by old now new v w text way same
-broke_round wanted at by old now new v w text way going (inr r) = broke_after wanted at by old now new v w text way going r
+broke_round wanted at by old now new v w text way going (inl same) =
+    broke_between wanted at by old now new v w text way same
+broke_round wanted at by old now new v w text way going (inr r) =
+    broke_after wanted at by old now new v w text way going r
 
 -- ---- one round
 
 -- the command that comes next is that of the record
-comes_next : (v : Handing) (what : Command) → Some what ≡ command_at v.held v.consumer.made v.consumer.phase v.stand → ComesNext v what
+comes_next : (v : Handing) (what : Command) → Some what ≡ command_at v.held v.consumer.made v.consumer.phase v.stand
+    → ComesNext v what
 comes_next v what is x s = sym (next_is v x s) ∙ sym is
 
-pub round_made : (wanted : Bool) (at by : ℕ) (old new : SimValue) (v mid w : Handing) (what : Command) (a : Result Reply Refusal) (before after : List ℕ)
+pub round_made : (wanted : Bool) (at by : ℕ) (old new : SimValue) (v mid w : Handing) (what : Command)
+    (a : Result Reply Refusal) (before after : List ℕ)
     → Some what ≡ command_at v.held v.consumer.made v.consumer.phase v.stand
-    → new ≡ record old { history = raw_turn at by what ∷ old.history } → a ≡ answer old.history (raw_turn at by what) → mid.held ≡ v.held
+    → new ≡ record old { history = raw_turn at by what ∷ old.history } → a ≡ answer old.history (raw_turn at by what)
+    → mid.held ≡ v.held
     → mid.consumer.made ≡ v.consumer.made → AddsHandAnswer Calls a v mid
-    → after ≡ before ++ if_wanted wanted (deal_text (deal_at at by old.history what)) → ((x : HandOff) → IsHandOf mid x → IsHandOf w (called_up x))
+    → after ≡ before ++ if_wanted wanted (deal_text (deal_at at by old.history what))
+    → ((x : HandOff) → IsHandOf mid x → IsHandOf w (called_up x))
     → MadeRound wanted at by old new v w before after
 round_made wanted at by old new v mid w what a before after next ran is held made adds wrote called = record {
   what = what;
   next = comes_next v what next;
   history = ap (λ (z : SimValue). z.history) ran;
-  hand = λ x s. called (answered_by at by old.history x what) (answered_on at by old.history what a v mid held made adds is x s);
+  hand = λ x s. called (answered_by at by old.history x what)
+      (answered_on at by old.history what a v mid held made adds is x s);
   wrote = wrote;
 }

@@ -1,5 +1,6 @@
 -- A hand-off that runs is told in the joint record of its worker.
-use Rattle.std.proofs.Common.{◌≡◌, ℕ, zero, suc, List, [], ◌∷◌, ◌++◌, length, Option, Some, None, refl, sym, ap, subst, ◌∙◌}
+use Rattle.std.proofs.Common.{◌≡◌, ℕ, zero, suc, List, [], ◌∷◌, ◌++◌, length, Option, Some, None, refl, sym, ap, subst}
+use Rattle.std.proofs.Common.{◌∙◌}
 use Rattle.std.specs.Prelude.{IsSome, if◌then◌else◌, map}
 use Rattle.kds_base.specs.declared.lease_key.ShardRef.{ShardRef}
 use Rattle.kds_base.proofs.Facts.{is_itself}
@@ -12,8 +13,10 @@ use Rattle.kcl_defs.specs.Lives.{deals_of}
 use Rattle.kcl_defs.specs.Workers.{Release, Released, WorkerState, released, without_release}
 use Rattle.kcl_hand.proofs.Running.{command_last, deals_with_hand, hands_with}
 use Rattle.kcl_hand.specs.Handing.{HandPast, Hand_answered, hand_command, hand_due}
-use Rattle.kcl_hand.specs.Joints.{AreOrderly, AreToldIn, HandOff, JointPast, Of_hand, command_in, hand_of, hands_after, state_of, worker_in, worker_past}
-use Rattle.kcl_hand.specs.Runs.{HandRun, answered_by, called_if, called_up, or_stop, run_hand, turn_of, with_first, with_hand}
+use Rattle.kcl_hand.specs.Joints.{AreOrderly, AreToldIn, HandOff, JointPast, Of_hand, command_in, hand_of, hands_after}
+use Rattle.kcl_hand.specs.Joints.{state_of, worker_in, worker_past}
+use Rattle.kcl_hand.specs.Runs.{HandRun, answered_by, called_if, called_up, or_stop, run_hand, turn_of, with_first}
+use Rattle.kcl_hand.specs.Runs.{with_hand}
 
 -- ---- a command and what follows it
 
@@ -28,7 +31,8 @@ round n at by h x = rounds n at by h x (hand_command x.held x.made (state_of x))
 
 -- ---- the worker's own record
 
-hands_apart : (n : ℕ) (since : HandPast) (past : JointPast) → worker_past (map (Of_hand n) since ++ past) ≡ worker_past past
+hands_apart : (n : ℕ) (since : HandPast) (past : JointPast)
+    → worker_past (map (Of_hand n) since ++ past) ≡ worker_past past
 hands_apart n [] past = refl
 hands_apart n (event ∷ since) past = hands_apart n since past
 
@@ -44,24 +48,30 @@ released_free (Some r) w h = h
 -- ---- the record with the hand-off
 
 -- the actor's turns are those of the record with a release and with what happened to its hand-off since
-pub record IsTellingHand (by : ℕ) (h : List Turn) (key : ShardRef) (made : WorkerMade) (past : JointPast) (since : HandPast) : Type 0 where
+pub record IsTellingHand (by : ℕ) (h : List Turn) (key : ShardRef) (made : WorkerMade) (past : JointPast)
+    (since : HandPast) : Type 0 where
   pub orderly : AreOrderly made (with_hand key since made past)
   pub told : AreToldIn by h made (with_hand key since made past)
 
-module _ (at by : ℕ) (key : ShardRef) (made : WorkerMade) (past : JointPast) (r : Release) (which : released key (worker_in made past) ≡ Some r) where
+module _ (at by : ℕ) (key : ShardRef) (made : WorkerMade) (past : JointPast) (r : Release)
+    (which : released key (worker_in made past) ≡ Some r) where
   -- the command that comes next was answered
-  answered_tells : (h : List Turn) (since : HandPast) (what : Command) → hand_command r.held r.known.made (state_of (hand_of r since)) ≡ Some what
+  answered_tells : (h : List Turn) (since : HandPast) (what : Command)
+      → hand_command r.held r.known.made (state_of (hand_of r since)) ≡ Some what
       → IsTellingHand by h key made past since
       → IsTellingHand by (turn_of at by what ∷ h) key made past (Hand_answered (answer h (turn_of at by what)) ∷ since)
   answered_tells h since what is t =
       let a = answer h (turn_of at by what) in
       let own : deals_of by (turn_of at by what ∷ h) ≡ record { what = what; answer = a } ∷ deals_of by h =
       ap (λ b. if b then record { what = what; answer = a } ∷ deals_of by h else deals_of by h) (is_itself by) in
-      let next : command_in (length (hands_after made past)) (hands_after made (with_hand key since made past)) ≡ Some what =
-      ap (command_in (length (hands_after made past))) (hands_with key made past r which since) ∙ command_last (hands_after made past) (hand_of r since) ∙ is in
+      let next : command_in (length (hands_after made past)) (hands_after made (with_hand key since made past))
+      ≡ Some what =
+      ap (command_in (length (hands_after made past))) (hands_with key made past r which since)
+      ∙ command_last (hands_after made past) (hand_of r since) ∙ is in
       record {
         orderly = (subst IsSome (sym next) refl, t.orderly);
-        told = own ∙ ap (λ deals. record { what = what; answer = a } ∷ deals) t.told ∙ sym (deals_with_hand key made past r which since what a is);
+        told = own ∙ ap (λ deals. record { what = what; answer = a } ∷ deals) t.told
+            ∙ sym (deals_with_hand key made past r which since what a is);
       }
 
   -- the call that is due is no turn
@@ -70,33 +80,40 @@ module _ (at by : ℕ) (key : ShardRef) (made : WorkerMade) (past : JointPast) (
   called_tells h since None t = t
   called_tells h since (Some due) t = record { orderly = (tt, t.orderly); told = t.told }
 
-  called_hand : (since : HandPast) (o : Option Due) → called_if o (hand_of r since) ≡ hand_of r (called_if o (hand_of r since)).since
+  called_hand : (since : HandPast) (o : Option Due)
+      → called_if o (hand_of r since) ≡ hand_of r (called_if o (hand_of r since)).since
   called_hand since None = refl
   called_hand since (Some due) = refl
 
   Tells : HandRun → Type 0
   Tells run = IsTellingHand by run.history key made past run.hand.since
 
-  round_tells : (n : ℕ) (h : List Turn) (since : HandPast) (o : Option Command) → hand_command r.held r.known.made (state_of (hand_of r since)) ≡ o
+  round_tells : (n : ℕ) (h : List Turn) (since : HandPast) (o : Option Command)
+      → hand_command r.held r.known.made (state_of (hand_of r since)) ≡ o
       → IsTellingHand by h key made past since
-      → ((k : List Turn) (later : HandPast) → IsTellingHand by k key made past later → Tells (run_hand n at by k (hand_of r later)))
+      → ((k : List Turn) (later : HandPast) → IsTellingHand by k key made past later
+      → Tells (run_hand n at by k (hand_of r later)))
       → Tells (rounds n at by h (hand_of r since) o)
   unfolding Tells
   round_tells n h since None is t rest = t
   round_tells n h since (Some what) is t rest =
-      rest (turn_of at by what ∷ h) (Hand_answered (answer h (turn_of at by what)) ∷ since) (answered_tells h since what is t)
+      rest (turn_of at by what ∷ h) (Hand_answered (answer h (turn_of at by what)) ∷ since)
+      (answered_tells h since what is t)
 
-  runs_tell : (n : ℕ) (h : List Turn) (since : HandPast) → IsTellingHand by h key made past since → Tells (run_hand n at by h (hand_of r since))
+  runs_tell : (n : ℕ) (h : List Turn) (since : HandPast) → IsTellingHand by h key made past since
+      → Tells (run_hand n at by h (hand_of r since))
   unfolding Tells
   runs_tell zero h since t = called_tells h since (hand_due r.known.made (state_of (hand_of r since))) t
   runs_tell (suc n) h since t =
       let o = hand_due r.known.made (state_of (hand_of r since)) in
       subst (λ y. Tells (round n at by h y)) (sym (called_hand since o))
-      (round_tells n h (called_if o (hand_of r since)).since _ refl (called_tells h since o t) (λ k later s. runs_tell n k later s))
+      (round_tells n h (called_if o (hand_of r since)).since _ refl (called_tells h since o t)
+      (λ k later s. runs_tell n k later s))
 
   -- to its end
   pub run_tells : (h : List Turn) → IsTellingHand by h key made past []
-      → IsTellingHand by (run_hand 3 at by h (hand_of r [])).history key made past (run_hand 3 at by h (hand_of r [])).hand.since
+      → IsTellingHand by (run_hand 3 at by h (hand_of r [])).history key made past
+      (run_hand 3 at by h (hand_of r [])).hand.since
   unfolding Tells
   run_tells h t = runs_tell 3 h [] t
 
@@ -110,9 +127,11 @@ not_by n at by other h x None one rest = refl
 not_by n at by other h x (Some what) one rest = rest (turn_of at by what ∷ h) (answered_by at by h x what) ∙ one what
 
 -- leave his deals
-pub of_another_run : (n at by other : ℕ) → ((h : List Turn) (what : Command) → deals_of other (turn_of at by what ∷ h) ≡ deals_of other h)
+pub of_another_run : (n at by other : ℕ)
+    → ((h : List Turn) (what : Command) → deals_of other (turn_of at by what ∷ h) ≡ deals_of other h)
     → (h : List Turn) (x : HandOff) → deals_of other (run_hand n at by h x).history ≡ deals_of other h
 of_another_run zero at by other one h x = refl
 of_another_run (suc n) at by other one h x =
-    not_by n at by other h (called_up x) (hand_command (called_up x).held (called_up x).made (state_of (called_up x))) (one h)
+    not_by n at by other h (called_up x) (hand_command (called_up x).held (called_up x).made (state_of (called_up x)))
+    (one h)
     (λ k y. of_another_run n at by other one k y)

@@ -21,28 +21,35 @@ use Rattle.kcl_script.specs.Line.{IsLine}
 use Rattle.kcl_sim.specs.Output.{Ran, history_at, part_of, with_handed, with_release}
 use Rattle.kcl_sim.specs.Workers.{Employed, employed_by, release_by, state_of as worker_state}
 use Rattle.kcl_sim.proofs.HandTelling.{rounds}
-use Rattle.kcl_sim.proofs.LawfulSteps.{AllLimits, AreBounded, HasLimit, IsBounded, bounded_by, found_limit, limits_after, phase_command, so_lawful}
+use Rattle.kcl_sim.proofs.LawfulSteps.{AllLimits, AreBounded, HasLimit, IsBounded, bounded_by, found_limit}
+use Rattle.kcl_sim.proofs.LawfulSteps.{limits_after, phase_command, so_lawful}
 
 -- ---- what is released reads at most so many records as a read may ask for
 
-lease_limit : (h : Held) (o : Option Known) (r : Release) → with_lease h o ≡ Some r → ((k : Known) → o ≡ Some k → HasLimit k) → IsLimit r.known.made.limit
+lease_limit : (h : Held) (o : Option Known) (r : Release) → with_lease h o ≡ Some r
+    → ((k : Known) → o ≡ Some k → HasLimit k) → IsLimit r.known.made.limit
 unfolding HasLimit
 lease_limit h None r is limits = absurd cc
 lease_limit h (Some k) r is limits =
     let same : record { held = h; known = k } ≡ r = cc in
     subst (λ (z : Release). IsLimit z.known.made.limit) same (limits k refl)
 
-release_limit : (known : List Known) (o : Option Held) (r : Release) → release_of known o ≡ Some r → AllLimits known → IsLimit r.known.made.limit
+release_limit : (known : List Known) (o : Option Held) (r : Release) → release_of known o ≡ Some r → AllLimits known
+    → IsLimit r.known.made.limit
 release_limit known None r is limits = absurd cc
-release_limit known (Some h) r is limits = lease_limit h (known_of (id_of_held h) known) r is (λ k found. found_limit _ known k found limits)
+release_limit known (Some h) r is limits =
+    lease_limit h (known_of (id_of_held h) known) r is (λ k found. found_limit _ known k found limits)
 
-worker_limit : (e : Employed) (key : ShardRef) (r : Release) → released key (worker_state e) ≡ Some r → IsBounded e → IsLimit r.known.made.limit
+worker_limit : (e : Employed) (key : ShardRef) (r : Release) → released key (worker_state e) ≡ Some r → IsBounded e
+    → IsLimit r.known.made.limit
 worker_limit e key r is h =
-    release_limit (worker_state e).consumers (leaving key (worker_state e)) r is (limits_after e.made h.limit (worker_past e.past))
+    release_limit (worker_state e).consumers (leaving key (worker_state e)) r is
+    (limits_after e.made h.limit (worker_past e.past))
 
 -- ---- its commands
 
-stand_lawful : (h : Held) (made : Tenancy) (phase : Phase) (s : Stand) (what : Command) → command_at h made phase s ≡ Some what → IsLimit made.limit
+stand_lawful : (h : Held) (made : Tenancy) (phase : Phase) (s : Stand) (what : Command)
+    → command_at h made phase s ≡ Some what → IsLimit made.limit
     → IsLawfulCommand what
 stand_lawful h made phase stand.Consumer what is limit = phase_command made phase h.counter what is limit
 stand_lawful h made phase (stand.Mark q) what is limit = so_lawful _ _ is tt
@@ -53,15 +60,18 @@ called_limit : (o : Option Due) (x : HandOff) → IsLimit x.made.limit → IsLim
 called_limit None x h = h
 called_limit (Some due) x h = h
 
-rounds_lawful : (n at by : ℕ) (h : List Turn) (x : HandOff) (o : Option Command) → hand_command x.held x.made (state_of x) ≡ o → at < 2 ^ 62
+rounds_lawful : (n at by : ℕ) (h : List Turn) (x : HandOff) (o : Option Command)
+    → hand_command x.held x.made (state_of x) ≡ o → at < 2 ^ 62
     → IsLimit x.made.limit → IsHistory h
-    → ((k : List Turn) (y : HandOff) → IsLimit y.made.limit → IsHistory k → IsHistory (run_hand n at by k y).history) → IsHistory (rounds n at by h x o).history
+    → ((k : List Turn) (y : HandOff) → IsLimit y.made.limit → IsHistory k → IsHistory (run_hand n at by k y).history)
+    → IsHistory (rounds n at by h x o).history
 rounds_lawful n at by h x None is early limit past rest = past
 rounds_lawful n at by h x (Some what) is early limit past rest =
     rest (turn_of at by what ∷ h) (answered_by at by h x what) limit
     ((early, stand_lawful x.held x.made (phase_after x.made (state_of x).past) (state_of x).stand what is limit), past)
 
-run_lawful : (n at by : ℕ) (h : List Turn) (x : HandOff) → at < 2 ^ 62 → IsLimit x.made.limit → IsHistory h → IsHistory (run_hand n at by h x).history
+run_lawful : (n at by : ℕ) (h : List Turn) (x : HandOff) → at < 2 ^ 62 → IsLimit x.made.limit → IsHistory h
+    → IsHistory (run_hand n at by h x).history
 run_lawful zero at by h x early limit past = past
 run_lawful (suc n) at by h x early limit past =
     rounds_lawful n at by h (called_up x) _ refl early (called_limit (hand_due x.made (state_of x)) x limit) past
@@ -69,21 +79,26 @@ run_lawful (suc n) at by h x early limit past =
 
 -- ---- lines
 
-release_lawful : (ran : Ran) (at by : ℕ) (key : ShardRef) (e : Employed) (o : Option Release) → release_by key (Some e) ≡ o → at < 2 ^ 62 → IsBounded e
+release_lawful : (ran : Ran) (at by : ℕ) (key : ShardRef) (e : Employed) (o : Option Release)
+    → release_by key (Some e) ≡ o → at < 2 ^ 62 → IsBounded e
     → IsHistory ran.history
     → IsHistory (with_release ran at by key e o).history
 release_lawful ran at by key e None is early h past = past
-release_lawful ran at by key e (Some r) is early h past = run_lawful 3 at by ran.history (hand_of r []) early (worker_limit e key r is h) past
+release_lawful ran at by key e (Some r) is early h past =
+    run_lawful 3 at by ran.history (hand_of r []) early (worker_limit e key r is h) past
 
-pub hand_lawful : (ran : Ran) (at by : ℕ) (key : ShardRef) (o : Option Employed) → employed_by by ran.workers ≡ o → at < 2 ^ 62 → AreBounded ran.workers
+pub hand_lawful : (ran : Ran) (at by : ℕ) (key : ShardRef) (o : Option Employed) → employed_by by ran.workers ≡ o
+    → at < 2 ^ 62 → AreBounded ran.workers
     → IsHistory ran.history
     → IsHistory (with_handed ran at by key o).history
 hand_lawful ran at by key None is early h past = past
-hand_lawful ran at by key (Some e) is early h past = release_lawful ran at by key e (release_by key (Some e)) refl early (bounded_by by ran.workers e is h) past
+hand_lawful ran at by key (Some e) is early h past =
+    release_lawful ran at by key e (release_by key (Some e)) refl early (bounded_by by ran.workers e is h) past
 
 -- ---- out of memory in the middle of one
 
-released_part : (n at by : ℕ) (h k : List Turn) (key : ShardRef) (e : Employed) (o : Option Release) → release_by key (Some e) ≡ o
+released_part : (n at by : ℕ) (h k : List Turn) (key : ShardRef) (e : Employed) (o : Option Release)
+    → release_by key (Some e) ≡ o
     → option_map (history_at n h at by) o ≡ Some k
     → at < 2 ^ 62 → IsBounded e → IsHistory h → IsHistory k
 released_part n at by h k key e None is part early bound past = absurd cc
@@ -91,14 +106,16 @@ released_part n at by h k key e (Some r) is part early bound past =
     let same : history_at n h at by r ≡ k = cc in
     subst IsHistory same (run_lawful n at by h (hand_of r []) early (worker_limit e key r is bound) past)
 
-employed_part : (n at by : ℕ) (h k : List Turn) (key : ShardRef) (ws : List Employed) (o : Option Employed) → employed_by by ws ≡ o
+employed_part : (n at by : ℕ) (h k : List Turn) (key : ShardRef) (ws : List Employed) (o : Option Employed)
+    → employed_by by ws ≡ o
     → option_map (history_at n h at by) (release_by key o) ≡ Some k
     → at < 2 ^ 62 → AreBounded ws → IsHistory h → IsHistory k
 employed_part n at by h k key ws None is part early bound past = absurd cc
 employed_part n at by h k key ws (Some e) is part early bound past =
     released_part n at by h k key e (release_by key (Some e)) refl part early (bounded_by by ws e is bound) past
 
-pub part_lawful : (n : ℕ) (ran : Ran) (l : Line) (k : List Turn) → part_of n ran l ≡ Some k → IsLine l → AreBounded ran.workers → IsHistory ran.history
+pub part_lawful : (n : ℕ) (ran : Ran) (l : Line) (k : List Turn) → part_of n ran l ≡ Some k → IsLine l
+    → AreBounded ran.workers → IsHistory ran.history
     → IsHistory k
 part_lawful n ran (Hand at by key) k part is bound past =
     employed_part n at by ran.history k key ran.workers (employed_by by ran.workers) refl part is.0 bound past

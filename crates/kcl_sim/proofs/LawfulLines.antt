@@ -1,5 +1,6 @@
 -- The turns of a schedule are lawful.
-use Rattle.std.proofs.Common.{◌≡◌, ℕ, ◌+◌, ◌<◌, ◌^◌, List, [], ◌∷◌, Option, Some, None, Result, Ok, Err, refl, subst, ◌++◌}
+use Rattle.std.proofs.Common.{◌≡◌, ℕ, ◌+◌, ◌<◌, ◌^◌, List, [], ◌∷◌, Option, Some, None, Result, Ok, Err, refl, subst}
+use Rattle.std.proofs.Common.{◌++◌}
 use Rattle.std.specs.List.{AllByRecursion}
 use Rattle.kds_defs.specs.declared.command.Command.{Command}
 use Rattle.kds_defs.specs.Lawful.{IsHistory}
@@ -17,7 +18,8 @@ use Rattle.kcl_sim.proofs.LawfulSteps.{AreBounded, line_bounded, step_lawful, st
 use Rattle.kcl_sim.specs.Schedule.{Judged, judge_form, judge, judged, history}
 use Rattle.kcl_sim.specs.Standing.{HasRunPart, SimValue}
 
-pub request_lawful : (h : List Turn) (at : ℕ) (r : Result Command Fault) → at < 2 ^ 62 → ((what : Command) → r ≡ Ok what → IsRequest what) → IsHistory h → IsHistory (requested h at r)
+pub request_lawful : (h : List Turn) (at : ℕ) (r : Result Command Fault) → at < 2 ^ 62
+    → ((what : Command) → r ≡ Ok what → IsRequest what) → IsHistory h → IsHistory (requested h at r)
 request_lawful h at (Ok what) early lawful past = ((early, (lawful what refl).0), past)
 request_lawful h at (Err f) early lawful past = past
 
@@ -33,7 +35,8 @@ abbrev pub ReadLines : Type 0
 ReadLines = (text : List ℕ) (line : Line) → line_of text ≡ Some line → IsLine line
 
 module _ (reads : ReadLines) where
-  form_lines : (count : ℕ) (text : List ℕ) (o : Option Line) (later : Judged) → line_of text ≡ o → AreLines later → AreLines (judge_form count o later)
+  form_lines : (count : ℕ) (text : List ℕ) (o : Option Line) (later : Judged) → line_of text ≡ o → AreLines later
+      → AreLines (judge_form count o later)
   form_lines count text None later is are = tt
   form_lines count text (Some l) later is are = (reads text l is, are)
 
@@ -50,40 +53,51 @@ module _ (reads : ReadLines) where
   schedule_lines bytes = judge_lines 0 (lined bytes).texts (lined bytes).end
 
   -- and the first of them
-  pub first_lines : (bytes : List ℕ) (lines later : List Line) → (judged bytes).lines ≡ lines ++ later → AllByRecursion IsLine lines
-  first_lines bytes lines later parts = front_lines lines later (subst (λ (z : List Line). AllByRecursion IsLine z) parts (schedule_lines bytes))
+  pub first_lines : (bytes : List ℕ) (lines later : List Line) → (judged bytes).lines ≡ lines ++ later
+      → AllByRecursion IsLine lines
+  first_lines bytes lines later parts =
+      front_lines lines later (subst (λ (z : List Line). AllByRecursion IsLine z) parts (schedule_lines bytes))
 
 module _ (asks : AskLawfully) (reads : ReadLines) where
-  line_lawful : (ran : Ran) (l : Line) → IsLine l → AreBounded ran.workers → IsHistory ran.history → IsHistory (with_line ran l).history
-  line_lawful ran (Api at operation body) is bound past = request_lawful ran.history at (asked operation body) is.0 (asks operation body) past
+  line_lawful : (ran : Ran) (l : Line) → IsLine l → AreBounded ran.workers → IsHistory ran.history
+      → IsHistory (with_line ran l).history
+  line_lawful ran (Api at operation body) is bound past =
+      request_lawful ran.history at (asked operation body) is.0 (asks operation body) past
   line_lawful ran (Raw at by what long) is bound past = ((is.0, is.1.1.0.lawful), past)
   line_lawful ran (Worker at name kind from) is bound past = past
   line_lawful ran (Step at by) is bound past = step_lawful ran at by is.0 bound past
   line_lawful ran (Stop at by) is bound past = stop_lawful ran by (employed_by by ran.workers) past
-  line_lawful ran (Hand at by key) is bound past = hand_lawful ran at by key (employed_by by ran.workers) refl is.0 bound past
+  line_lawful ran (Hand at by key) is bound past =
+      hand_lawful ran at by key (employed_by by ran.workers) refl is.0 bound past
 
-  schedule_lawful : (ran : Ran) (ls : List Line) → AllByRecursion IsLine ls → AreBounded ran.workers → IsHistory ran.history → IsHistory (with_schedule ran ls).history
+  schedule_lawful : (ran : Ran) (ls : List Line) → AllByRecursion IsLine ls → AreBounded ran.workers
+      → IsHistory ran.history → IsHistory (with_schedule ran ls).history
   schedule_lawful ran [] are bound past = past
-  schedule_lawful ran (l ∷ ls) are bound past = schedule_lawful (with_line ran l) ls are.1 (line_bounded ran l are.0 bound) (line_lawful ran l are.0 bound past)
+  schedule_lawful ran (l ∷ ls) are bound past =
+      schedule_lawful (with_line ran l) ls are.1 (line_bounded ran l are.0 bound) (line_lawful ran l are.0 bound past)
 
   pub history_lawful : (bytes : List ℕ) → IsHistory (history bytes)
   history_lawful bytes = schedule_lawful fresh (judged bytes).lines (schedule_lines reads bytes) tt tt
 
-  pub front_lawful : (bytes : List ℕ) (lines later : List Line) → (judged bytes).lines ≡ lines ++ later → IsHistory (with_schedule fresh lines).history
+  pub front_lawful : (bytes : List ℕ) (lines later : List Line) → (judged bytes).lines ≡ lines ++ later
+      → IsHistory (with_schedule fresh lines).history
   front_lawful bytes lines later parts = schedule_lawful fresh lines (first_lines reads bytes lines later parts) tt tt
 
   middle_line : (ls ks : List Line) (l : Line) → AllByRecursion IsLine (ls ++ l ∷ ks) → IsLine l
   middle_line [] ks l are = are.0
   middle_line (k ∷ ls) ks l are = middle_line ls ks l are.1
 
-  schedule_bounded : (ran : Ran) (ls : List Line) → AllByRecursion IsLine ls → AreBounded ran.workers → AreBounded (with_schedule ran ls).workers
+  schedule_bounded : (ran : Ran) (ls : List Line) → AllByRecursion IsLine ls → AreBounded ran.workers
+      → AreBounded (with_schedule ran ls).workers
   schedule_bounded ran [] are bound = bound
   schedule_bounded ran (l ∷ ls) are bound = schedule_bounded (with_line ran l) ls are.1 (line_bounded ran l are.0 bound)
 
-  pub middle_lawful : (bytes : List ℕ) (lines later : List Line) (l : Line) (s : SimValue) → (judged bytes).lines ≡ lines ++ l ∷ later
+  pub middle_lawful : (bytes : List ℕ) (lines later : List Line) (l : Line) (s : SimValue)
+      → (judged bytes).lines ≡ lines ++ l ∷ later
       → HasRunPart s (with_schedule fresh lines) l → IsHistory s.history
   middle_lawful bytes lines later l s parts p =
-      let all : AllByRecursion IsLine (lines ++ l ∷ later) = subst (λ (z : List Line). AllByRecursion IsLine z) parts (schedule_lines reads bytes) in
+      let all : AllByRecursion IsLine (lines ++ l ∷ later) =
+      subst (λ (z : List Line). AllByRecursion IsLine z) parts (schedule_lines reads bytes) in
       part_lawful p.ran_of_it (with_schedule fresh lines) l s.history p.history (middle_line lines later l all)
       (schedule_bounded fresh lines (front_lines reads lines (l ∷ later) all) tt)
       (front_lawful bytes lines (l ∷ later) parts)

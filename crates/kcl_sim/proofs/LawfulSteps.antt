@@ -1,5 +1,6 @@
 -- The turns of workers are lawful: each command that a worker's record gives is.
-use Rattle.std.proofs.Common.{◌≡◌, ℕ, zero, suc, ◌<◌, ◌≤◌, ◌^◌, Bool, true, false, List, [], ◌∷◌, ◌++◌, Option, Some, None, Result, Ok, Err, refl, subst, arith}
+use Rattle.std.proofs.Common.{◌≡◌, ℕ, zero, suc, ◌<◌, ◌≤◌, ◌^◌, Bool, true, false, List, [], ◌∷◌, ◌++◌, Option, Some}
+use Rattle.std.proofs.Common.{None, Result, Ok, Err, refl, subst, arith}
 use Rattle.std.specs.Prelude.{cond, not, nat_le, if◌then◌else◌, option_map, slice_get, slice_set}
 use Rattle.std.specs.List.{AllByRecursion, filter, find}
 use Rattle.kds_base.specs.declared.lease_key.ShardRef.{ShardRef}
@@ -15,8 +16,15 @@ use Rattle.kcl_defs.specs.declared.plans.LeaseId.{LeaseId}
 use Rattle.kcl_defs.specs.declared.plans.SyncStep.{SyncStep}
 use Rattle.kcl_defs.specs.declared.plans.SyncStep.TheVariants.{Make, Cut}
 use Rattle.kcl_defs.specs.declared.plans.TakeStep.{TakeStep}
-use Rattle.kcl_defs.specs.Consumers.{Called, Event, Losing, Phase, Opening, Filling, Giving, Marking, MarkingEnd, next_command}
-use Rattle.kcl_defs.specs.Workers.{Chore, Consuming, Finishing, Freeing, Renewing, Surveying, Syncing, Taking, Known, Pending, WorkerPast, WorkerState, Gave_command, Got_answer, Made_call, Stopped, absorbed, after_chore, after_renewal, after_survey, after_take, chore_at, command_of, consumer_command, counter_of, happens_to, happens_to_first, id_of, is_before_id, is_due_known, is_over, known_of, next_pending, pending_chore, pending_of, phase_of_known, same_id, sync_command, with_event, with_known, worker_after, Release, Released, id_of_held, released, without_known, without_release}
+use Rattle.kcl_defs.specs.Consumers.{Called, Event, Losing, Phase, Opening, Filling, Giving, Marking, MarkingEnd}
+use Rattle.kcl_defs.specs.Consumers.{next_command}
+use Rattle.kcl_defs.specs.Workers.{Chore, Consuming, Finishing, Freeing, Renewing, Surveying, Syncing, Taking, Known}
+use Rattle.kcl_defs.specs.Workers.{Pending, WorkerPast, WorkerState, Gave_command, Got_answer, Made_call, Stopped}
+use Rattle.kcl_defs.specs.Workers.{absorbed, after_chore, after_renewal, after_survey, after_take, chore_at, command_of}
+use Rattle.kcl_defs.specs.Workers.{consumer_command, counter_of, happens_to, happens_to_first, id_of, is_before_id}
+use Rattle.kcl_defs.specs.Workers.{is_due_known, is_over, known_of, next_pending, pending_chore, pending_of}
+use Rattle.kcl_defs.specs.Workers.{phase_of_known, same_id, sync_command, with_event, with_known, worker_after, Release}
+use Rattle.kcl_defs.specs.Workers.{Released, id_of_held, released, without_known, without_release}
 use Rattle.kcl_script.specs.declared.line.Line.{Line}
 use Rattle.kcl_hand.specs.Joints.{worker_past}
 use Rattle.kcl_script.specs.declared.line.Line.TheVariants.{Api, Hand, Raw, Step, Stop, Worker}
@@ -47,22 +55,26 @@ unfolding HasLimit
 event_by true event k h = h
 event_by false event k h = h
 
-all_happen : (test : Known → Bool) (event : Event) (ks : List Known) → AllLimits ks → AllLimits (happens_to test event ks)
+all_happen : (test : Known → Bool) (event : Event) (ks : List Known) → AllLimits ks
+    → AllLimits (happens_to test event ks)
 unfolding HasLimit AllLimits
 all_happen test event [] h = tt
 all_happen test event (k ∷ ks) h = (event_by (test k) event k h.0, all_happen test event ks h.1)
 
-first_by : (b : Bool) (event : Event) (k : Known) (ks happened : List Known) → HasLimit k → AllLimits ks → AllLimits happened → AllLimits (if b then with_event event k ∷ ks else k ∷ happened)
+first_by : (b : Bool) (event : Event) (k : Known) (ks happened : List Known) → HasLimit k → AllLimits ks
+    → AllLimits happened → AllLimits (if b then with_event event k ∷ ks else k ∷ happened)
 unfolding HasLimit AllLimits
 first_by true event k ks happened h rest others = (h, rest)
 first_by false event k ks happened h rest others = (h, others)
 
-first_happens : (test : Known → Bool) (event : Event) (ks : List Known) → AllLimits ks → AllLimits (happens_to_first test event ks)
+first_happens : (test : Known → Bool) (event : Event) (ks : List Known) → AllLimits ks
+    → AllLimits (happens_to_first test event ks)
 unfolding AllLimits
 first_happens test event [] h = tt
 first_happens test event (k ∷ ks) h = first_by (test k) event k ks _ h.0 h.1 (first_happens test event ks h.1)
 
-placed_by : (b : Bool) (k j : Known) (ks placed : List Known) → HasLimit k → HasLimit j → AllLimits ks → AllLimits placed → AllLimits (if b then k ∷ j ∷ ks else j ∷ placed)
+placed_by : (b : Bool) (k j : Known) (ks placed : List Known) → HasLimit k → HasLimit j → AllLimits ks
+    → AllLimits placed → AllLimits (if b then k ∷ j ∷ ks else j ∷ placed)
 unfolding HasLimit AllLimits
 placed_by true k j ks placed h g rest others = (h, (g, rest))
 placed_by false k j ks placed h g rest others = (g, others)
@@ -70,25 +82,30 @@ placed_by false k j ks placed h g rest others = (g, others)
 all_with : (k : Known) (ks : List Known) → HasLimit k → AllLimits ks → AllLimits (with_known k ks)
 unfolding AllLimits
 all_with k [] h rest = (h, tt)
-all_with k (j ∷ ks) h rest = placed_by (is_before_id (id_of k) (id_of j)) k j ks _ h rest.0 rest.1 (all_with k ks h rest.1)
+all_with k (j ∷ ks) h rest =
+    placed_by (is_before_id (id_of k) (id_of j)) k j ks _ h rest.0 rest.1 (all_with k ks h rest.1)
 
-survey_limits : (made : WorkerMade) (now : ℕ) (answer : Result Reply Refusal) (w : WorkerState) → AllLimits w.consumers → AllLimits (after_survey made now answer w).consumers
+survey_limits : (made : WorkerMade) (now : ℕ) (answer : Result Reply Refusal) (w : WorkerState) → AllLimits w.consumers
+    → AllLimits (after_survey made now answer w).consumers
 survey_limits made now (Ok (reply.Survey shards rows)) w h = all_happen _ _ w.consumers h
 survey_limits made now (Ok _) w h = h
 survey_limits made now (Err r) w h = h
 
-take_limits : (made : WorkerMade) (now : ℕ) (step : TakeStep) (answer : Result Reply Refusal) (w : WorkerState) → IsLimit made.settings.limit → AllLimits w.consumers → AllLimits (after_take made now step answer w).consumers
+take_limits : (made : WorkerMade) (now : ℕ) (step : TakeStep) (answer : Result Reply Refusal) (w : WorkerState)
+    → IsLimit made.settings.limit → AllLimits w.consumers → AllLimits (after_take made now step answer w).consumers
 unfolding HasLimit
 take_limits made now step (Ok (reply.Taken tenure counter start)) w limit h = all_with _ w.consumers limit h
 take_limits made now step (Ok _) w limit h = h
 take_limits made now step (Err r) w limit h = h
 
-renewal_limits : (now : ℕ) (held : _) (answer : Result Reply Refusal) (w : WorkerState) → AllLimits w.consumers → AllLimits (after_renewal now held answer w).consumers
+renewal_limits : (now : ℕ) (held : _) (answer : Result Reply Refusal) (w : WorkerState) → AllLimits w.consumers
+    → AllLimits (after_renewal now held answer w).consumers
 renewal_limits now held (Ok (reply.Counter counter)) w h = h
 renewal_limits now held (Ok _) w h = h
 renewal_limits now held (Err r) w h = all_happen _ _ w.consumers h
 
-chore_limits : (made : WorkerMade) (now : ℕ) (answer : Result Reply Refusal) (chore : Chore) (w : WorkerState) → IsLimit made.settings.limit → AllLimits w.consumers → AllLimits (after_chore made now answer chore w).consumers
+chore_limits : (made : WorkerMade) (now : ℕ) (answer : Result Reply Refusal) (chore : Chore) (w : WorkerState)
+    → IsLimit made.settings.limit → AllLimits w.consumers → AllLimits (after_chore made now answer chore w).consumers
 chore_limits made now answer Surveying w limit h = survey_limits made now answer w h
 chore_limits made now answer (Syncing step syncs takes) w limit h = h
 chore_limits made now answer (Taking step takes) w limit h = take_limits made now step answer _ limit h
@@ -97,11 +114,14 @@ chore_limits made now answer (Consuming id) w limit h = first_happens _ _ w.cons
 chore_limits made now answer (Finishing id) w limit h = first_happens _ _ w.consumers h
 chore_limits made now answer (Freeing held) w limit h = h
 
-absorbed_limits : (made : WorkerMade) (now : ℕ) (answer : Result Reply Refusal) (w : WorkerState) (o : Option Pending) → IsLimit made.settings.limit → AllLimits w.consumers → AllLimits (absorbed made now answer w o).consumers
+absorbed_limits : (made : WorkerMade) (now : ℕ) (answer : Result Reply Refusal) (w : WorkerState) (o : Option Pending)
+    → IsLimit made.settings.limit → AllLimits w.consumers → AllLimits (absorbed made now answer w o).consumers
 absorbed_limits made now answer w None limit h = h
-absorbed_limits made now answer w (Some pending) limit h = filtered _ _ (chore_limits made now answer pending.chore (record w { waiting = None }) limit h)
+absorbed_limits made now answer w (Some pending) limit h =
+    filtered _ _ (chore_limits made now answer pending.chore (record w { waiting = None }) limit h)
 
-less_by : (b : Bool) (k : Known) (ks less : List Known) → HasLimit k → AllLimits ks → AllLimits less → AllLimits (if b then ks else k ∷ less)
+less_by : (b : Bool) (k : Known) (ks less : List Known) → HasLimit k → AllLimits ks → AllLimits less
+    → AllLimits (if b then ks else k ∷ less)
 unfolding HasLimit AllLimits
 less_by true k ks less h rest others = rest
 less_by false k ks less h rest others = (h, others)
@@ -111,22 +131,32 @@ unfolding AllLimits
 all_without id [] h = tt
 all_without id (k ∷ ks) h = less_by (same_id (id_of k) id) k ks (without_known id ks) h.0 h.1 (all_without id ks h.1)
 
-released_limits : (o : Option Release) (w : WorkerState) → AllLimits w.consumers → AllLimits (without_release o w).consumers
+released_limits : (o : Option Release) (w : WorkerState) → AllLimits w.consumers
+    → AllLimits (without_release o w).consumers
 released_limits None w h = h
 released_limits (Some r) w h = all_without (id_of_held r.held) w.consumers h
 
-pub limits_after : (made : WorkerMade) → IsLimit made.settings.limit → (past : WorkerPast) → AllLimits (worker_after made past).consumers
+pub limits_after : (made : WorkerMade) → IsLimit made.settings.limit → (past : WorkerPast)
+    → AllLimits (worker_after made past).consumers
 unfolding AllLimits
 limits_after made limit [] = tt
-limits_after made limit (Made_call asked ∷ past) = filtered (λ k. not (is_over k)) _ (first_happens is_due_known (Called asked) (worker_after made past).consumers (limits_after made limit past))
+limits_after made limit (Made_call asked ∷ past) =
+    filtered (λ k. not (is_over k)) _
+    (first_happens is_due_known (Called asked) (worker_after made past).consumers (limits_after made limit past))
 limits_after made limit (Gave_command now ∷ past) = limits_after made limit past
-limits_after made limit (Got_answer now answer ∷ past) = absorbed_limits made now answer (worker_after made past) (worker_after made past).waiting limit (limits_after made limit past)
-limits_after made limit (Stopped ∷ past) = filtered (λ k. not (is_over k)) _ (all_happen (λ k. true) Losing (worker_after made past).consumers (limits_after made limit past))
-limits_after made limit (Released key ∷ past) = released_limits (released key (worker_after made past)) (worker_after made past) (limits_after made limit past)
+limits_after made limit (Got_answer now answer ∷ past) =
+    absorbed_limits made now answer (worker_after made past) (worker_after made past).waiting limit
+    (limits_after made limit past)
+limits_after made limit (Stopped ∷ past) =
+    filtered (λ k. not (is_over k)) _
+    (all_happen (λ k. true) Losing (worker_after made past).consumers (limits_after made limit past))
+limits_after made limit (Released key ∷ past) =
+    released_limits (released key (worker_after made past)) (worker_after made past) (limits_after made limit past)
 
 -- ---- the command that comes next
 
-found_by : (b : Bool) (k j : Known) (o : Option Known) → cond b (Some k) o ≡ Some j → HasLimit k → (o ≡ Some j → HasLimit j) → HasLimit j
+found_by : (b : Bool) (k j : Known) (o : Option Known) → cond b (Some k) o ≡ Some j → HasLimit k
+    → (o ≡ Some j → HasLimit j) → HasLimit j
 found_by true k j o is h rest = let e : k ≡ j = cc in subst HasLimit e h
 found_by false k j o is h rest = rest is
 
@@ -138,7 +168,8 @@ found_limit p (j ∷ ks) k is h = found_by (p j) j k _ is h.0 (λ more. found_li
 pub so_lawful : (a b : Command) → Some a ≡ Some b → IsLawfulCommand a → IsLawfulCommand b
 so_lawful a b is h = let e : a ≡ b = cc in subst IsLawfulCommand e h
 
-pub phase_command : (made : Tenancy) (p : Phase) (counter : ℕ) (what : Command) → next_command made p counter ≡ Some what → IsLimit made.limit
+pub phase_command : (made : Tenancy) (p : Phase) (counter : ℕ) (what : Command)
+    → next_command made p counter ≡ Some what → IsLimit made.limit
     → IsLawfulCommand what
 phase_command made Opening counter what is limit = so_lawful _ _ is tt
 phase_command made (Filling reach waiting) counter what is limit = so_lawful _ _ is limit
@@ -147,28 +178,37 @@ phase_command made (Marking reach waiting to) counter what is limit = so_lawful 
 phase_command made MarkingEnd counter what is limit = so_lawful _ _ is tt
 phase_command made _ counter what is limit = absurd cc
 
-consumer_lawful : (w : WorkerState) (o : Option Known) (what : Command) → consumer_command w o ≡ Some what → ((k : Known) → o ≡ Some k → HasLimit k) → IsLawfulCommand what
+consumer_lawful : (w : WorkerState) (o : Option Known) (what : Command) → consumer_command w o ≡ Some what
+    → ((k : Known) → o ≡ Some k → HasLimit k) → IsLawfulCommand what
 unfolding HasLimit
 consumer_lawful w None what is limits = absurd cc
-consumer_lawful w (Some k) what is limits = phase_command k.made (phase_of_known k) (counter_of (id_of k) w.held) what is (limits k refl)
+consumer_lawful w (Some k) what is limits =
+    phase_command k.made (phase_of_known k) (counter_of (id_of k) w.held) what is (limits k refl)
 
 sync_lawful : (step : SyncStep) → IsLawfulCommand (sync_command step)
 sync_lawful (Make key from) = tt
 sync_lawful (Cut key counter) = tt
 
-command_lawful : (made : WorkerMade) (w : WorkerState) (chore : Chore) (what : Command) → command_of made w chore ≡ Some what → 1 ≤ made.name → AllLimits w.consumers → IsLawfulCommand what
+command_lawful : (made : WorkerMade) (w : WorkerState) (chore : Chore) (what : Command)
+    → command_of made w chore ≡ Some what → 1 ≤ made.name → AllLimits w.consumers → IsLawfulCommand what
 command_lawful made w (Syncing step syncs takes) what is name limits = so_lawful _ _ is (sync_lawful step)
 command_lawful made w (Taking step takes) what is name limits = so_lawful _ _ is name
-command_lawful made w (Consuming id) what is name limits = consumer_lawful w (known_of id w.consumers) what is (λ k found. found_limit _ w.consumers k found limits)
+command_lawful made w (Consuming id) what is name limits =
+    consumer_lawful w (known_of id w.consumers) what is (λ k found. found_limit _ w.consumers k found limits)
 command_lawful made w _ what is name limits = so_lawful _ _ is tt
 
-pending_lawful : (made : WorkerMade) (w : WorkerState) (chore : Chore) (o : Option Command) (what : Command) → option_map (λ p. p.what) (pending_of chore o) ≡ Some what → (o ≡ Some what → IsLawfulCommand what) → IsLawfulCommand what
+pending_lawful : (made : WorkerMade) (w : WorkerState) (chore : Chore) (o : Option Command) (what : Command)
+    → option_map (λ p. p.what) (pending_of chore o) ≡ Some what → (o ≡ Some what → IsLawfulCommand what)
+    → IsLawfulCommand what
 pending_lawful made w chore None what is rest = absurd cc
 pending_lawful made w chore (Some c) what is rest = rest is
 
-chore_lawful : (made : WorkerMade) (w : WorkerState) (o : Option Chore) (what : Command) → option_map (λ p. p.what) (pending_chore made w o) ≡ Some what → 1 ≤ made.name → AllLimits w.consumers → IsLawfulCommand what
+chore_lawful : (made : WorkerMade) (w : WorkerState) (o : Option Chore) (what : Command)
+    → option_map (λ p. p.what) (pending_chore made w o) ≡ Some what → 1 ≤ made.name → AllLimits w.consumers
+    → IsLawfulCommand what
 chore_lawful made w None what is name limits = absurd cc
-chore_lawful made w (Some chore) what is name limits = pending_lawful made w chore (command_of made w chore) what is (λ c. command_lawful made w chore what c name limits)
+chore_lawful made w (Some chore) what is name limits =
+    pending_lawful made w chore (command_of made w chore) what is (λ c. command_lawful made w chore what c name limits)
 
 -- ---- workers of a run
 
@@ -180,17 +220,21 @@ pub record IsBounded (e : Employed) : Type 0 where
 abbrev pub AreBounded : List Employed → Type 0
 AreBounded es = AllByRecursion IsBounded es
 
-next_lawful : (b : Bool) (at : ℕ) (e : Employed) (what : Command) → (if b then None else option_map (λ p. p.what) (next_pending e.made at (state_of e))) ≡ Some what → IsBounded e → IsLawfulCommand what
+next_lawful : (b : Bool) (at : ℕ) (e : Employed) (what : Command)
+    → (if b then None else option_map (λ p. p.what) (next_pending e.made at (state_of e))) ≡ Some what → IsBounded e
+    → IsLawfulCommand what
 next_lawful true at e what is h = absurd cc
 next_lawful false at e what is h =
-    chore_lawful e.made (state_of e) (chore_at e.made at (state_of e)) what is h.name (limits_after e.made h.limit (worker_past e.past))
+    chore_lawful e.made (state_of e) (chore_at e.made at (state_of e)) what is h.name
+    (limits_after e.made h.limit (worker_past e.past))
 
 bounded_at : (es : List Employed) (place : ℕ) (e : Employed) → slice_get es place ≡ Some e → AreBounded es → IsBounded e
 bounded_at [] place e is h = absurd cc
 bounded_at (d ∷ es) zero e is h = let same : d ≡ e = cc in subst IsBounded same h.0
 bounded_at (d ∷ es) (suc place) e is h = bounded_at es place e is h.1
 
-bounded_set : (es : List Employed) (place : ℕ) (e : Employed) → AreBounded es → IsBounded e → AreBounded (slice_set es place e)
+bounded_set : (es : List Employed) (place : ℕ) (e : Employed) → AreBounded es → IsBounded e
+    → AreBounded (slice_set es place e)
 bounded_set [] place e h g = tt
 bounded_set (d ∷ es) zero e h g = (g, h.1)
 bounded_set (d ∷ es) (suc place) e h g = (h.0, bounded_set es place e h.1 g)
@@ -199,7 +243,8 @@ bounded_more : (es : List Employed) (e : Employed) → AreBounded es → IsBound
 bounded_more [] e h g = (g, tt)
 bounded_more (d ∷ es) e h g = (h.0, bounded_more es e h.1 g)
 
-by_some : (low : Bool) (place : ℕ) (es : List Employed) (e : Employed) → (if low then None else slice_get es place) ≡ Some e → AreBounded es → IsBounded e
+by_some : (low : Bool) (place : ℕ) (es : List Employed) (e : Employed)
+    → (if low then None else slice_get es place) ≡ Some e → AreBounded es → IsBounded e
 by_some true place es e is h = absurd cc
 by_some false place es e is h = bounded_at es place e is h
 
@@ -207,56 +252,71 @@ by_some false place es e is h = bounded_at es place e is h
 pub bounded_by : (by : ℕ) (es : List Employed) (e : Employed) → employed_by by es ≡ Some e → AreBounded es → IsBounded e
 bounded_by by es e is h = by_some (nat_le by MOST_ACTOR) (place_of by) es e is h
 
-command_bounded : (ran : Ran) (at by : ℕ) (e : Employed) (o : Option Command) → IsBounded e → AreBounded ran.workers → AreBounded (with_command ran at by e o).workers
+command_bounded : (ran : Ran) (at by : ℕ) (e : Employed) (o : Option Command) → IsBounded e → AreBounded ran.workers
+    → AreBounded (with_command ran at by e o).workers
 command_bounded ran at by e None g h = bounded_set ran.workers (place_of by) e h g
-command_bounded ran at by e (Some what) g h = bounded_set ran.workers (place_of by) _ h (record { name = g.name; limit = g.limit })
+command_bounded ran at by e (Some what) g h =
+    bounded_set ran.workers (place_of by) _ h (record { name = g.name; limit = g.limit })
 
-step_bounded : (ran : Ran) (at by : ℕ) (o : Option Employed) → employed_by by ran.workers ≡ o → AreBounded ran.workers → AreBounded (with_step ran at by o).workers
+step_bounded : (ran : Ran) (at by : ℕ) (o : Option Employed) → employed_by by ran.workers ≡ o → AreBounded ran.workers
+    → AreBounded (with_step ran at by o).workers
 step_bounded ran at by None is h = h
 step_bounded ran at by (Some e) is h =
     let g = bounded_by by ran.workers e is h in
-    command_bounded ran at by (all_called e) (command_at at (all_called e)) (record { name = g.name; limit = g.limit }) h
+    command_bounded ran at by (all_called e) (command_at at (all_called e)) (record { name = g.name; limit = g.limit })
+    h
 
-stop_bounded : (ran : Ran) (by : ℕ) (o : Option Employed) → employed_by by ran.workers ≡ o → AreBounded ran.workers → AreBounded (with_stop ran by o).workers
+stop_bounded : (ran : Ran) (by : ℕ) (o : Option Employed) → employed_by by ran.workers ≡ o → AreBounded ran.workers
+    → AreBounded (with_stop ran by o).workers
 stop_bounded ran by None is h = h
 stop_bounded ran by (Some e) is h =
     let g = bounded_by by ran.workers e is h in
     bounded_set ran.workers (place_of by) _ h (record { name = g.name; limit = g.limit })
 
-release_bounded : (ran : Ran) (at by : ℕ) (key : ShardRef) (e : Employed) (o : Option Release) → IsBounded e → AreBounded ran.workers
+release_bounded : (ran : Ran) (at by : ℕ) (key : ShardRef) (e : Employed) (o : Option Release) → IsBounded e
+    → AreBounded ran.workers
     → AreBounded (with_release ran at by key e o).workers
 release_bounded ran at by key e None g h = h
-release_bounded ran at by key e (Some r) g h = bounded_set ran.workers (place_of by) _ h (record { name = g.name; limit = g.limit })
+release_bounded ran at by key e (Some r) g h =
+    bounded_set ran.workers (place_of by) _ h (record { name = g.name; limit = g.limit })
 
-hand_bounded : (ran : Ran) (at by : ℕ) (key : ShardRef) (o : Option Employed) → employed_by by ran.workers ≡ o → AreBounded ran.workers
+hand_bounded : (ran : Ran) (at by : ℕ) (key : ShardRef) (o : Option Employed) → employed_by by ran.workers ≡ o
+    → AreBounded ran.workers
     → AreBounded (with_handed ran at by key o).workers
 hand_bounded ran at by key None is h = h
-hand_bounded ran at by key (Some e) is h = release_bounded ran at by key e (release_by key (Some e)) (bounded_by by ran.workers e is h) h
+hand_bounded ran at by key (Some e) is h =
+    release_bounded ran at by key e (release_by key (Some e)) (bounded_by by ran.workers e is h) h
 
 pub line_bounded : (ran : Ran) (l : Line) → IsLine l → AreBounded ran.workers → AreBounded (with_line ran l).workers
 line_bounded ran (Api at operation body) is h = h
 line_bounded ran (Raw at by what long) is h = h
-line_bounded ran (Worker at name kind from) is h = bounded_more ran.workers _ h (record { name = is.1.0.0; limit = (omega arith, omega arith) })
+line_bounded ran (Worker at name kind from) is h =
+    bounded_more ran.workers _ h (record { name = is.1.0.0; limit = (omega arith, omega arith) })
 line_bounded ran (Step at by) is h = step_bounded ran at by (employed_by by ran.workers) refl h
 line_bounded ran (Stop at by) is h = stop_bounded ran by (employed_by by ran.workers) refl h
 line_bounded ran (Hand at by key) is h = hand_bounded ran at by key (employed_by by ran.workers) refl h
 
 -- ---- their turns
 
-turn_lawful : (ran : Ran) (at by : ℕ) (e : Employed) (o : Option Command) → at < 2 ^ 62 → ((what : Command) → o ≡ Some what → IsLawfulCommand what) → IsHistory ran.history → IsHistory (with_command ran at by e o).history
+turn_lawful : (ran : Ran) (at by : ℕ) (e : Employed) (o : Option Command) → at < 2 ^ 62
+    → ((what : Command) → o ≡ Some what → IsLawfulCommand what) → IsHistory ran.history
+    → IsHistory (with_command ran at by e o).history
 turn_lawful ran at by e None early lawful past = past
 turn_lawful ran at by e (Some what) early lawful past = ((early, lawful what refl), past)
 
-step_lawful_by : (ran : Ran) (at by : ℕ) (o : Option Employed) → employed_by by ran.workers ≡ o → at < 2 ^ 62 → AreBounded ran.workers → IsHistory ran.history → IsHistory (with_step ran at by o).history
+step_lawful_by : (ran : Ran) (at by : ℕ) (o : Option Employed) → employed_by by ran.workers ≡ o → at < 2 ^ 62
+    → AreBounded ran.workers → IsHistory ran.history → IsHistory (with_step ran at by o).history
 step_lawful_by ran at by None is early h past = past
 step_lawful_by ran at by (Some e) is early h past =
     let g = bounded_by by ran.workers e is h in
     turn_lawful ran at by (all_called e) (command_at at (all_called e)) early
     (λ what next. next_lawful _ at (all_called e) what next (record { name = g.name; limit = g.limit })) past
 
-pub step_lawful : (ran : Ran) (at by : ℕ) → at < 2 ^ 62 → AreBounded ran.workers → IsHistory ran.history → IsHistory (with_step ran at by (employed_by by ran.workers)).history
+pub step_lawful : (ran : Ran) (at by : ℕ) → at < 2 ^ 62 → AreBounded ran.workers → IsHistory ran.history
+    → IsHistory (with_step ran at by (employed_by by ran.workers)).history
 step_lawful ran at by early h past = step_lawful_by ran at by (employed_by by ran.workers) refl early h past
 
-pub stop_lawful : (ran : Ran) (by : ℕ) (o : Option Employed) → IsHistory ran.history → IsHistory (with_stop ran by o).history
+pub stop_lawful : (ran : Ran) (by : ℕ) (o : Option Employed) → IsHistory ran.history
+    → IsHistory (with_stop ran by o).history
 stop_lawful ran by None past = past
 stop_lawful ran by (Some e) past = past

@@ -1,5 +1,6 @@
 -- A line adds at most three turns.
-use Rattle.std.proofs.Common.{◌≡◌, ℕ, zero, suc, ◌+◌, ◌≤◌, List, [], ◌∷◌, ◌++◌, length, Option, Some, None, Result, Ok, Err, refl, sym, ap, subst, ◌∙◌, arith}
+use Rattle.std.proofs.Common.{◌≡◌, ℕ, zero, suc, ◌+◌, ◌≤◌, List, [], ◌∷◌, ◌++◌, length, Option, Some, None, Result, Ok}
+use Rattle.std.proofs.Common.{Err, refl, sym, ap, subst, ◌∙◌, arith}
 use Rattle.std.specs.Prelude.{option_map}
 use Rattle.std.proofs.lemmas.List.{append_assoc}
 use Rattle.kds_base.specs.declared.lease_key.ShardRef.{ShardRef}
@@ -14,7 +15,8 @@ use Rattle.kcl_hand.specs.Joints.{HandOff, hand_of, state_of}
 use Rattle.kcl_hand.specs.Runs.{answered_by, called_up, run_hand, turn_of}
 use Rattle.kcl_script.specs.declared.line.Line.{Line}
 use Rattle.kcl_script.specs.declared.line.Line.TheVariants.{Api, Hand, Raw, Step, Stop, Worker}
-use Rattle.kcl_sim.specs.Output.{Ran, history_at, part_of, raw_turn, requested, with_command, with_handed, with_line, with_release, with_step, with_stop}
+use Rattle.kcl_sim.specs.Output.{Ran, history_at, part_of, raw_turn, requested, with_command, with_handed, with_line}
+use Rattle.kcl_sim.specs.Output.{with_release, with_step, with_stop}
 use Rattle.kcl_sim.specs.Standing.{GrowsFew, HasRunPart, SimValue}
 use Rattle.kcl_sim.specs.Workers.{Employed, all_called, command_at, employed_by, release_by}
 use Rattle.kcl_sim.proofs.HandTelling.{rounds}
@@ -35,7 +37,8 @@ length_end : (more : List Turn) (turn : Turn) → length (more ++ turn ∷ []) �
 length_end [] turn = refl
 length_end (t ∷ more) turn = ap suc (length_end more turn) ∙ omega arith
 
-grows_by : (n at by : ℕ) (h : List Turn) (x : HandOff) (o : Option Command) → ((k : List Turn) (y : HandOff) → GrowsBy n k (run_hand n at by k y).history)
+grows_by : (n at by : ℕ) (h : List Turn) (x : HandOff) (o : Option Command)
+    → ((k : List Turn) (y : HandOff) → GrowsBy n k (run_hand n at by k y).history)
     → GrowsBy (suc n) h (rounds n at by h x o).history
 grows_by n at by h x None rest = record { more = []; few = omega arith; grows = refl }
 grows_by n at by h x (Some what) rest =
@@ -49,7 +52,8 @@ grows_by n at by h x (Some what) rest =
 run_grows : (n at by : ℕ) (h : List Turn) (x : HandOff) → GrowsBy n h (run_hand n at by h x).history
 run_grows zero at by h x = record { more = []; few = omega arith; grows = refl }
 run_grows (suc n) at by h x =
-    grows_by n at by h (called_up x) (hand_command (called_up x).held (called_up x).made (state_of (called_up x))) (λ k y. run_grows n at by k y)
+    grows_by n at by h (called_up x) (hand_command (called_up x).held (called_up x).made (state_of (called_up x)))
+    (λ k y. run_grows n at by k y)
 
 hand_grows : (n at by : ℕ) (h : List Turn) (r : Release) → n ≤ 3 → GrowsFew h (history_at n h at by r)
 hand_grows n at by h r few =
@@ -62,7 +66,8 @@ request_grows : (h : List Turn) (at : ℕ) (r : Result Command Fault) → GrowsF
 request_grows h at (Ok what) = one_more h (request_turn at what)
 request_grows h at (Err f) = nothing_more h
 
-command_grows : (ran : Ran) (at by : ℕ) (e : Employed) (o : Option Command) → GrowsFew ran.history (with_command ran at by e o).history
+command_grows : (ran : Ran) (at by : ℕ) (e : Employed) (o : Option Command)
+    → GrowsFew ran.history (with_command ran at by e o).history
 command_grows ran at by e None = nothing_more ran.history
 command_grows ran at by e (Some what) = one_more ran.history (raw_turn at by what)
 
@@ -74,11 +79,13 @@ stop_grows : (ran : Ran) (by : ℕ) (o : Option Employed) → GrowsFew ran.histo
 stop_grows ran by None = nothing_more ran.history
 stop_grows ran by (Some e) = nothing_more ran.history
 
-release_grows : (ran : Ran) (at by : ℕ) (key : ShardRef) (e : Employed) (o : Option Release) → GrowsFew ran.history (with_release ran at by key e o).history
+release_grows : (ran : Ran) (at by : ℕ) (key : ShardRef) (e : Employed) (o : Option Release)
+    → GrowsFew ran.history (with_release ran at by key e o).history
 release_grows ran at by key e None = nothing_more ran.history
 release_grows ran at by key e (Some r) = hand_grows 3 at by ran.history r (omega arith)
 
-handed_grows : (ran : Ran) (at by : ℕ) (key : ShardRef) (o : Option Employed) → GrowsFew ran.history (with_handed ran at by key o).history
+handed_grows : (ran : Ran) (at by : ℕ) (key : ShardRef) (o : Option Employed)
+    → GrowsFew ran.history (with_handed ran at by key o).history
 handed_grows ran at by key None = nothing_more ran.history
 handed_grows ran at by key (Some e) = release_grows ran at by key e (release_by key (Some e))
 
@@ -92,14 +99,17 @@ line_grows ran (Hand at by key) = handed_grows ran at by key (employed_by by ran
 
 -- ---- out of memory in the middle of one
 
-part_by : (n at by : ℕ) (h k : List Turn) (o : Option Release) → option_map (history_at n h at by) o ≡ Some k → n ≤ 3 → GrowsFew h k
+part_by : (n at by : ℕ) (h k : List Turn) (o : Option Release) → option_map (history_at n h at by) o ≡ Some k → n ≤ 3
+    → GrowsFew h k
 part_by n at by h k None is few = absurd cc
 part_by n at by h k (Some r) is few =
     let same : history_at n h at by r ≡ k = cc in
     subst (GrowsFew h) same (hand_grows n at by h r few)
 
-part_of_line : (n : ℕ) (ran : Ran) (l : Line) (k : List Turn) → part_of n ran l ≡ Some k → n ≤ 3 → GrowsFew ran.history k
-part_of_line n ran (Hand at by key) k is few = part_by n at by ran.history k (release_by key (employed_by by ran.workers)) is few
+part_of_line : (n : ℕ) (ran : Ran) (l : Line) (k : List Turn) → part_of n ran l ≡ Some k → n ≤ 3
+    → GrowsFew ran.history k
+part_of_line n ran (Hand at by key) k is few =
+    part_by n at by ran.history k (release_by key (employed_by by ran.workers)) is few
 part_of_line n ran _ k is few = absurd cc
 
 pub part_grows : (s : SimValue) (ran : Ran) (l : Line) → HasRunPart s ran l → GrowsFew ran.history s.history

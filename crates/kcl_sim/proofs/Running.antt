@@ -1,5 +1,6 @@
 -- What the lines of workers make of a run.
-use Rattle.std.proofs.Common.{◌≡◌, ℕ, ◌+◌, ◌<◌, Bool, true, false, List, [], ◌∷◌, ◌++◌, length, Option, Some, None, Result, Ok, Err, codes, decimal, sym, ap, subst, ◌∙◌, arith, inl, inr, ◌⊎◌}
+use Rattle.std.proofs.Common.{◌≡◌, ℕ, ◌+◌, ◌<◌, Bool, true, false, List, [], ◌∷◌, ◌++◌, length, Option, Some, None}
+use Rattle.std.proofs.Common.{Result, Ok, Err, codes, decimal, sym, ap, subst, ◌∙◌, arith, inl, inr, ◌⊎◌}
 use Rattle.std.specs.Prelude.{IsSome, MatchOption, OnErr, OnOk, get_or, slice_get, slice_set}
 use Rattle.kds_base.proofs.Facts.{same_some, apart}
 use Rattle.kds_defs.specs.declared.command.Command.{Command}
@@ -12,10 +13,14 @@ use Rattle.kcl_proc.specs.Stocks.{StandsFor as Calls, asked_of}
 use Rattle.kcl_script.specs.declared.line.Line.TheVariants as line
 use Rattle.kcl_worker.specs.Standing.{StandsFor}
 use Rattle.kcl_sim.specs.Keeping.{if_wanted}
-use Rattle.kcl_sim.specs.Output.{Ran, command_output, raw_turn, step_output, stop_output, with_command, with_step, with_stop}
-use Rattle.kcl_sim.specs.Standing.{ChangedAt, EmployAll, Employs, GoesOn, HasAsked, IsFree, MayHaveRun, RunsSo, SimValue, StepsAt, Stepped, TookAnswer, TurnRan, employed_after, history_after, place_among}
+use Rattle.kcl_sim.specs.Output.{Ran, command_output, raw_turn, step_output, stop_output, with_command, with_step}
+use Rattle.kcl_sim.specs.Output.{with_stop}
+use Rattle.kcl_sim.specs.Standing.{ChangedAt, EmployAll, Employs, GoesOn, HasAsked, IsFree, MayHaveRun, RunsSo}
+use Rattle.kcl_sim.specs.Standing.{SimValue, StepsAt, Stepped, TookAnswer, TurnRan, employed_after, history_after}
+use Rattle.kcl_sim.specs.Standing.{place_among}
 use Rattle.kcl_sim.specs.Workers.{Employed, actor_at, all_called, command_at, employed_by, hired, place_of, stopped}
-use Rattle.kcl_sim.proofs.Employing.{employ_at, employ_length, employ_more, employ_set, got_set, got_there, lent_again, nobody, set_again, somebody}
+use Rattle.kcl_sim.proofs.Employing.{employ_at, employ_length, employ_more, employ_set, got_set, got_there, lent_again}
+use Rattle.kcl_sim.proofs.Employing.{nobody, set_again, somebody}
 
 pub on_any : {A B : Type 0} {P : Type 0} (r : Result A B) → P → OnOk r P
 on_any (Ok x) h = h
@@ -27,39 +32,53 @@ on_ok_so (Err e) h f = tt
 
 -- ---- one more worker
 
-pub hired_goes : (wanted : Bool) (old new : SimValue) (ran : Ran) (w : Stepped) (at name by : ℕ) (kind : Kind) (from : Origin) (before after : List ℕ)
+pub hired_goes : (wanted : Bool) (old new : SimValue) (ran : Ran) (w : Stepped) (at name by : ℕ) (kind : Kind)
+    (from : Origin) (before after : List ℕ)
     → RunsSo old ran → old.over ≡ false
-    → new ≡ record old { workers = old.workers ++ w ∷ [] } → w.made ≡ record { name = name; settings = record usual_settings { from = from } } → w.maker ≡ kind → StandsFor Calls w []
-    → by ≡ length old.workers + MOST_ACTOR + 1 → after ≡ before ++ if_wanted wanted (codes "worker " ++ (decimal by ++ 10 ∷ []))
+    → new ≡ record old { workers = old.workers ++ w ∷ [] }
+    → w.made ≡ record { name = name; settings = record usual_settings { from = from } } → w.maker ≡ kind
+    → StandsFor Calls w []
+    → by ≡ length old.workers + MOST_ACTOR + 1
+    → after ≡ before ++ if_wanted wanted (codes "worker " ++ (decimal by ++ 10 ∷ []))
     → GoesOn wanted new ran (line.Worker at name kind from) before after
 hired_goes wanted old new ran w at name by kind from before after s going is made maker stands number wrote =
     let all = s.workers going in
     let actor : by ≡ actor_at (length ran.workers) = omega (arith, number, employ_length old.workers ran.workers all) in
-    let e : Employs w (hired name kind from) = record { made = made; kind = λ batch. ap (λ m. asked_of m batch) maker; stands = stands } in
+    let e : Employs w (hired name kind from) =
+    record { made = made; kind = λ batch. ap (λ m. asked_of m batch) maker; stands = stands } in
     subst (λ v. GoesOn wanted v ran (line.Worker at name kind from) before after) (sym is) (record {
-      made = record { history = s.history; workers = λ g. employ_more old.workers ran.workers w (hired name kind from) all e };
+      made = record {
+        history = s.history;
+        workers = λ g. employ_more old.workers ran.workers w (hired name kind from) all e;
+      };
       wrote = wrote ∙ ap (λ n. before ++ if_wanted wanted (codes "worker " ++ (decimal n ++ 10 ∷ []))) actor;
       going = going;
     })
 
 -- ---- an actor without a worker
 
-pub nobody_stops : (wanted : Bool) (old new : SimValue) (ran : Ran) (at by : ℕ) (before after : List ℕ) → RunsSo old ran → old.over ≡ false → new ≡ old
+pub nobody_stops : (wanted : Bool) (old new : SimValue) (ran : Ran) (at by : ℕ) (before after : List ℕ) → RunsSo old ran
+    → old.over ≡ false → new ≡ old
     → place_among by (length old.workers) ≡ None
-    → after ≡ before ++ if_wanted wanted (codes "none" ++ 10 ∷ []) → GoesOn wanted new ran (line.Stop at by) before after
+    → after ≡ before ++ if_wanted wanted (codes "none" ++ 10 ∷ [])
+    → GoesOn wanted new ran (line.Stop at by) before after
 nobody_stops wanted old new ran at by before after s going same none wrote =
-    let is = nobody by (length old.workers) ran.workers (employ_length old.workers ran.workers (s.workers going)) none in
+    let is = nobody by (length old.workers) ran.workers (employ_length old.workers ran.workers (s.workers going))
+    none in
     record {
       made = subst (λ o. RunsSo new (with_stop ran by o)) (sym is) (subst (λ v. RunsSo v ran) (sym same) s);
       wrote = wrote ∙ ap (λ o. before ++ if_wanted wanted (stop_output o)) (sym is);
       going = ap (λ (v : SimValue). v.over) same ∙ going;
     }
 
-pub nobody_steps : (wanted : Bool) (old new : SimValue) (ran : Ran) (at by : ℕ) (before after : List ℕ) → RunsSo old ran → old.over ≡ false → new ≡ old
+pub nobody_steps : (wanted : Bool) (old new : SimValue) (ran : Ran) (at by : ℕ) (before after : List ℕ) → RunsSo old ran
+    → old.over ≡ false → new ≡ old
     → place_among by (length old.workers) ≡ None
-    → after ≡ before ++ if_wanted wanted (codes "none" ++ 10 ∷ []) → GoesOn wanted new ran (line.Step at by) before after
+    → after ≡ before ++ if_wanted wanted (codes "none" ++ 10 ∷ [])
+    → GoesOn wanted new ran (line.Step at by) before after
 nobody_steps wanted old new ran at by before after s going same none wrote =
-    let is = nobody by (length old.workers) ran.workers (employ_length old.workers ran.workers (s.workers going)) none in
+    let is = nobody by (length old.workers) ran.workers (employ_length old.workers ran.workers (s.workers going))
+    none in
     record {
       made = subst (λ o. RunsSo new (with_step ran at by o)) (sym is) (subst (λ v. RunsSo v ran) (sym same) s);
       wrote = wrote ∙ ap (λ o. before ++ if_wanted wanted (step_output ran at by o)) (sym is);
@@ -76,7 +95,9 @@ pub record Works (old : SimValue) (ran : Ran) (by place : ℕ) (was : Stepped) :
   pub all : EmployAll old.workers ran.workers
   pub at_place : place_of by ≡ place
 
-pub works : (old : SimValue) (ran : Ran) (by place : ℕ) (was : Stepped) → RunsSo old ran → old.over ≡ false → place_among by (length old.workers) ≡ Some place → slice_get old.workers place ≡ Some was → Works old ran by place was
+pub works : (old : SimValue) (ran : Ran) (by place : ℕ) (was : Stepped) → RunsSo old ran → old.over ≡ false
+    → place_among by (length old.workers) ≡ Some place → slice_get old.workers place ≡ Some was
+    → Works old ran by place was
 works old ran by place was s going there stood =
     let all = s.workers going in
     let f = employ_at old.workers ran.workers place was all stood in
@@ -84,48 +105,66 @@ works old ran by place was s going there stood =
     record { e = f.0; is = b.1 ∙ f.1; employs = f.2; all = all; at_place = b.0 }
 
 -- with another in its place
-pub replaced : (old : SimValue) (ran : Ran) (by place : ℕ) (was new : Stepped) (d : Employed) → Works old ran by place was → Employs new d → EmployAll (slice_set old.workers place new) (slice_set ran.workers (place_of by) d)
+pub replaced : (old : SimValue) (ran : Ran) (by place : ℕ) (was new : Stepped) (d : Employed)
+    → Works old ran by place was → Employs new d
+    → EmployAll (slice_set old.workers place new) (slice_set ran.workers (place_of by) d)
 replaced old ran by place was new d w h =
-    subst (λ n. EmployAll (slice_set old.workers place new) (slice_set ran.workers n d)) (sym w.at_place) (employ_set old.workers ran.workers place new d w.all h)
+    subst (λ n. EmployAll (slice_set old.workers place new) (slice_set ran.workers n d)) (sym w.at_place)
+    (employ_set old.workers ran.workers place new d w.all h)
 
-pub stop_goes : (wanted : Bool) (old new : SimValue) (ran : Ran) (at by place : ℕ) (was now : Stepped) (before after : List ℕ) → RunsSo old ran
+pub stop_goes : (wanted : Bool) (old new : SimValue) (ran : Ran) (at by place : ℕ) (was now : Stepped)
+    (before after : List ℕ) → RunsSo old ran
     → old.over ≡ false → place_among by (length old.workers) ≡ Some place → slice_get old.workers place ≡ Some was
-    → new ≡ record old { workers = slice_set old.workers place now } → ((e : Employed) → Employs was e → Employs now (stopped e))
+    → new ≡ record old { workers = slice_set old.workers place now }
+    → ((e : Employed) → Employs was e → Employs now (stopped e))
     → after ≡ before ++ if_wanted wanted (codes "stopping" ++ 10 ∷ [])
     → GoesOn wanted new ran (line.Stop at by) before after
 stop_goes wanted old new ran at by place was now before after s going there stood is stops wrote =
     let w = works old ran by place was s going there stood in
     subst (λ v. GoesOn wanted v ran (line.Stop at by) before after) (sym is) (record {
-      made = subst (λ o. RunsSo (record old { workers = slice_set old.workers place now }) (with_stop ran by o)) (sym w.is)
-          (record { history = s.history; workers = λ g. replaced old ran by place was now (stopped w.e) w (stops w.e w.employs) });
+      made = subst (λ o. RunsSo (record old { workers = slice_set old.workers place now }) (with_stop ran by o))
+          (sym w.is)
+          (record {
+            history = s.history;
+            workers = λ g. replaced old ran by place was now (stopped w.e) w (stops w.e w.employs);
+          });
       wrote = wrote ∙ ap (λ o. before ++ if_wanted wanted (stop_output o)) (sym w.is);
       going = going;
     })
 
 -- a step
-same_employed : (h : List Turn) (ran : Ran) (at by : ℕ) (o : Option Command) (e : Employed) → h ≡ ran.history → (v : Stepped) → Employs v (employed_after h at by o e) → Employs v (employed_after ran.history at by o e)
+same_employed : (h : List Turn) (ran : Ran) (at by : ℕ) (o : Option Command) (e : Employed) → h ≡ ran.history
+    → (v : Stepped) → Employs v (employed_after h at by o e) → Employs v (employed_after ran.history at by o e)
 same_employed h ran at by o e is v s = subst (λ k. Employs v (employed_after k at by o e)) is s
 
-step_made : (new : SimValue) (ran : Ran) (at by place : ℕ) (e : Employed) (o : Option Command) → new.history ≡ history_after ran.history at by o
-    → EmployAll new.workers (slice_set ran.workers (place_of by) (employed_after ran.history at by o e)) → RunsSo new (with_command ran at by (all_called e) o)
+step_made : (new : SimValue) (ran : Ran) (at by place : ℕ) (e : Employed) (o : Option Command)
+    → new.history ≡ history_after ran.history at by o
+    → EmployAll new.workers (slice_set ran.workers (place_of by) (employed_after ran.history at by o e))
+    → RunsSo new (with_command ran at by (all_called e) o)
 step_made new ran at by place e None history workers = record { history = history; workers = λ g. workers }
 step_made new ran at by place e (Some what) history workers = record { history = history; workers = λ g. workers }
 
-pub step_goes : (wanted : Bool) (old new : SimValue) (ran : Ran) (at by place : ℕ) (before after : List ℕ) → RunsSo old ran → old.over ≡ false
+pub step_goes : (wanted : Bool) (old new : SimValue) (ran : Ran) (at by place : ℕ) (before after : List ℕ)
+    → RunsSo old ran → old.over ≡ false
     → place_among by (length old.workers) ≡ Some place
-    → StepsAt wanted at by place old new before after → new.over ≡ false → GoesOn wanted new ran (line.Step at by) before after
+    → StepsAt wanted at by place old new before after → new.over ≡ false
+    → GoesOn wanted new ran (line.Step at by) before after
 step_goes wanted old new ran at by place before after s going there t still =
     let c = t.workers in
     let w = works old ran by place c.was s going there c.stood in
     let f = c.related.1 w.e w.employs in
     let next : command_at at (all_called w.e) ≡ t.what = f.0 in
-    let now_so : Employs c.is (employed_after ran.history at by t.what w.e) = same_employed old.history ran at by t.what w.e s.history c.is f.1 in
-    let all : EmployAll new.workers (slice_set ran.workers (place_of by) (employed_after ran.history at by t.what w.e)) =
-    subst (λ ws. EmployAll ws (slice_set ran.workers (place_of by) (employed_after ran.history at by t.what w.e))) (sym c.stands) (replaced old ran by place c.was c.is _ w now_so) in
+    let now_so : Employs c.is (employed_after ran.history at by t.what w.e) =
+    same_employed old.history ran at by t.what w.e s.history c.is f.1 in
+    let all : EmployAll new.workers
+    (slice_set ran.workers (place_of by) (employed_after ran.history at by t.what w.e)) =
+    subst (λ ws. EmployAll ws (slice_set ran.workers (place_of by) (employed_after ran.history at by t.what w.e)))
+    (sym c.stands) (replaced old ran by place c.was c.is _ w now_so) in
     record {
       made = subst (λ o. RunsSo new (with_step ran at by o)) (sym w.is)
           (subst (λ o. RunsSo new (with_command ran at by (all_called w.e) o)) (sym next)
-          (step_made new ran at by place w.e t.what (t.history ∙ ap (λ h. history_after h at by t.what) s.history) all));
+          (step_made new ran at by place w.e t.what (t.history ∙ ap (λ h. history_after h at by t.what) s.history)
+          all));
       wrote = t.wrote ∙ ap (λ h. before ++ if_wanted wanted (command_output h at by t.what)) s.history
           ∙ ap (λ o. before ++ if_wanted wanted (command_output ran.history at by o)) (sym next)
           ∙ ap (λ o. before ++ if_wanted wanted (step_output ran at by o)) (sym w.is);
@@ -134,7 +173,8 @@ step_goes wanted old new ran at by place before after s going there t still =
 
 -- ---- out of memory
 
-pub step_may : (old new : SimValue) (ran : Ran) (at by place : ℕ) → RunsSo old ran → old.over ≡ false → place_among by (length old.workers) ≡ Some place → new.over ≡ true
+pub step_may : (old new : SimValue) (ran : Ran) (at by place : ℕ) → RunsSo old ran → old.over ≡ false
+    → place_among by (length old.workers) ≡ Some place → new.over ≡ true
     → (new.history ≡ old.history) ⊎ TurnRan at by place old new → MayHaveRun new ran (line.Step at by)
 step_may old new ran at by place s going there over (inl same) =
     inl (record { history = same ∙ s.history; workers = λ g. absurd (apart new.over over g) })
@@ -143,7 +183,10 @@ step_may old new ran at by place s going there over (inr t) =
     let next = t.next w.e w.employs in
     inr (subst (λ o. RunsSo new (with_step ran at by o)) (sym w.is)
     (subst (λ o. RunsSo new (with_command ran at by (all_called w.e) o)) (sym next)
-    (record { history = t.history ∙ ap (λ h. raw_turn at by t.what ∷ h) s.history; workers = λ g. absurd (apart new.over over g) })))
+    (record {
+      history = t.history ∙ ap (λ h. raw_turn at by t.what ∷ h) s.history;
+      workers = λ g. absurd (apart new.over over g);
+    })))
 
 pub err_so : {A B : Type 0} {P Q : Type 0} (r : Result A B) → OnErr r P → (P → Q) → OnErr r Q
 err_so (Ok x) h f = tt
@@ -168,7 +211,8 @@ where_some P Q None x is h = absurd cc
 where_some P Q (Some y) x is h = subst Q (same_some y x is) h
 
 -- the worker of a place was lent for its calls, and lent again to be asked
-pub asked_at : (old : SimValue) (at place : ℕ) (ws : List Stepped) (first second was called lent now : Stepped) (result : Option Command) → ws ≡ old.workers → place < length ws
+pub asked_at : (old : SimValue) (at place : ℕ) (ws : List Stepped) (first second was called lent now : Stepped)
+    (result : Option Command) → ws ≡ old.workers → place < length ws
     → was ≡ get_or ws place first → lent ≡ get_or (slice_set ws place called) place second
     → ((e : Employed) → Employs was e → Employs called (all_called e))
     → ((e : Employed) → Employs lent e → result ≡ command_at at e)
@@ -176,19 +220,28 @@ pub asked_at : (old : SimValue) (at place : ℕ) (ws : List Stepped) (first seco
     → MatchOption result (IsFree now) (λ what. IsSome now.waiting) → Asked at place old result now
 asked_at old at place ws first second was called lent now result same lt got again calls next stands free =
     let lent_is : lent ≡ called = lent_again ws place second called lent lt again in
-    let on : (e : Employed) → Employs was e → Employs lent (all_called e) = λ e h. subst (λ (w : Stepped). Employs w (all_called e)) (sym lent_is) (calls e h) in
+    let on : (e : Employed) → Employs was e → Employs lent (all_called e) =
+    λ e h. subst (λ (w : Stepped). Employs w (all_called e)) (sym lent_is) (calls e h) in
     record {
       was = was;
       stood = ap (λ vs. slice_get vs place) (sym same) ∙ got_there ws place first was lt got;
       next = λ e h. sym (next (all_called e) (on e h));
-      idle = λ none. (where_none (IsFree now) (λ what. IsSome now.waiting) result none free, λ e h. where_none (Employs now (all_called e)) (λ what. HasAsked at now (all_called e)) result none (stands (all_called e) (on e h)));
-      asked = λ what some e h. where_some (Employs now (all_called e)) (λ w. HasAsked at now (all_called e)) result what some (stands (all_called e) (on e h));
+      idle = λ none. (
+        where_none (IsFree now) (λ what. IsSome now.waiting) result none free,
+        λ e h. where_none (Employs now (all_called e)) (λ what. HasAsked at now (all_called e)) result none
+            (stands (all_called e) (on e h)),
+      );
+      asked = λ what some e h.
+          where_some (Employs now (all_called e)) (λ w. HasAsked at now (all_called e)) result what some
+          (stands (all_called e) (on e h));
     }
 
 -- where it was idle
-pub idle_steps : (wanted : Bool) (old new : SimValue) (at by place : ℕ) (result : Option Command) (now : Stepped) (before after : List ℕ)
+pub idle_steps : (wanted : Bool) (old new : SimValue) (at by place : ℕ) (result : Option Command) (now : Stepped)
+    (before after : List ℕ)
     → Asked at place old result now → result ≡ None
-    → new ≡ record old { workers = slice_set old.workers place now } → after ≡ before ++ if_wanted wanted (codes "idle" ++ 10 ∷ [])
+    → new ≡ record old { workers = slice_set old.workers place now }
+    → after ≡ before ++ if_wanted wanted (codes "idle" ++ 10 ∷ [])
     → StepsAt wanted at by place old new before after
 idle_steps wanted old new at by place result now before after a none is wrote =
     record {
@@ -205,12 +258,17 @@ idle_steps wanted old new at by place result now before after a none is wrote =
     }
 
 -- where its turn ran
-turn_steps_of : (wanted : Bool) (old new : SimValue) (at by place : ℕ) (result : Option Command) (what : Command) (mid : List Stepped) (now : Stepped) (before after : List ℕ) → Asked at place old result now → result ≡ Some what
-    → mid ≡ slice_set old.workers place now → place < length old.workers → new.history ≡ (raw_turn at by what ∷ old.history)
+turn_steps_of : (wanted : Bool) (old new : SimValue) (at by place : ℕ) (result : Option Command) (what : Command)
+    (mid : List Stepped) (now : Stepped) (before after : List ℕ) → Asked at place old result now → result ≡ Some what
+    → mid ≡ slice_set old.workers place now → place < length old.workers
+    → new.history ≡ (raw_turn at by what ∷ old.history)
     → ChangedAt place (TookAnswer at by what old.history) mid new.workers
-    → after ≡ before ++ if_wanted wanted (command_output old.history at by (Some what)) → StepsAt wanted at by place old new before after
+    → after ≡ before ++ if_wanted wanted (command_output old.history at by (Some what))
+    → StepsAt wanted at by place old new before after
 turn_steps_of wanted old new at by place result what mid now before after a some mid_is lt history changed wrote =
-    let was_now : changed.was ≡ now = same_some changed.was now (sym changed.stood ∙ ap (λ ws. slice_get ws place) mid_is ∙ got_set old.workers place now lt) in
+    let was_now : changed.was ≡ now =
+    same_some changed.was now (sym changed.stood ∙ ap (λ ws. slice_get ws place) mid_is
+    ∙ got_set old.workers place now lt) in
     record {
       what = Some what;
       history = history;
@@ -218,16 +276,28 @@ turn_steps_of wanted old new at by place result what mid now before after a some
         was = a.was;
         stood = a.stood;
         is = changed.is;
-        stands = changed.stands ∙ ap (λ ws. slice_set ws place changed.is) mid_is ∙ set_again old.workers place now changed.is;
-        related = (changed.related.0, λ e h. (a.next e h ∙ some, changed.related.1 (all_called e) (subst (λ w. HasAsked at w (all_called e)) (sym was_now) (a.asked what some e h))));
+        stands = changed.stands ∙ ap (λ ws. slice_set ws place changed.is) mid_is
+            ∙ set_again old.workers place now changed.is;
+        related = (
+          changed.related.0,
+          λ e h. (
+            a.next e h ∙ some,
+            changed.related.1 (all_called e)
+                (subst (λ w. HasAsked at w (all_called e)) (sym was_now) (a.asked what some e h)),
+          ),
+        );
       };
       wrote = wrote;
     }
 
-pub turn_steps : (wanted : Bool) (old new : SimValue) (at by place : ℕ) (result : Option Command) (what : Command) (h : List Turn) (mid : List Stepped) (now : Stepped) (before after : List ℕ) → Asked at place old result now → result ≡ Some what
-    → h ≡ old.history → mid ≡ slice_set old.workers place now → place < length old.workers → new.history ≡ (raw_turn at by what ∷ h)
+pub turn_steps : (wanted : Bool) (old new : SimValue) (at by place : ℕ) (result : Option Command) (what : Command)
+    (h : List Turn) (mid : List Stepped) (now : Stepped) (before after : List ℕ) → Asked at place old result now
+    → result ≡ Some what
+    → h ≡ old.history → mid ≡ slice_set old.workers place now → place < length old.workers
+    → new.history ≡ (raw_turn at by what ∷ h)
     → ChangedAt place (TookAnswer at by what h) mid new.workers
-    → after ≡ before ++ if_wanted wanted (command_output h at by (Some what)) → StepsAt wanted at by place old new before after
+    → after ≡ before ++ if_wanted wanted (command_output h at by (Some what))
+    → StepsAt wanted at by place old new before after
 turn_steps wanted old new at by place result what h mid now before after a some same mid_is lt history changed wrote =
     turn_steps_of wanted old new at by place result what mid now before after a some mid_is lt
     (history ∙ ap (λ k. raw_turn at by what ∷ k) same)
@@ -235,8 +305,10 @@ turn_steps wanted old new at by place result what h mid now before after a some 
     (wrote ∙ ap (λ k. before ++ if_wanted wanted (command_output k at by (Some what))) same)
 
 -- after running out of memory it ran or not
-pub turn_may : (old new : SimValue) (at by place : ℕ) (result : Option Command) (what : Command) (h : List Turn) (now : Stepped) → Asked at place old result now → result ≡ Some what
-    → h ≡ old.history → (new.history ≡ h) ⊎ (new.history ≡ raw_turn at by what ∷ h) → (new.history ≡ old.history) ⊎ TurnRan at by place old new
+pub turn_may : (old new : SimValue) (at by place : ℕ) (result : Option Command) (what : Command) (h : List Turn)
+    (now : Stepped) → Asked at place old result now → result ≡ Some what
+    → h ≡ old.history → (new.history ≡ h) ⊎ (new.history ≡ raw_turn at by what ∷ h) → (new.history ≡ old.history)
+    ⊎ TurnRan at by place old new
 turn_may old new at by place result what h now a some same (inl is) = inl (is ∙ same)
 turn_may old new at by place result what h now a some same (inr is) =
     inr (record {
@@ -247,7 +319,8 @@ turn_may old new at by place result what h now a some same (inr is) =
       history = is ∙ ap (λ k. raw_turn at by what ∷ k) same;
     })
 
-pub on_ok_all : {A B : Type 0} {P Q R S : Type 0} (r : Result A B) → OnOk r P → OnOk r Q → OnOk r R → (P → Q → R → S) → OnOk r S
+pub on_ok_all : {A B : Type 0} {P Q R S : Type 0} (r : Result A B) → OnOk r P → OnOk r Q → OnOk r R → (P → Q → R → S)
+    → OnOk r S
 on_ok_all (Ok x) p q h f = f p q h
 on_ok_all (Err e) p q h f = tt
 
@@ -258,18 +331,28 @@ on_any_err (Err e) h = h
 -- ---- that a run is over says nothing of its turns and workers
 
 steps_as : (wanted : Bool) (old new : SimValue) (b d : Bool) (at by place : ℕ) (before after : List ℕ)
-    → StepsAt wanted at by place (record old { over = b }) new before after → StepsAt wanted at by place old (record new { over = d }) before after
-steps_as wanted old new b d at by place before after t = record { what = t.what; history = t.history; workers = t.workers; wrote = t.wrote }
+    → StepsAt wanted at by place (record old { over = b }) new before after
+    → StepsAt wanted at by place old (record new { over = d }) before after
+steps_as wanted old new b d at by place before after t =
+    record { what = t.what; history = t.history; workers = t.workers; wrote = t.wrote }
 
-pub step_done : (wanted : Bool) (old mid now new : SimValue) (at by place : ℕ) (before after : List ℕ) → mid ≡ record old { over = true }
-    → new ≡ record now { over = false } → StepsAt wanted at by place mid now before after → StepsAt wanted at by place old new before after
+pub step_done : (wanted : Bool) (old mid now new : SimValue) (at by place : ℕ) (before after : List ℕ)
+    → mid ≡ record old { over = true }
+    → new ≡ record now { over = false } → StepsAt wanted at by place mid now before after
+    → StepsAt wanted at by place old new before after
 step_done wanted old mid now new at by place before after before_is after_is t =
     subst (λ v. StepsAt wanted at by place old v before after) (sym after_is)
-    (steps_as wanted old now true false at by place before after (subst (λ v. StepsAt wanted at by place v now before after) before_is t))
+    (steps_as wanted old now true false at by place before after
+    (subst (λ v. StepsAt wanted at by place v now before after) before_is t))
 
-ran_as : (old new : SimValue) (b : Bool) (at by place : ℕ) → TurnRan at by place (record old { over = b }) new → TurnRan at by place old new
-ran_as old new b at by place t = record { was = t.was; stood = t.stood; what = t.what; next = t.next; history = t.history }
+ran_as : (old new : SimValue) (b : Bool) (at by place : ℕ) → TurnRan at by place (record old { over = b }) new
+    → TurnRan at by place old new
+ran_as old new b at by place t =
+    record { was = t.was; stood = t.stood; what = t.what; next = t.next; history = t.history }
 
-pub step_broke : (old mid new : SimValue) (at by place : ℕ) → mid ≡ record old { over = true } → (new.history ≡ mid.history) ⊎ TurnRan at by place mid new → (new.history ≡ old.history) ⊎ TurnRan at by place old new
+pub step_broke : (old mid new : SimValue) (at by place : ℕ) → mid ≡ record old { over = true }
+    → (new.history ≡ mid.history) ⊎ TurnRan at by place mid new → (new.history ≡ old.history)
+    ⊎ TurnRan at by place old new
 step_broke old mid new at by place is (inl same) = inl (same ∙ ap (λ v. v.history) is)
-step_broke old mid new at by place is (inr t) = inr (ran_as old new true at by place (subst (λ v. TurnRan at by place v new) is t))
+step_broke old mid new at by place is (inr t) =
+    inr (ran_as old new true at by place (subst (λ v. TurnRan at by place v new) is t))

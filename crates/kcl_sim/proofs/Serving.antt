@@ -24,20 +24,25 @@ use Rattle.kcl_defs.specs.declared.consumer.WorkerMade.{WorkerMade}
 use Rattle.kcl_defs.specs.declared.plans.Held.{Held}
 use Rattle.kcl_defs.specs.declared.plans.TakeStep.{TakeStep}
 use Rattle.kcl_defs.specs.Lives.{deals_of}
-use Rattle.kcl_hand.specs.Joints.{AreAllServed as AreServed, AreOrderly, AreToldIn, JointPast, Of_worker, hand_of, hands_after, joint_deals, worker_in, worker_past}
+use Rattle.kcl_hand.specs.Joints.{AreAllServed as AreServed, AreOrderly, AreToldIn, JointPast, Of_worker, hand_of}
+use Rattle.kcl_hand.specs.Joints.{hands_after, joint_deals, worker_in, worker_past}
 use Rattle.kcl_hand.specs.Runs.{hand_run, turn_of, with_hand}
 use Rattle.kcl_hand.specs.Twice.{IsHandedOffIfFreed, IsNeverReadAgain}
-use Rattle.kcl_defs.specs.Workers.{Chore, Gave_command, Known, Made_call, Pending, Renewing, Release, Surveying, Taking, WorkerState}
+use Rattle.kcl_defs.specs.Workers.{Chore, Gave_command, Known, Made_call, Pending, Renewing, Release, Surveying, Taking}
+use Rattle.kcl_defs.specs.Workers.{WorkerState}
 use Rattle.kcl_defs.specs.Workers.{absorbed, after_chore, after_renewal, after_survey, after_take}
-use Rattle.kcl_defs.specs.Workers.{is_due_known, is_idle, next_pending, phase_of_known, released, with_deal, worker_after}
+use Rattle.kcl_defs.specs.Workers.{is_due_known, is_idle, next_pending, phase_of_known, released, with_deal}
+use Rattle.kcl_defs.specs.Workers.{worker_after}
 use Rattle.kcl_defs.proofs.StepLemmas.{others_turn}
 use Rattle.kcl_proc.specs.declared.stock.Kind.{Kind}
 use Rattle.kcl_script.specs.declared.line.Line.{Line}
 use Rattle.kcl_script.specs.declared.line.Line.TheVariants.{Api, Hand, Raw, Step, Stop, Worker}
 use Rattle.kcl_script.specs.Line.{IsLine}
-use Rattle.kcl_sim.specs.Output.{Ran, fresh, raw_turn, requested, with_command, with_handed, with_line, with_release, with_schedule, with_step, with_stop}
+use Rattle.kcl_sim.specs.Output.{Ran, fresh, raw_turn, requested, with_command, with_handed, with_line, with_release}
+use Rattle.kcl_sim.specs.Output.{with_schedule, with_step, with_stop}
 use Rattle.kcl_sim.specs.Serving.{AreAllServed, AreHandedOff, AreNeverReadAgain}
-use Rattle.kcl_sim.specs.Workers.{Employed, actor_at, all_called, answered, ask_in, command_at, employed_by, hired, place_of, release_by, state_of, stopped, with_calls}
+use Rattle.kcl_sim.specs.Workers.{Employed, actor_at, all_called, answered, ask_in, command_at, employed_by, hired}
+use Rattle.kcl_sim.specs.Workers.{place_of, release_by, state_of, stopped, with_calls}
 use Rattle.kcl_sim.proofs.HandTelling.{of_another_run, released_free, run_tells, worker_past_hand}
 
 -- the actor's turns are those of the worker's record, and no command of it waits
@@ -59,15 +64,20 @@ record Follows (made : WorkerMade) (past later : JointPast) : Type 0 where
   deals : joint_deals made later ≡ joint_deals made past
   free : (worker_in made later).waiting ≡ None
 
-either_follows : (b : Bool) (made : WorkerMade) (past p q : JointPast) → Follows made past p → Follows made past q → Follows made past (if b then p else q)
+either_follows : (b : Bool) (made : WorkerMade) (past p q : JointPast) → Follows made past p → Follows made past q
+    → Follows made past (if b then p else q)
 either_follows true made past p q h g = h
 either_follows false made past p q h g = g
 
-calls_follow : (made : WorkerMade) (kind : Kind) (ks : List Known) (past : JointPast) → AreOrderly made past → (worker_in made past).waiting ≡ None
+calls_follow : (made : WorkerMade) (kind : Kind) (ks : List Known) (past : JointPast) → AreOrderly made past
+    → (worker_in made past).waiting ≡ None
     → Follows made past (with_calls kind ks past)
 calls_follow made kind [] past orderly free = record { orderly = orderly; deals = refl; free = free }
 calls_follow made kind (k ∷ ks) past orderly free =
-    let due = calls_follow made kind ks (Of_worker (Made_call (ask_in kind (phase_of_known k))) ∷ past) (free, orderly) free in
+    let due = calls_follow made kind ks (Of_worker (Made_call (ask_in kind (phase_of_known k))) ∷ past) (
+      free,
+      orderly,
+    ) free in
     either_follows (is_due_known k) made past _ _
     (record { orderly = due.orderly; deals = due.deals; free = due.free })
     (calls_follow made kind ks past orderly free)
@@ -82,35 +92,42 @@ told_stopped h by e t = record { orderly = (t.free, t.orderly); told = t.told; f
 
 -- ---- its turn
 
-survey_free : (made : WorkerMade) (now : ℕ) (a : Result Reply Refusal) (w : WorkerState) → w.waiting ≡ None → (after_survey made now a w).waiting ≡ None
+survey_free : (made : WorkerMade) (now : ℕ) (a : Result Reply Refusal) (w : WorkerState) → w.waiting ≡ None
+    → (after_survey made now a w).waiting ≡ None
 survey_free made now (Ok (reply.Survey shards rows)) w h = h
 survey_free made now _ w h = h
 
-take_free : (made : WorkerMade) (now : ℕ) (step : TakeStep) (a : Result Reply Refusal) (w : WorkerState) → w.waiting ≡ None → (after_take made now step a w).waiting ≡ None
+take_free : (made : WorkerMade) (now : ℕ) (step : TakeStep) (a : Result Reply Refusal) (w : WorkerState)
+    → w.waiting ≡ None → (after_take made now step a w).waiting ≡ None
 take_free made now step (Ok (reply.Taken tenure counter start)) w h = h
 take_free made now step _ w h = h
 
-renewal_free : (now : ℕ) (held : Held) (a : Result Reply Refusal) (w : WorkerState) → w.waiting ≡ None → (after_renewal now held a w).waiting ≡ None
+renewal_free : (now : ℕ) (held : Held) (a : Result Reply Refusal) (w : WorkerState) → w.waiting ≡ None
+    → (after_renewal now held a w).waiting ≡ None
 renewal_free now held (Ok (reply.Counter counter)) w h = h
 renewal_free now held _ w h = h
 
-chore_free : (made : WorkerMade) (now : ℕ) (a : Result Reply Refusal) (chore : Chore) (w : WorkerState) → w.waiting ≡ None → (after_chore made now a chore w).waiting ≡ None
+chore_free : (made : WorkerMade) (now : ℕ) (a : Result Reply Refusal) (chore : Chore) (w : WorkerState)
+    → w.waiting ≡ None → (after_chore made now a chore w).waiting ≡ None
 chore_free made now a Surveying w h = survey_free made now a w h
 chore_free made now a (Taking step takes) w h = take_free made now step a _ h
 chore_free made now a (Renewing held) w h = renewal_free now held a _ h
 chore_free made now a _ w h = h
 
 -- an answer that was waited for leaves none that is
-absorbed_free : (made : WorkerMade) (now : ℕ) (a : Result Reply Refusal) (w : WorkerState) (p : Pending) → w.waiting ≡ Some p → (absorbed made now a w w.waiting).waiting ≡ None
+absorbed_free : (made : WorkerMade) (now : ℕ) (a : Result Reply Refusal) (w : WorkerState) (p : Pending)
+    → w.waiting ≡ Some p → (absorbed made now a w w.waiting).waiting ≡ None
 absorbed_free made now a w p is =
     ap (λ o. (absorbed made now a w o).waiting) is ∙ chore_free made now a p.chore (record w { waiting = None }) refl
 
-pending_by : (b : Bool) (o : Option Pending) (what : Command) → (if b then None else option_map (λ p. p.what) o) ≡ Some what → (p : Pending) × (o ≡ Some p) × (p.what ≡ what)
+pending_by : (b : Bool) (o : Option Pending) (what : Command) → (if b then None else option_map (λ p. p.what) o)
+    ≡ Some what → (p : Pending) × (o ≡ Some p) × (p.what ≡ what)
 pending_by true o what h = absurd cc
 pending_by false None what h = absurd cc
 pending_by false (Some p) what h = (p, refl, cc)
 
-told_answered : (h : List Turn) (at by : ℕ) (e : Employed) (what : Command) → command_at at e ≡ Some what → IsTold h by e
+told_answered : (h : List Turn) (at by : ℕ) (e : Employed) (what : Command) → command_at at e ≡ Some what
+    → IsTold h by e
     → IsTold (raw_turn at by what ∷ h) by (answered at (answer h (raw_turn at by what)) e)
 told_answered h at by e what next t =
     let turn = raw_turn at by what in
@@ -118,8 +135,10 @@ told_answered h at by e what next t =
     let p = pending_by (is_idle (state_of e)) (next_pending e.made at (state_of e)) what next in
     let own : deals_of by (turn ∷ h) ≡ record { what = what; answer = a } ∷ deals_of by h =
     ap (λ b. if b then record { what = what; answer = a } ∷ deals_of by h else deals_of by h) (is_itself by) in
-    let dealt : joint_deals e.made (answered at a e).past ≡ record { what = what; answer = a } ∷ joint_deals e.made e.past =
-    ap (λ o. with_deal o a (joint_deals e.made e.past)) p.1 ∙ ap (λ c. record { what = c; answer = a } ∷ joint_deals e.made e.past) p.2 in
+    let dealt : joint_deals e.made (answered at a e).past ≡ record { what = what; answer = a }
+    ∷ joint_deals e.made e.past =
+    ap (λ o. with_deal o a (joint_deals e.made e.past)) p.1
+    ∙ ap (λ c. record { what = c; answer = a } ∷ joint_deals e.made e.past) p.2 in
     record {
       orderly = (tt, (t.free, t.orderly));
       told = own ∙ ap (λ deals. record { what = what; answer = a } ∷ deals) t.told ∙ sym dealt;
@@ -128,21 +147,25 @@ told_answered h at by e what next t =
 
 -- ---- a hand-off of what it releases
 
-told_handed : (h : List Turn) (at by : ℕ) (key : ShardRef) (e : Employed) (r : Release) → released key (state_of e) ≡ Some r → IsTold h by e
-    → IsTold (hand_run at by h (hand_of r [])).history by (record e { past = with_hand key (hand_run at by h (hand_of r [])).hand.since e.made e.past })
+told_handed : (h : List Turn) (at by : ℕ) (key : ShardRef) (e : Employed) (r : Release)
+    → released key (state_of e) ≡ Some r → IsTold h by e
+    → IsTold (hand_run at by h (hand_of r [])).history by
+    (record e { past = with_hand key (hand_run at by h (hand_of r [])).hand.since e.made e.past })
 told_handed h at by key e r which t =
     let since = (hand_run at by h (hand_of r [])).hand.since in
     let k = run_tells at by key e.made e.past r which h (record { orderly = (t.free, t.orderly); told = t.told }) in
     record {
       orderly = k.orderly;
       told = k.told;
-      free = ap (λ p. (worker_after e.made p).waiting) (worker_past_hand key since e.made e.past) ∙ released_free (released key (state_of e)) (state_of e)
+      free = ap (λ p. (worker_after e.made p).waiting) (worker_past_hand key since e.made e.past)
+          ∙ released_free (released key (state_of e)) (state_of e)
           t.free;
     }
 
 -- ---- a turn of another
 
-told_on : (by : ℕ) (turn : Turn) (h : List Turn) (e : Employed) → (turn.by == by) ≡ false → IsTold h by e → IsTold (turn ∷ h) by e
+told_on : (by : ℕ) (turn : Turn) (h : List Turn) (e : Employed) → (turn.by == by) ≡ false → IsTold h by e
+    → IsTold (turn ∷ h) by e
 told_on by turn h e other t = record { orderly = t.orderly; told = others_turn by turn h other ∙ t.told; free = t.free }
 
 below : (by place : ℕ) → by ≤ MOST_ACTOR → (by == actor_at place) ≡ false
@@ -156,7 +179,8 @@ apart p q h = by_test (actor_at p == actor_at q) refl
     by_test true is = absurd (h (grind (arith, nat_tests)))
 
 -- a turn of no worker
-outer : (ran : Ran) (turn : Turn) → turn.by ≤ MOST_ACTOR → AreTold ran → AreTold (record ran { history = turn ∷ ran.history })
+outer : (ran : Ran) (turn : Turn) → turn.by ≤ MOST_ACTOR → AreTold ran
+    → AreTold (record ran { history = turn ∷ ran.history })
 outer ran turn low t = record {
   each = λ place e is. told_on (actor_at place) turn ran.history e (below turn.by place low) (t.each place e is);
   later = λ place past. others_turn (actor_at place) turn ran.history (below turn.by place low) ∙ t.later place past;
@@ -165,19 +189,22 @@ outer ran turn low t = record {
 -- ---- one of them changes
 
 -- what stands at a place then
-got_with : (es : List Employed) (p q : ℕ) (x e : Employed) → slice_get (slice_set es p x) q ≡ Some e → ((p ≡ q) × (x ≡ e)) ⊎ ((p ≡ q → ⊥) × (slice_get es q ≡ Some e))
+got_with : (es : List Employed) (p q : ℕ) (x e : Employed) → slice_get (slice_set es p x) q ≡ Some e
+    → ((p ≡ q) × (x ≡ e)) ⊎ ((p ≡ q → ⊥) × (slice_get es q ≡ Some e))
 got_with [] p q x e is = absurd cc
 got_with (d ∷ es) zero zero x e is = inl (refl, cc)
 got_with (d ∷ es) zero (suc q) x e is = inr ((λ h. absurd cc), is)
 got_with (d ∷ es) (suc p) zero x e is = inr ((λ h. absurd cc), is)
 got_with (d ∷ es) (suc p) (suc q) x e is = on (got_with es p q x e is)
   where
-    on : ((p ≡ q) × (x ≡ e)) ⊎ ((p ≡ q → ⊥) × (slice_get es q ≡ Some e)) → ((suc p ≡ suc q) × (x ≡ e)) ⊎ ((suc p ≡ suc q → ⊥) × (slice_get es q ≡ Some e))
+    on : ((p ≡ q) × (x ≡ e)) ⊎ ((p ≡ q → ⊥) × (slice_get es q ≡ Some e)) → ((suc p ≡ suc q) × (x ≡ e))
+        ⊎ ((suc p ≡ suc q → ⊥) × (slice_get es q ≡ Some e))
     on (inl h) = inl (ap suc h.0, h.1)
     on (inr h) = inr ((λ same. h.0 (ap pred same)), h.1)
 
 -- what holds of the one that changed, and of the others still
-changed : (h : List Turn) (es : List Employed) (p : ℕ) (x : Employed) → IsTold h (actor_at p) x → ((q : ℕ) (e : Employed) → (p ≡ q → ⊥) → slice_get es q ≡ Some e → IsTold h (actor_at q) e)
+changed : (h : List Turn) (es : List Employed) (p : ℕ) (x : Employed) → IsTold h (actor_at p) x
+    → ((q : ℕ) (e : Employed) → (p ≡ q → ⊥) → slice_get es q ≡ Some e → IsTold h (actor_at q) e)
     → (place : ℕ) (e : Employed) → slice_get (slice_set es p x) place ≡ Some e → IsTold h (actor_at place) e
 changed h es p x own others place e is = on (got_with es p place x e is)
   where
@@ -186,27 +213,32 @@ changed h es p x own others place e is = on (got_with es p place x e is)
     on (inr other) = others place e other.0 other.1
 
 -- its record alone
-kept : (ran : Ran) (p : ℕ) (x : Employed) → AreTold ran → IsTold ran.history (actor_at p) x → AreTold (record ran { workers = slice_set ran.workers p x })
+kept : (ran : Ran) (p : ℕ) (x : Employed) → AreTold ran → IsTold ran.history (actor_at p) x
+    → AreTold (record ran { workers = slice_set ran.workers p x })
 kept ran p x t own = record {
   each = changed ran.history ran.workers p x own (λ q e other is. t.each q e is);
   later = λ place past. t.later place (omega (arith, past, length-set ran.workers p x));
 }
 
 -- and its turn ran
-turned : (ran : Ran) (turn : Turn) (p : ℕ) (x : Employed) → turn.by ≡ actor_at p → p < length ran.workers → AreTold ran → IsTold (turn ∷ ran.history) (actor_at p) x
+turned : (ran : Ran) (turn : Turn) (p : ℕ) (x : Employed) → turn.by ≡ actor_at p → p < length ran.workers → AreTold ran
+    → IsTold (turn ∷ ran.history) (actor_at p) x
     → AreTold (record { history = turn ∷ ran.history; workers = slice_set ran.workers p x })
 turned ran turn p x by lt t own = record {
-  each = changed (turn ∷ ran.history) ran.workers p x own (λ q e other is. told_on (actor_at q) turn ran.history e (differs q other) (t.each q e is));
+  each = changed (turn ∷ ran.history) ran.workers p x own (λ q e other is.
+      told_on (actor_at q) turn ran.history e (differs q other) (t.each q e is));
   later = λ place past.
       let beyond : length ran.workers ≤ place = omega (arith, past, length-set ran.workers p x) in
-      others_turn (actor_at place) turn ran.history (differs place (λ same. absurd (omega (arith, same, lt, beyond)))) ∙ t.later place beyond;
+      others_turn (actor_at place) turn ran.history (differs place (λ same. absurd (omega (arith, same, lt, beyond))))
+      ∙ t.later place beyond;
 }
   where
     differs : (q : ℕ) → (p ≡ q → ⊥) → (turn.by == actor_at q) ≡ false
     differs q other = ap (λ n. n == actor_at q) by ∙ apart p q other
 
 -- and its hand-off ran
-handed : (ran : Ran) (h : List Turn) (p : ℕ) (x : Employed) → p < length ran.workers → AreTold ran → IsTold h (actor_at p) x
+handed : (ran : Ran) (h : List Turn) (p : ℕ) (x : Employed) → p < length ran.workers → AreTold ran
+    → IsTold h (actor_at p) x
     → ((q : ℕ) → (p ≡ q → ⊥) → deals_of (actor_at q) h ≡ deals_of (actor_at q) ran.history)
     → AreTold (record { history = h; workers = slice_set ran.workers p x })
 handed ran h p x lt t own others = record {
@@ -221,7 +253,8 @@ handed ran h p x lt t own others = record {
 -- ---- lines
 
 -- the worker of an actor stands at his place
-placed_by : (low : Bool) (by : ℕ) (es : List Employed) (e : Employed) → nat_le by MOST_ACTOR ≡ low → (if low then None else slice_get es (place_of by)) ≡ Some e
+placed_by : (low : Bool) (by : ℕ) (es : List Employed) (e : Employed) → nat_le by MOST_ACTOR ≡ low
+    → (if low then None else slice_get es (place_of by)) ≡ Some e
     → (by ≡ actor_at (place_of by)) × (slice_get es (place_of by) ≡ Some e)
 placed_by true by es e l is = absurd cc
 placed_by false by es e l is = (high by l, is)
@@ -229,18 +262,23 @@ placed_by false by es e l is = (high by l, is)
     high : (n : ℕ) → nat_le n MOST_ACTOR ≡ false → n ≡ actor_at (place_of n)
     high n h = grind (arith, nat_tests)
 
-placed : (by : ℕ) (es : List Employed) (e : Employed) → employed_by by es ≡ Some e → (by ≡ actor_at (place_of by)) × (slice_get es (place_of by) ≡ Some e)
+placed : (by : ℕ) (es : List Employed) (e : Employed) → employed_by by es ≡ Some e → (by ≡ actor_at (place_of by))
+    × (slice_get es (place_of by) ≡ Some e)
 placed by es e is = placed_by (nat_le by MOST_ACTOR) by es e refl is
 
-command_told : (ran : Ran) (at by : ℕ) (e : Employed) (o : Option Command) → command_at at e ≡ o → by ≡ actor_at (place_of by) → place_of by < length ran.workers → AreTold ran
+command_told : (ran : Ran) (at by : ℕ) (e : Employed) (o : Option Command) → command_at at e ≡ o
+    → by ≡ actor_at (place_of by) → place_of by < length ran.workers → AreTold ran
     → IsTold ran.history by e → AreTold (with_command ran at by e o)
-command_told ran at by e None next own lt t told = kept ran (place_of by) e t (subst (λ n. IsTold ran.history n e) own told)
+command_told ran at by e None next own lt t told =
+    kept ran (place_of by) e t (subst (λ n. IsTold ran.history n e) own told)
 command_told ran at by e (Some what) next own lt t told =
     let turn = raw_turn at by what in
     turned ran turn (place_of by) (answered at (answer ran.history turn) e) own lt t
-    (subst (λ n. IsTold (turn ∷ ran.history) n (answered at (answer ran.history turn) e)) own (told_answered ran.history at by e what next told))
+    (subst (λ n. IsTold (turn ∷ ran.history) n (answered at (answer ran.history turn) e)) own
+    (told_answered ran.history at by e what next told))
 
-step_told : (ran : Ran) (at by : ℕ) (o : Option Employed) → employed_by by ran.workers ≡ o → AreTold ran → AreTold (with_step ran at by o)
+step_told : (ran : Ran) (at by : ℕ) (o : Option Employed) → employed_by by ran.workers ≡ o → AreTold ran
+    → AreTold (with_step ran at by o)
 step_told ran at by None is t = t
 step_told ran at by (Some e) is t =
     let p = placed by ran.workers e is in
@@ -248,44 +286,53 @@ step_told ran at by (Some e) is t =
     command_told ran at by (all_called e) (command_at at (all_called e)) refl p.0
     (slice_get_within ran.workers (place_of by) e p.1) t (told_called ran.history by e told)
 
-stop_told : (ran : Ran) (by : ℕ) (o : Option Employed) → employed_by by ran.workers ≡ o → AreTold ran → AreTold (with_stop ran by o)
+stop_told : (ran : Ran) (by : ℕ) (o : Option Employed) → employed_by by ran.workers ≡ o → AreTold ran
+    → AreTold (with_stop ran by o)
 stop_told ran by None is t = t
 stop_told ran by (Some e) is t =
     let p = placed by ran.workers e is in
-    kept ran (place_of by) (stopped e) t (told_stopped ran.history (actor_at (place_of by)) e (t.each (place_of by) e p.1))
+    kept ran (place_of by) (stopped e) t
+    (told_stopped ran.history (actor_at (place_of by)) e (t.each (place_of by) e p.1))
 
-release_told : (ran : Ran) (at by : ℕ) (key : ShardRef) (e : Employed) (o : Option Release) → release_by key (Some e) ≡ o → by ≡ actor_at (place_of by)
+release_told : (ran : Ran) (at by : ℕ) (key : ShardRef) (e : Employed) (o : Option Release)
+    → release_by key (Some e) ≡ o → by ≡ actor_at (place_of by)
     → place_of by < length ran.workers → AreTold ran
     → IsTold ran.history by e → AreTold (with_release ran at by key e o)
 release_told ran at by key e None which own lt t told = t
 release_told ran at by key e (Some r) which own lt t told =
     let run = hand_run at by ran.history (hand_of r []) in
     let x : Employed = record e { past = with_hand key run.hand.since e.made e.past } in
-    handed ran run.history (place_of by) x lt t (subst (λ n. IsTold run.history n x) own (told_handed ran.history at by key e r which told))
+    handed ran run.history (place_of by) x lt t
+    (subst (λ n. IsTold run.history n x) own (told_handed ran.history at by key e r which told))
     (λ q other. of_another_run 3 at by (actor_at q) (λ h what. others_turn (actor_at q) (turn_of at by what) h
     (ap (λ n. n == actor_at q) own ∙ apart (place_of by) q other)) ran.history (hand_of r []))
 
-hand_told : (ran : Ran) (at by : ℕ) (key : ShardRef) (o : Option Employed) → employed_by by ran.workers ≡ o → AreTold ran
+hand_told : (ran : Ran) (at by : ℕ) (key : ShardRef) (o : Option Employed) → employed_by by ran.workers ≡ o
+    → AreTold ran
     → AreTold (with_handed ran at by key o)
 hand_told ran at by key None is t = t
 hand_told ran at by key (Some e) is t =
     let p = placed by ran.workers e is in
     let told = subst (λ n. IsTold ran.history n e) (sym p.0) (t.each (place_of by) e p.1) in
-    release_told ran at by key e (release_by key (Some e)) refl p.0 (slice_get_within ran.workers (place_of by) e p.1) t told
+    release_told ran at by key e (release_by key (Some e)) refl p.0 (slice_get_within ran.workers (place_of by) e p.1)
+    t told
 
 -- what stands at a place with one more
-got_more : (es : List Employed) (x : Employed) (q : ℕ) (e : Employed) → slice_get (es ++ x ∷ []) q ≡ Some e → ((q ≡ length es) × (x ≡ e)) ⊎ (slice_get es q ≡ Some e)
+got_more : (es : List Employed) (x : Employed) (q : ℕ) (e : Employed) → slice_get (es ++ x ∷ []) q ≡ Some e
+    → ((q ≡ length es) × (x ≡ e)) ⊎ (slice_get es q ≡ Some e)
 got_more [] x zero e is = inl (refl, cc)
 got_more [] x (suc q) e is = absurd cc
 got_more (d ∷ es) x zero e is = inr is
 got_more (d ∷ es) x (suc q) e is = on (got_more es x q e is)
   where
-    on : ((q ≡ length es) × (x ≡ e)) ⊎ (slice_get es q ≡ Some e) → ((suc q ≡ suc (length es)) × (x ≡ e)) ⊎ (slice_get es q ≡ Some e)
+    on : ((q ≡ length es) × (x ≡ e)) ⊎ (slice_get es q ≡ Some e) → ((suc q ≡ suc (length es)) × (x ≡ e))
+        ⊎ (slice_get es q ≡ Some e)
     on (inl h) = inl (ap suc h.0, h.1)
     on (inr h) = inr h
 
 -- a new worker made no turn
-hired_told : (ran : Ran) (name : ℕ) (kind : Kind) (from : Origin) → AreTold ran → AreTold (record ran { workers = ran.workers ++ hired name kind from ∷ [] })
+hired_told : (ran : Ran) (name : ℕ) (kind : Kind) (from : Origin) → AreTold ran
+    → AreTold (record ran { workers = ran.workers ++ hired name kind from ∷ [] })
 hired_told ran name kind from t = record {
   each = λ place e is. on place e (got_more ran.workers (hired name kind from) place e is);
   later = λ place past. t.later place (omega (arith, past, length_push ran.workers (hired name kind from)));
@@ -294,11 +341,13 @@ hired_told ran name kind from t = record {
     none : (place : ℕ) → place ≡ length ran.workers → IsTold ran.history (actor_at place) (hired name kind from)
     none place is = record { orderly = tt; told = t.later place (omega (arith, is)); free = refl }
 
-    on : (place : ℕ) (e : Employed) → ((place ≡ length ran.workers) × (hired name kind from ≡ e)) ⊎ (slice_get ran.workers place ≡ Some e) → IsTold ran.history (actor_at place) e
+    on : (place : ℕ) (e : Employed) → ((place ≡ length ran.workers) × (hired name kind from ≡ e))
+        ⊎ (slice_get ran.workers place ≡ Some e) → IsTold ran.history (actor_at place) e
     on place e (inl h) = subst (IsTold ran.history (actor_at place)) h.1 (none place h.0)
     on place e (inr h) = t.each place e h
 
-request_told : (ran : Ran) (at : ℕ) (r : Result Command Fault) → AreTold ran → AreTold (record ran { history = requested ran.history at r })
+request_told : (ran : Ran) (at : ℕ) (r : Result Command Fault) → AreTold ran
+    → AreTold (record ran { history = requested ran.history at r })
 request_told ran at (Ok what) t = outer ran (request_turn at what) (omega arith) t
 request_told ran at (Err f) t = t
 
@@ -317,7 +366,8 @@ schedule_told ran (l ∷ ls) are t = schedule_told (with_line ran l) ls are.1 (l
 -- each worker of a schedule is told
 all_told : (ls : List Line) → AllByRecursion IsLine ls → AreTold (with_schedule fresh ls)
 all_told ls are =
-    let none : AreTold fresh = record { each = λ place e is. absurd (nothing place e is); later = λ place past. refl } in
+    let none : AreTold fresh =
+    record { each = λ place e is. absurd (nothing place e is); later = λ place past. refl } in
     schedule_told fresh ls are none
   where
     nothing : (place : ℕ) (e : Employed) → slice_get fresh.workers place ≡ Some e → ⊥
@@ -325,28 +375,36 @@ all_told ls are =
 
 -- what is known of one worker holds of all of a schedule
 abbrev pub Serves : Type 0
-Serves = (by : ℕ) (h : List Turn) (made : WorkerMade) (past : JointPast) → AreOrderly made past → AreToldIn by h made past → AreServed by h made past
+Serves = (by : ℕ) (h : List Turn) (made : WorkerMade) (past : JointPast) → AreOrderly made past
+    → AreToldIn by h made past → AreServed by h made past
 
 pub all_served : Serves → (ls : List Line) → AllByRecursion IsLine ls → AreAllServed (with_schedule fresh ls)
 all_served serves ls are =
     let t = all_told ls are in
-    λ place e is. serves (actor_at place) (with_schedule fresh ls).history e.made e.past (t.each place e is).orderly (t.each place e is).told
+    λ place e is. serves (actor_at place) (with_schedule fresh ls).history e.made e.past (t.each place e is).orderly
+    (t.each place e is).told
 
 abbrev pub Hands : Type 0
-Hands = (by : ℕ) (h : List Turn) (made : WorkerMade) (past : JointPast) → IsHistory h → AreOrderly made past → AreToldIn by h made past
+Hands = (by : ℕ) (h : List Turn) (made : WorkerMade) (past : JointPast) → IsHistory h → AreOrderly made past
+    → AreToldIn by h made past
     → AllByRecursion (IsHandedOffIfFreed by h) (hands_after made past)
 
-pub all_handed : Hands → (ls : List Line) → AllByRecursion IsLine ls → IsHistory (with_schedule fresh ls).history → AreHandedOff (with_schedule fresh ls)
+pub all_handed : Hands → (ls : List Line) → AllByRecursion IsLine ls → IsHistory (with_schedule fresh ls).history
+    → AreHandedOff (with_schedule fresh ls)
 all_handed hands ls are lawful =
     let t = all_told ls are in
-    λ place e is. hands (actor_at place) (with_schedule fresh ls).history e.made e.past lawful (t.each place e is).orderly (t.each place e is).told
+    λ place e is. hands (actor_at place) (with_schedule fresh ls).history e.made e.past lawful
+    (t.each place e is).orderly (t.each place e is).told
 
 abbrev pub ReadsOnce : Type 0
-ReadsOnce = (by : ℕ) (h before : List Turn) (made : WorkerMade) (past : JointPast) → IsHistory h → IsHistory before → AreOrderly made past
+ReadsOnce = (by : ℕ) (h before : List Turn) (made : WorkerMade) (past : JointPast) → IsHistory h → IsHistory before
+    → AreOrderly made past
     → AreToldIn by before made past → AllByRecursion (IsNeverReadAgain by h before) (hands_after made past)
 
-pub all_read_once : ReadsOnce → (h : List Turn) (ls : List Line) → AllByRecursion IsLine ls → IsHistory h → IsHistory (with_schedule fresh ls).history
+pub all_read_once : ReadsOnce → (h : List Turn) (ls : List Line) → AllByRecursion IsLine ls → IsHistory h
+    → IsHistory (with_schedule fresh ls).history
     → AreNeverReadAgain h (with_schedule fresh ls)
 all_read_once once h ls are whole first =
     let t = all_told ls are in
-    λ place e is. once (actor_at place) h (with_schedule fresh ls).history e.made e.past whole first (t.each place e is).orderly (t.each place e is).told
+    λ place e is. once (actor_at place) h (with_schedule fresh ls).history e.made e.past whole first
+    (t.each place e is).orderly (t.each place e is).told

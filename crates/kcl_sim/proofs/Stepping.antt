@@ -21,39 +21,48 @@ no_some None h = refl
 no_some (Some x) h = absurd cc
 
 -- a call that was due was made
-pub called_on : (old new : Stepped) (e d : Employed) → new.made ≡ old.made → new.maker ≡ old.maker → AddsCall Calls (λ batch a. a ≡ asked_of old.maker batch) old new
+pub called_on : (old new : Stepped) (e d : Employed) → new.made ≡ old.made → new.maker ≡ old.maker
+    → AddsCall Calls (λ batch a. a ≡ asked_of old.maker batch) old new
     → Employs old d → all_called d ≡ all_called e → (f : Employed) × Employs new f × (all_called f ≡ all_called e)
 called_on old new e d made maker adds s same =
     let r = adds (worker_past d.past) s.stands in
     let k = ask_of old.maker d.kind s.kind (due_known (worker_after old.made (worker_past d.past))) r.0 r.1 in
-    let is : due_known (state_of d) ≡ Some k.0 = ap (λ m. due_known (worker_after m (worker_past d.past))) (sym s.made) ∙ k.1 in (
+    let is : due_known (state_of d) ≡ Some k.0 = ap (λ m. due_known (worker_after m (worker_past d.past))) (sym s.made)
+    ∙ k.1 in (
       record d { past = Of_worker (Made_call r.0) ∷ d.past },
       record { made = made ∙ s.made; kind = λ batch. ap (λ m. asked_of m batch) maker ∙ s.kind batch; stands = r.2 },
       one_called d k.0 r.0 is k.2 ∙ same,
     )
 
 -- no call is due any more
-pub all_done : (w : Stepped) (e d : Employed) → due_in w.consumers ≡ None → Employs w d → all_called d ≡ all_called e → Employs w (all_called e)
+pub all_done : (w : Stepped) (e d : Employed) → due_in w.consumers ≡ None → Employs w d → all_called d ≡ all_called e
+    → Employs w (all_called e)
 all_done w e d none s same =
-    let quiet = none_due Calls w.consumers (worker_after w.made (worker_past d.past)).consumers none s.stands.shows.consumers in
-    let is : due_known (state_of d) ≡ None = ap (λ m. due_known (worker_after m (worker_past d.past))) (sym s.made) ∙ quiet in
+    let quiet = none_due Calls w.consumers (worker_after w.made (worker_past d.past)).consumers none
+    s.stands.shows.consumers in
+    let is : due_known (state_of d) ≡ None = ap (λ m. due_known (worker_after m (worker_past d.past))) (sym s.made)
+    ∙ quiet in
     subst (Employs w) (sym (all_made d is) ∙ same) s
 
 -- an idle worker gives no command
 pub idle_command : (w : Stepped) (e : Employed) (at : ℕ) → is_idle_in w ≡ true → Employs w e → command_at at e ≡ None
 idle_command w e at idle s =
     let is : is_idle (state_of e) ≡ true =
-    ap (λ m. is_idle (worker_after m (worker_past e.past))) (sym s.made) ∙ sym (idle_same Calls w (worker_past e.past) s.stands) ∙ idle in
+    ap (λ m. is_idle (worker_after m (worker_past e.past))) (sym s.made)
+    ∙ sym (idle_same Calls w (worker_past e.past) s.stands) ∙ idle in
     ap (λ b. if b then None else option_map (λ p. p.what) (next_pending e.made at (state_of e))) is
 
 -- another gives the one that comes next
-pub next_command : (old new : Stepped) (e : Employed) (at : ℕ) (what : Command) → is_idle_in old ≡ false → new.made ≡ old.made → new.maker ≡ old.maker → AddsCommand Calls old new at what → Employs old e
+pub next_command : (old new : Stepped) (e : Employed) (at : ℕ) (what : Command) → is_idle_in old ≡ false
+    → new.made ≡ old.made → new.maker ≡ old.maker → AddsCommand Calls old new at what → Employs old e
     → (command_at at e ≡ Some what) × HasAsked at new e
 next_command old new e at what busy made maker adds s =
     let r = adds (worker_past e.past) s.stands in
     let is : is_idle (state_of e) ≡ false =
-    ap (λ m. is_idle (worker_after m (worker_past e.past))) (sym s.made) ∙ sym (idle_same Calls old (worker_past e.past) s.stands) ∙ busy in
-    let next : next_pending e.made at (state_of e) ≡ Some r.0 = ap (λ m. next_pending m at (worker_after m (worker_past e.past))) (sym s.made) ∙ r.1 in (
+    ap (λ m. is_idle (worker_after m (worker_past e.past))) (sym s.made)
+    ∙ sym (idle_same Calls old (worker_past e.past) s.stands) ∙ busy in
+    let next : next_pending e.made at (state_of e) ≡ Some r.0 =
+    ap (λ m. next_pending m at (worker_after m (worker_past e.past))) (sym s.made) ∙ r.1 in (
       ap (λ b. if b then None else option_map (λ p. p.what) (next_pending e.made at (state_of e))) is
           ∙ ap (option_map (λ p. p.what)) next ∙ ap Some r.2,
       record { made = made ∙ s.made; kind = λ batch. ap (λ m. asked_of m batch) maker ∙ s.kind batch; stands = r.3 },
@@ -61,7 +70,8 @@ next_command old new e at what busy made maker adds s =
 
 -- its answer was taken
 pub answer_on : (old new : Stepped) (e : Employed) (at : ℕ) (answer : Result Reply Refusal) → new.made ≡ old.made
-    → AllowsSame (λ batch a. a ≡ asked_of new.maker batch) (λ batch a. a ≡ asked_of old.maker batch) → AddsAnswer Calls old new at answer → HasAsked at old e → Employs new (answered at answer e)
+    → AllowsSame (λ batch a. a ≡ asked_of new.maker batch) (λ batch a. a ≡ asked_of old.maker batch)
+    → AddsAnswer Calls old new at answer → HasAsked at old e → Employs new (answered at answer e)
 answer_on old new e at answer made same adds s =
     record {
       made = made ∙ s.made;
@@ -69,6 +79,11 @@ answer_on old new e at answer made same adds s =
       stands = adds (Gave_command at ∷ worker_past e.past) s.stands;
     }
 
-pub stop_on : (old new : Stepped) (e : Employed) → new.made ≡ old.made → new.maker ≡ old.maker → AddsStop Calls old new → Employs old e → Employs new (stopped e)
+pub stop_on : (old new : Stepped) (e : Employed) → new.made ≡ old.made → new.maker ≡ old.maker → AddsStop Calls old new
+    → Employs old e → Employs new (stopped e)
 stop_on old new e made maker adds s =
-    record { made = made ∙ s.made; kind = λ batch. ap (λ m. asked_of m batch) maker ∙ s.kind batch; stands = adds (worker_past e.past) s.stands }
+    record {
+      made = made ∙ s.made;
+      kind = λ batch. ap (λ m. asked_of m batch) maker ∙ s.kind batch;
+      stands = adds (worker_past e.past) s.stands;
+    }

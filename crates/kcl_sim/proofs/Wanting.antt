@@ -13,7 +13,8 @@ none_wanted true = refl
 none_wanted false = refl
 
 -- where they are, the text was added
-pub said : (wanted : Bool) (text before after : List ℕ) → true ≡ wanted → after ≡ before ++ text → after ≡ before ++ if_wanted wanted text
+pub said : (wanted : Bool) (text before after : List ℕ) → true ≡ wanted → after ≡ before ++ text
+    → after ≡ before ++ if_wanted wanted text
 said wanted text before after is wrote = wrote ∙ ap (λ w. before ++ if_wanted w text) is
 
 -- where they aren't, nothing was

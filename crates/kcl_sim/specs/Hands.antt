@@ -34,7 +34,8 @@ abbrev pub ComesNext : Handing → Command → Type 0
 ComesNext v what = (x : HandOff) → IsHandOf v x → hand_command x.held x.made (state_of x) ≡ Some what
 
 -- the command that comes next ran and was answered, and the call that was due then was made
-pub record MadeRound (wanted : Bool) (at by : ℕ) (old new : SimValue) (v w : Handing) (before after : List ℕ) : Type 0 where
+pub record MadeRound (wanted : Bool) (at by : ℕ) (old new : SimValue) (v w : Handing) (before after : List ℕ) :
+    Type 0 where
   pub what : Command
   pub next : ComesNext v what
   pub history : new.history ≡ raw_turn at by what ∷ old.history
@@ -48,9 +49,11 @@ pub record RanCommand (at by : ℕ) (old new : SimValue) (v : Handing) : Type 0 
   pub history : new.history ≡ raw_turn at by what ∷ old.history
 
 -- it ran to its end, and its line of output was added, where answers are wanted
-pub record RanToEnd (wanted : Bool) (at by : ℕ) (old new : SimValue) (v : Handing) (before after : List ℕ) : Type 0 where
+pub record RanToEnd (wanted : Bool) (at by : ℕ) (old new : SimValue) (v : Handing) (before after : List ℕ) :
+    Type 0 where
   pub history : (x : HandOff) → IsHandOf v x → new.history ≡ (hand_run at by old.history x).history
-  pub wrote : (x : HandOff) → IsHandOf v x → after ≡ before ++ if_wanted wanted (run_text (hand_run at by old.history x))
+  pub wrote : (x : HandOff) → IsHandOf v x
+      → after ≡ before ++ if_wanted wanted (run_text (hand_run at by old.history x))
 
 -- memory ran out: the first so many of its turns ran
 pub record RanFirst (at by : ℕ) (old new : SimValue) (v : Handing) : Type 0 where

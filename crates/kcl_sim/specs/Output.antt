@@ -1,5 +1,6 @@
 -- What a line of a schedule makes of a run, and what it adds to the output.
-use Rattle.std.specs.Prelude.{ℕ, List, [], ◌∷◌, ◌++◌, codes, decimal, length, Bool, false, Option, Some, None, option_map, Result, Ok, Err}
+use Rattle.std.specs.Prelude.{ℕ, List, [], ◌∷◌, ◌++◌, codes, decimal, length, Bool, false, Option, Some, None}
+use Rattle.std.specs.Prelude.{option_map, Result, Ok, Err}
 use Rattle.kds_base.specs.declared.lease_key.ShardRef.{ShardRef}
 use Rattle.kds_defs.specs.declared.command.Turn.{Turn}
 use Rattle.kds_defs.specs.declared.command.Command.{Command}
@@ -19,7 +20,8 @@ use Rattle.kcl_script_fields.specs.Answers.{answer_text}
 use Rattle.kcl_script_fields.specs.Commands.{command_text}
 use Rattle.kcl_script.specs.declared.line.Line.{Line}
 use Rattle.kcl_script.specs.declared.line.Line.TheVariants.{Api, Hand, Raw, Step, Stop, Worker}
-use Rattle.kcl_sim.specs.Workers.{Employed, actor_at, all_called, answered, command_at, employed_by, hired, release_by, stopped, with_employed}
+use Rattle.kcl_sim.specs.Workers.{Employed, actor_at, all_called, answered, command_at, employed_by, hired, release_by}
+use Rattle.kcl_sim.specs.Workers.{stopped, with_employed}
 
 -- a space and the body, unless it is empty
 abbrev pub body_part : List ℕ → List ℕ
@@ -101,10 +103,12 @@ stop_output (Some e) = codes "stopping" ++ 10 ∷ []
 
 -- ---- hand-offs
 
--- the worker released a lease of the key, and its hand-off ran: the history, and what happened to the worker and to the hand-off
+-- the worker released a lease of the key, and its hand-off ran: the history, and what happened to the worker and to the
+-- hand-off
 abbrev pub with_hand_run : Ran → ℕ → ShardRef → Employed → HandRun → Ran
 with_hand_run ran by key e run =
-    with_worker (record ran { history = run.history }) by (record e { past = with_hand key run.hand.since e.made e.past })
+    with_worker (record ran { history = run.history }) by
+    (record e { past = with_hand key run.hand.since e.made e.past })
 
 -- it runs to its end at this moment, where one is released
 abbrev pub with_release : Ran → ℕ → ℕ → ShardRef → Employed → Option Release → Ran
@@ -140,7 +144,8 @@ history_at n h at by r = (run_hand n at by h (hand_of r [])).history
 
 -- so of a line, where it is a hand-off that releases something
 abbrev pub part_of : ℕ → Ran → Line → Option (List Turn)
-part_of n ran (Hand at by key) = option_map (history_at n ran.history at by) (release_by key (employed_by by ran.workers))
+part_of n ran (Hand at by key) =
+    option_map (history_at n ran.history at by) (release_by key (employed_by by ran.workers))
 part_of n ran _ = None
 
 -- ---- lines

@@ -1,5 +1,6 @@
 -- A run as callers see it, and what it stands for.
-use Rattle.std.specs.Prelude.{◌≡◌, ◌≤◌, ◌⊎◌, ℕ, nat_le, nat_lt, if◌then◌else◌, List, [], ◌∷◌, ◌++◌, length, slice_get, slice_set, Bool, true, false, Option, Some, None}
+use Rattle.std.specs.Prelude.{◌≡◌, ◌≤◌, ◌⊎◌, ℕ, nat_le, nat_lt, if◌then◌else◌, List, [], ◌∷◌, ◌++◌, length, slice_get}
+use Rattle.std.specs.Prelude.{slice_set, Bool, true, false, Option, Some, None}
 use Rattle.kds_defs.specs.declared.command.Turn.{Turn}
 use Rattle.kds_defs.specs.declared.reply.Stored.{Stored}
 use Rattle.kcl_proc.specs.declared.stock.Kind.{Kind}
@@ -20,8 +21,8 @@ use Rattle.kcl_sim.specs.Workers.{Employed, all_called, answered, command_at, pl
 abbrev pub Stepped : Type 0
 Stepped = WorkerStanding Stock Kind
 
--- the turns that ran, the newest first, those of them that ran before the text of turns was last emptied, the workers, and whether
--- memory ran out in a step or a hand-off of one
+-- the turns that ran, the newest first, those of them that ran before the text of turns was last emptied, the workers,
+-- and whether memory ran out in a step or a hand-off of one
 pub record SimValue : Type 0 where
   pub history : List Turn
   pub told : List Turn
@@ -55,7 +56,8 @@ pub record RunsSo (s : SimValue) (ran : Ran) : Type 0 where
 
 -- ---- what a line does
 
--- the line was run after this run: its output was added, where answers are wanted, the run is that with the line, and it isn't over
+-- the line was run after this run: its output was added, where answers are wanted, the run is that with the line, and
+-- it isn't over
 pub record GoesOn (wanted : Bool) (s : SimValue) (ran : Ran) (line : Line) (before after : List ℕ) : Type 0 where
   pub made : RunsSo s (with_line ran line)
   pub wrote : after ≡ before ++ if_wanted wanted (output_of ran line)
@@ -67,7 +69,8 @@ IsTold true text ran line before after = after ≡ before ++ output_of ran line
 IsTold false text ran line before after = AddsText (text ran.history) (text (with_line ran line).history) before after
 
 -- the line was run after this run, and what is told of it was added
-pub record Tells (wanted : Bool) (text : List Turn → List ℕ) (s : SimValue) (ran : Ran) (line : Line) (before after : List ℕ) : Type 0 where
+pub record Tells (wanted : Bool) (text : List Turn → List ℕ) (s : SimValue) (ran : Ran) (line : Line)
+    (before after : List ℕ) : Type 0 where
   pub made : RunsSo s (with_line ran line)
   pub wrote : IsTold wanted text ran line before after
 
@@ -75,7 +78,8 @@ pub record Tells (wanted : Bool) (text : List Turn → List ℕ) (s : SimValue) 
 abbrev pub MayHaveRun : SimValue → Ran → Line → Type 0
 MayHaveRun s ran line = RunsSo s ran ⊎ RunsSo s (with_line ran line)
 
--- memory ran out in the middle of the line, which is a hand-off: the first so many of its turns ran, and the run is over
+-- memory ran out in the middle of the line, which is a hand-off: the first so many of its turns ran, and the run is
+-- over
 pub record HasRunPart (s : SimValue) (ran : Ran) (line : Line) : Type 0 where
   pub ran_of_it : ℕ
   pub few : ran_of_it ≤ 3
@@ -96,7 +100,8 @@ pub record GrowsFew (old new : List Turn) : Type 0 where
 
 -- the place of an actor's worker, among so many
 abbrev pub place_among : ℕ → ℕ → Option ℕ
-place_among by count = if nat_le by MOST_ACTOR then None else (if nat_lt (place_of by) count then Some (place_of by) else None)
+place_among by count =
+    if nat_le by MOST_ACTOR then None else (if nat_lt (place_of by) count then Some (place_of by) else None)
 
 -- the worker of this record was asked for a command at this moment, and waits for the answer
 pub record HasAsked (at : ℕ) (w : Stepped) (e : Employed) : Type 0 where
@@ -106,7 +111,8 @@ pub record HasAsked (at : ℕ) (w : Stepped) (e : Employed) : Type 0 where
 
 -- the worker that was asked for this command at this moment, after this history, took its answer
 abbrev pub TookAnswer : ℕ → ℕ → Command → List Turn → Stepped → Stepped → Type 0
-TookAnswer at by what h w v = IsFree v × ((e : Employed) → HasAsked at w e → Employs v (answered at (answer h (raw_turn at by what)) e))
+TookAnswer at by what h w v =
+    IsFree v × ((e : Employed) → HasAsked at w e → Employs v (answered at (answer h (raw_turn at by what)) e))
 
 -- the worker at a place became another, which has this to do with it
 pub record ChangedAt (place : ℕ) (R : Stepped → Stepped → Type 0) (old new : List Stepped) : Type 0 where
@@ -128,7 +134,9 @@ employed_after h at by (Some what) e = answered at (answer h (raw_turn at by wha
 
 -- all calls that were due were made, this command came next, or none, and its answer was taken
 abbrev pub MadeStep : ℕ → ℕ → Option Command → List Turn → Stepped → Stepped → Type 0
-MadeStep at by what h w v = IsFree v × ((e : Employed) → Employs w e → (command_at at (all_called e) ≡ what) × Employs v (employed_after h at by what e))
+MadeStep at by what h w v =
+    IsFree v × ((e : Employed) → Employs w e → (command_at at (all_called e) ≡ what)
+    × Employs v (employed_after h at by what e))
 
 -- a step of the worker at a place, which gave the command that comes next, where one does
 pub record StepsAt (wanted : Bool) (at by place : ℕ) (old new : SimValue) (before after : List ℕ) : Type 0 where

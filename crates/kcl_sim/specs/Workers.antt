@@ -1,5 +1,6 @@
 -- The workers of a run (Kinesis Client Library, scheduler), each read along what happened to it.
-use Rattle.std.specs.Prelude.{ℕ, ◌+◌, ◌-◌, nat_le, if◌then◌else◌, List, [], ◌∷◌, slice_get, slice_set, Option, Some, None, option_map, Result}
+use Rattle.std.specs.Prelude.{ℕ, ◌+◌, ◌-◌, nat_le, if◌then◌else◌, List, [], ◌∷◌, slice_get, slice_set, Option, Some}
+use Rattle.std.specs.Prelude.{None, option_map, Result}
 use Rattle.kds_base.specs.declared.lease_key.ShardRef.{ShardRef}
 use Rattle.kds_defs.specs.declared.command.Command.{Command}
 use Rattle.kds_defs.specs.declared.command.Origin.{Origin}
@@ -10,13 +11,14 @@ use Rattle.kcl_defs.specs.declared.consumer.Ask.{Ask}
 use Rattle.kcl_defs.specs.declared.consumer.Ask.TheVariants as ask
 use Rattle.kcl_defs.specs.declared.consumer.WorkerMade.{WorkerMade}
 use Rattle.kcl_defs.specs.Consumers.{Phase, Holding, first_batch}
-use Rattle.kcl_defs.specs.Workers.{Known, Release, WorkerState, Made_call, Gave_command, Got_answer, Stopped, is_due_known, is_idle, next_pending, phase_of_known, released, usual_settings}
+use Rattle.kcl_defs.specs.Workers.{Known, Release, WorkerState, Made_call, Gave_command, Got_answer, Stopped}
+use Rattle.kcl_defs.specs.Workers.{is_due_known, is_idle, next_pending, phase_of_known, released, usual_settings}
 use Rattle.kcl_hand.specs.Joints.{JointPast, Of_worker, worker_in}
 use Rattle.kcl_proc.specs.declared.stock.Kind.{Kind}
 use Rattle.kcl_proc.specs.Stocks.{asked_of}
 
--- a worker of a run: the kind of its processors, what it was made with, and what happened to it and to the hand-offs of what
--- it released, the newest first
+-- a worker of a run: the kind of its processors, what it was made with, and what happened to it and to the hand-offs of
+-- what it released, the newest first
 pub record Employed : Type 0 where
   pub kind : Kind
   pub made : WorkerMade

@@ -53,7 +53,8 @@ impl<M: Machine, K: Keep> Sim<M, K> {
         requires lease { is_service what ≡ false }
         ensures answered { IfOk result (λ a. a ≡ answer self.old.history (raw_turn at by what)) }
         ensures ran { OnOk result (self.new ≡ turned self.old (raw_turn at by what)) }
-        ensures output { OnOk result (text.new ≡ text.old ++ if_wanted K.wanted (deal_text (deal_at at by self.old.history what))) }
+        ensures output { OnOk result (text.new ≡ text.old
+            ++ if_wanted K.wanted (deal_text (deal_at at by self.old.history what))) }
         ensures breaks { OnErr result ((self.new ≡ self.old) ⊎ (self.new ≡ turned self.old (raw_turn at by what))) }
     {
         say_command::<K>(alloc, &what, text)?;
@@ -81,7 +82,8 @@ impl<M: Machine, K: Keep> Sim<M, K> {
         ensures fewer { OnOk result (turns_left_in hand.new < turns_left_in hand.old) }
         ensures none_due { OnOk result (due_call hand.new.consumer.phase ≡ None) }
         ensures made { OnOk result (MadeRound K.wanted at by self.old self.new hand.old hand.new text.old text.new) }
-        ensures breaks { OnErr result ((self.new.history ≡ self.old.history) ⊎ RanCommand at by self.old self.new hand.old) }
+        ensures breaks { OnErr result ((self.new.history ≡ self.old.history)
+            ⊎ RanCommand at by self.old self.new hand.old) }
     {
         let what = hand.next();
         let answer = self.hand_turn(alloc, at, by, what, text)?;
@@ -132,9 +134,11 @@ impl<M: Machine, K: Keep> Sim<M, K> {
     ) -> Result<(), Memory>
         requires early { at < 2 ^ 62 }
         requires going { self.old.over ≡ false }
-        ensures goes { OnOk result ((ran : Ran) → RunsSo self.old ran → GoesOn K.wanted self.new ran (line.Hand at by key) to.old to.new) }
+        ensures goes { OnOk result ((ran : Ran) → RunsSo self.old ran
+            → GoesOn K.wanted self.new ran (line.Hand at by key) to.old to.new) }
         ensures told { OnOk result (self.new.told ≡ self.old.told) }
-        ensures breaks { OnErr result ((ran : Ran) → RunsSo self.old ran → MayHaveBroken self.new ran (line.Hand at by key)) }
+        ensures breaks { OnErr result ((ran : Ran) → RunsSo self.old ran
+            → MayHaveBroken self.new ran (line.Hand at by key)) }
         ensures same { OnErr result (to.new ≡ to.old) }
     {
         let Some(place) = self.index_of(by) else {

@@ -47,10 +47,12 @@ pub trait Keep {
         turn: Turn,
     ) -> Result<Answer, Memory>
         requires lawful { IsLawful turn }
-        requires stands { (since : List Turn) × ((h : List Turn) × (M.stands_for machine.old h × keeps self.old since h)) }
+        requires stands { (since : List Turn)
+            × ((h : List Turn) × (M.stands_for machine.old h × keeps self.old since h)) }
         ensures answered { (h : List Turn) → M.stands_for machine.old h
             → IfOk result (λ a. (a ≡ answer h turn) × M.stands_for machine.new (turn ∷ h)) }
-        ensures added { (since h : List Turn) → M.stands_for machine.old h → keeps self.old since h → OnOk result (keeps self.new since (turn ∷ h)) }
+        ensures added { (since h : List Turn) → M.stands_for machine.old h → keeps self.old since h
+            → OnOk result (keeps self.new since (turn ∷ h)) }
         ensures err { (h : List Turn) → M.stands_for machine.old h → OnErr result (M.stands_for machine.new h) }
         ensures kept { (since h : List Turn) → keeps self.old since h → OnErr result (keeps self.new since h) }
         ensures own { is_service turn.what ≡ true → IfOk result (λ a. is_service_answer a ≡ true) }
@@ -63,7 +65,8 @@ pub trait Keep {
     /// Appends to `to` the text that was gathered from the turns since the text was last emptied. If memory runs out,
     /// nothing is appended. The error is also returned if memory for this text ran out in an earlier turn.
     fn tell(&self, to: &mut Octets) -> Result<(), Memory>
-        ensures ok { (since h : List Turn) → keeps self.now since h → OnOk result (AddsText (text since) (text h) to.old to.new) }
+        ensures ok { (since h : List Turn) → keeps self.now since h
+            → OnOk result (AddsText (text since) (text h) to.old to.new) }
         ensures err { OnErr result (to.new ≡ to.old) };
 }
 

@@ -36,7 +36,8 @@ pub fn lawful()
     ensures whole { (bytes : List ℕ) → IsHistory (history bytes) }
     ensures first { (bytes : List ℕ) (lines later : List Line) → (judged bytes).lines ≡ lines ++ later
         → IsHistory (with_schedule fresh lines).history }
-    ensures part { (bytes : List ℕ) (lines later : List Line) (line : Line) (s : SimValue) → (judged bytes).lines ≡ lines ++ line ∷ later
+    ensures part { (bytes : List ℕ) (lines later : List Line) (line : Line) (s : SimValue)
+        → (judged bytes).lines ≡ lines ++ line ∷ later
         → HasRunPart s (with_schedule fresh lines) line → IsHistory s.history }
 {
     asks_lawfully();
@@ -76,8 +77,10 @@ pub fn handed_off()
 pub fn one_after_another()
     ensures judged { (texts more : List (List ℕ)) (end : End) → (judged_texts texts).ending ≡ whole
         → judge 0 (texts ++ more) end ≡ preceded_by (judged_texts texts).lines (judge (length texts) more end) }
-    ensures states { (ran : Ran) (ls ks : List Line) → with_schedule ran (ls ++ ks) ≡ with_schedule (with_schedule ran ls) ks }
-    ensures outputs { (ran : Ran) (ls ks : List Line) → outputs ran (ls ++ ks) ≡ outputs ran ls ++ outputs (with_schedule ran ls) ks }
+    ensures states { (ran : Ran) (ls ks : List Line)
+        → with_schedule ran (ls ++ ks) ≡ with_schedule (with_schedule ran ls) ks }
+    ensures outputs { (ran : Ran) (ls ks : List Line)
+        → outputs ran (ls ++ ks) ≡ outputs ran ls ++ outputs (with_schedule ran ls) ks }
 {}
 
 /// A line of a schedule adds at most three turns to a run, even if memory runs out in the middle of the line.

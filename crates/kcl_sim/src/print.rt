@@ -1,7 +1,8 @@
 //! Adds lines to the output of a run. A short line is first built in a buffer that is reused. Each line of output is
 //! added whole or not at all. A turn is a command with its sender and its time. A survey is the lease command that
 //! lists the shards and the rows of the lease table.
-ghost use Rattle.std.specs.Prelude.{◌≡◌, [], ◌∷◌, ◌++◌, codes, decimal, take, vec_len, true, false, IsUtf8, OnOk, OnErr};
+ghost use Rattle.std.specs.Prelude.{◌≡◌, [], ◌∷◌, ◌++◌, codes, decimal, take, vec_len, true, false, IsUtf8, OnOk};
+ghost use Rattle.std.specs.Prelude.{OnErr};
 ghost use Rattle.kds_defs.specs.Kinds.{is_lease_answer};
 ghost use Rattle.kds_reply.specs.Replies.{fault_reply};
 ghost use Rattle.kcl_script_fields.specs.Answers.{answer_text};

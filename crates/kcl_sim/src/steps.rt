@@ -1,7 +1,8 @@
 //! Executes the lines that start, step or stop workers. A step first makes the processor calls that are due in a
 //! worker, and then makes the worker's next turn. A turn is a command with its sender and its time. Each sender, such
 //! as a worker, is called an actor and has a number.
-ghost use Rattle.std.specs.Prelude.{◌≡◌, ℕ, ◌∷◌, ◌++◌, ◌<◌, ◌≤◌, ◌^◌, length, slice_get, true, false, ◌⊎◌, Some, IfSome, IsSome, OnErr, OnOk};
+ghost use Rattle.std.specs.Prelude.{◌≡◌, ℕ, ◌∷◌, ◌++◌, ◌<◌, ◌≤◌, ◌^◌, length, slice_get, true, false, ◌⊎◌, Some};
+ghost use Rattle.std.specs.Prelude.{IfSome, IsSome, OnErr, OnOk};
 ghost use Rattle.kcl_defs.specs.Workers.{usual_settings};
 ghost use Rattle.kds_defs.specs.Histories.{answer};
 ghost use Rattle.kds_defs.specs.Kinds.{is_service};
@@ -9,7 +10,8 @@ ghost use Rattle.kds_defs.specs.Lawful.{IsLawfulCommand};
 ghost use Rattle.kcl_script.specs.declared.line.Line.TheVariants as line;
 ghost use Rattle.kcl_sim.specs.Output.{Ran, command_output, raw_turn};
 ghost use Rattle.kcl_sim.specs.Keeping.{if_wanted};
-ghost use Rattle.kcl_sim.specs.Standing.{ChangedAt, Employs, GoesOn, HasAsked, IsFree, MayHaveRun, RunsSo, StepsAt, TookAnswer, TurnRan, place_among};
+ghost use Rattle.kcl_sim.specs.Standing.{ChangedAt, Employs, GoesOn, HasAsked, IsFree, MayHaveRun, RunsSo, StepsAt};
+ghost use Rattle.kcl_sim.specs.Standing.{TookAnswer, TurnRan, place_among};
 ghost use Rattle.kcl_sim.specs.Workers.{Employed, answered, stopped};
 
 use crate::keep::Keep;
@@ -48,7 +50,8 @@ impl<M: Machine, K: Keep> Sim<M, K> {
     ) -> Result<(), Memory>
         requires name { 1 ≤ name }
         requires going { self.old.over ≡ false }
-        ensures goes { OnOk result ((ran : Ran) → RunsSo self.old ran → GoesOn K.wanted self.new ran (line.Worker at name kind from) to.old to.new) }
+        ensures goes { OnOk result ((ran : Ran) → RunsSo self.old ran
+            → GoesOn K.wanted self.new ran (line.Worker at name kind from) to.old to.new) }
         ensures told { OnOk result (self.new.told ≡ self.old.told) }
         ensures kept { OnErr result (self.new ≡ self.old) }
         ensures same { OnErr result (to.new ≡ to.old) }
@@ -83,7 +86,8 @@ impl<M: Machine, K: Keep> Sim<M, K> {
     /// only the line `none` is added. If memory runs out, the run and the output are unchanged.
     pub(crate) fn stop(&mut self, at: Moment, by: u32, to: &mut Octets) -> Result<(), Memory>
         requires { self.old.over ≡ false }
-        ensures goes { OnOk result ((ran : Ran) → RunsSo self.old ran → GoesOn K.wanted self.new ran (line.Stop at by) to.old to.new) }
+        ensures goes { OnOk result ((ran : Ran) → RunsSo self.old ran
+            → GoesOn K.wanted self.new ran (line.Stop at by) to.old to.new) }
         ensures told { OnOk result (self.new.told ≡ self.old.told) }
         ensures kept { OnErr result (self.new ≡ self.old) }
         ensures same { OnErr result (to.new ≡ to.old) }
@@ -119,9 +123,12 @@ impl<M: Machine, K: Keep> Sim<M, K> {
         ensures over { self.new.over ≡ true }
         ensures told { OnOk result (self.new.told ≡ self.old.told) }
         ensures history { OnOk result (self.new.history ≡ raw_turn at by what ∷ self.old.history) }
-        ensures worker { OnOk result (ChangedAt place (TookAnswer at by what self.old.history) self.old.workers self.new.workers) }
-        ensures output { OnOk result (to.new ≡ to.old ++ if_wanted K.wanted (command_output self.old.history at by (Some what))) }
-        ensures breaks { OnErr result ((self.new.history ≡ self.old.history) ⊎ (self.new.history ≡ raw_turn at by what ∷ self.old.history)) }
+        ensures worker { OnOk result
+            (ChangedAt place (TookAnswer at by what self.old.history) self.old.workers self.new.workers) }
+        ensures output { OnOk result (to.new ≡ to.old
+            ++ if_wanted K.wanted (command_output self.old.history at by (Some what))) }
+        ensures breaks { OnErr result ((self.new.history ≡ self.old.history)
+            ⊎ (self.new.history ≡ raw_turn at by what ∷ self.old.history)) }
         ensures same { OnErr result (to.new ≡ to.old) }
     {
         let mut text = Octets::new(alloc);
@@ -172,7 +179,8 @@ impl<M: Machine, K: Keep> Sim<M, K> {
     ) -> Result<(), Memory>
         requires early { at < 2 ^ 62 }
         requires going { self.old.over ≡ false }
-        ensures goes { OnOk result ((ran : Ran) → RunsSo self.old ran → GoesOn K.wanted self.new ran (line.Step at by) to.old to.new) }
+        ensures goes { OnOk result ((ran : Ran) → RunsSo self.old ran
+            → GoesOn K.wanted self.new ran (line.Step at by) to.old to.new) }
         ensures told { OnOk result (self.new.told ≡ self.old.told) }
         ensures breaks { OnErr result ((ran : Ran) → RunsSo self.old ran → MayHaveRun self.new ran (line.Step at by)) }
         ensures same { OnErr result (to.new ≡ to.old) }

@@ -145,7 +145,8 @@ pub fn say_answered<K: Keep>(
     line: &mut Octets,
 ) -> Result<(), Memory>
     requires { is_lease_answer answer.now ≡ true }
-    ensures { OnOk result (line.new ≡ line.old ++ if_wanted K.wanted (codes " = " ++ (answer_text false answer.now ++ 10 ∷ []))) }
+    ensures { OnOk result (line.new ≡ line.old
+        ++ if_wanted K.wanted (codes " = " ++ (answer_text false answer.now ++ 10 ∷ []))) }
 {
     if K::wants_answers() {
         print_answered(alloc, answer, line)
@@ -158,7 +159,8 @@ pub fn say_answered<K: Keep>(
 /// command, and `; `. The line isn't ended.
 pub fn say_part<K: Keep>(alloc: Global, answer: &Answer, line: &mut Octets) -> Result<(), Memory>
     requires { is_lease_answer answer.now ≡ true }
-    ensures { OnOk result (line.new ≡ line.old ++ if_wanted K.wanted (codes " = " ++ (answer_text false answer.now ++ codes "; "))) }
+    ensures { OnOk result (line.new ≡ line.old
+        ++ if_wanted K.wanted (codes " = " ++ (answer_text false answer.now ++ codes "; "))) }
 {
     if K::wants_answers() {
         print_part(alloc, answer, line)

@@ -34,7 +34,8 @@ pub fn ask(worker: &mut Worker<Stock, Kind>, now: Moment) -> Option<Command>
     ensures own { IfSome result (λ what. is_service what ≡ false) }
     ensures free { MatchOption result (worker.new.waiting ≡ None) (λ what. IsSome worker.new.waiting) }
     ensures is { (e : Employed) → Employs worker.old e → result ≡ command_at now e }
-    ensures stands { (e : Employed) → Employs worker.old e → MatchOption result (Employs worker.new e) (λ what. HasAsked now worker.new e) }
+    ensures stands { (e : Employed) → Employs worker.old e
+        → MatchOption result (Employs worker.new e) (λ what. HasAsked now worker.new e) }
 {
     if worker.idle() {
         None
@@ -53,7 +54,8 @@ fn without(left: NoRoom) -> Memory {
 pub fn absorb(worker: &mut Worker<Stock, Kind>, now: Moment, answer: Answer) -> Result<(), Memory>
     requires { IsSome worker.old.waiting }
     ensures free { OnOk result (worker.new.waiting ≡ None) }
-    ensures stands { OnOk result ((e : Employed) → HasAsked now worker.old e → Employs worker.new (answered now answer e)) }
+    ensures stands { OnOk result ((e : Employed) → HasAsked now worker.old e
+        → Employs worker.new (answered now answer e)) }
 {
     match worker.absorb(now, answer) {
         Ok(()) => Ok(()),

@@ -10,7 +10,8 @@ use Rattle.kcl_journal.specs.declared.line.TheConstants.{VERSION}
 use Rattle.kcl_journal.specs.Entries.{entry_spelling}
 use Rattle.kcl_sim_scribe.specs.Added.{added_entries, entries_text, history_entries, told_by}
 
-behind : (lines : List Line) (log : Journal) → reverse (map told_by (with_lines lines log)) ≡ reverse (map told_by log) ++ map told_by lines
+behind : (lines : List Line) (log : Journal) → reverse (map told_by (with_lines lines log)) ≡ reverse (map told_by log)
+    ++ map told_by lines
 behind [] log = sym (append-nil (reverse (map told_by log)))
 behind (line ∷ lines) log =
     behind lines (line ∷ log)

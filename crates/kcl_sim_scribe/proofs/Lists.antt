@@ -8,19 +8,22 @@ use Rattle.std.specs.Prelude.{◌&&◌}
 use Rattle.kds_defs.specs.Streams.{numbers_from}
 
 -- what is found has what each has
-pub found_is : {A : Type 0} (P : A → Type 0) (p : A → Bool) (xs : List A) (x : A) → AllByRecursion P xs → find p xs ≡ Some x → P x
+pub found_is : {A : Type 0} (P : A → Type 0) (p : A → Bool) (xs : List A) (x : A) → AllByRecursion P xs
+    → find p xs ≡ Some x → P x
 found_is P p [] x all h = absurd (cc)
 found_is P p (y ∷ ys) x all h = elim (cases_Bool (p y)) [
   | inl here ↦ let e : Some y ≡ Some x = rw here at h in let same : y ≡ x = cc in subst (λ z. P z) same all.0
   | inr there ↦ let e : find p ys ≡ Some x = rw there at h in found_is P p ys x all.1 e
 ]
 
-pub mapped : {A B : Type 0} (P : A → Type 0) (Q : B → Type 0) (f : A → B) (xs : List A) → ((x : A) → P x → Q (f x)) → AllByRecursion P xs
+pub mapped : {A B : Type 0} (P : A → Type 0) (Q : B → Type 0) (f : A → B) (xs : List A) → ((x : A) → P x → Q (f x))
+    → AllByRecursion P xs
     → AllByRecursion Q (map f xs)
 mapped P Q f [] each all = tt
 mapped P Q f (x ∷ xs) each all = (each x all.0, mapped P Q f xs each all.1)
 
-pub unmapped : {A B : Type 0} (Q : B → Type 0) (f : A → B) (xs : List A) → AllByRecursion Q (map f xs) → AllByRecursion (λ x. Q (f x)) xs
+pub unmapped : {A B : Type 0} (Q : B → Type 0) (f : A → B) (xs : List A) → AllByRecursion Q (map f xs)
+    → AllByRecursion (λ x. Q (f x)) xs
 unmapped Q f [] all = tt
 unmapped Q f (x ∷ xs) all = (all.0, unmapped Q f xs all.1)
 
@@ -30,7 +33,8 @@ both_tests p q [] = refl
 both_tests p q (x ∷ xs) = grind (arith, both_tests p q xs)
 
 -- two tests that agree on each
-pub same_kept : {A : Type 0} (p q : A → Bool) (xs : List A) → AllByRecursion (λ x. p x ≡ q x) xs → filter p xs ≡ filter q xs
+pub same_kept : {A : Type 0} (p q : A → Bool) (xs : List A) → AllByRecursion (λ x. p x ≡ q x) xs
+    → filter p xs ≡ filter q xs
 same_kept p q [] all = refl
 same_kept p q (x ∷ xs) all = grind (arith, all.0, same_kept p q xs all.1)
 
@@ -48,7 +52,8 @@ one_more n (suc count) =
 
 -- ---- each is replaced, one after another
 
-pub all_done : {A : Type 0} (f : A → A) (xs : List A) (i : ℕ) → length xs ≤ i → map f (take i xs) ++ drop i xs ≡ map f xs
+pub all_done : {A : Type 0} (f : A → A) (xs : List A) (i : ℕ) → length xs ≤ i
+    → map f (take i xs) ++ drop i xs ≡ map f xs
 all_done f xs i h = (λ j. map f (take_all i xs h j) ++ drop_all i xs h j) ∙ append-nil (map f xs)
 
 pub all_kept : {A : Type 0} (xs : List A) → filter (λ x. true) xs ≡ xs

@@ -1,5 +1,6 @@
 -- What a scribe knows of a journal after the making of a stream.
-use Rattle.std.proofs.Common.{◌≡◌, ℕ, suc, ◌+◌, ◌^◌, ◌/◌, ◌≤◌, List, [], ◌∷◌, ◌++◌, length, Bool, false, refl, sym, ap, ◌∙◌, arith, subst}
+use Rattle.std.proofs.Common.{◌≡◌, ℕ, suc, ◌+◌, ◌^◌, ◌/◌, ◌≤◌, List, [], ◌∷◌, ◌++◌, length, Bool, false, refl, sym, ap}
+use Rattle.std.proofs.Common.{◌∙◌, arith, subst}
 use Rattle.std.proofs.lemmas.Bool.Decides.{nat_tests}
 use Rattle.std.proofs.lemmas.List.{map_push}
 use Rattle.std.proofs.lemmas.List.Elements.{filter-append}
@@ -27,7 +28,8 @@ module _ (log : Journal) (c by count : ℕ) (name : List ℕ) where
   abbrev line : Line
   line = plain_line c by (entry.Made (made_count log + 1) name count)
 
-  old_tests : (m : ℕ) (ns : List ℕ) → AllByRecursion (λ s. s ≤ m) ns → AllByRecursion (λ s. ((m + 1 == s) || is_live log s) ≡ is_live log s) ns
+  old_tests : (m : ℕ) (ns : List ℕ) → AllByRecursion (λ s. s ≤ m) ns
+      → AllByRecursion (λ s. ((m + 1 == s) || is_live log s) ≡ is_live log s) ns
   old_tests m [] all = tt
   old_tests m (n ∷ ns) all = (rw (above m n all.0) refl, old_tests m ns all.1)
 
@@ -41,17 +43,20 @@ module _ (log : Journal) (c by count : ℕ) (name : List ℕ) where
       ap (λ n. filter p (numbers_from 1 n)) next
       ∙ ap (filter p) (one_more 1 m ∙ ap (λ n. numbers_from 1 m ++ n ∷ []) last)
       ∙ filter-append p (numbers_from 1 m) ((m + 1) ∷ [])
-      ∙ (λ i. same_kept p (is_live log) (numbers_from 1 m) (old_tests m (numbers_from 1 m) (up_to 1 m m (omega arith))) i ++ new i)
+      ∙ (λ i. same_kept p (is_live log) (numbers_from 1 m) (old_tests m (numbers_from 1 m) (up_to 1 m m (omega arith)))
+      i ++ new i)
 
   old_known : (v : Known) → v.no ≤ made_count log → IsKnown log v → IsKnown (line ∷ log) v
   old_known v below k =
       let other = above (made_count log) v.no below in
       record { named = rw other k.named; next = omega (arith, k.next); many = rw other k.many; left = k.left }
 
-  pub knows_made : (vs : List Known) → 1 ≤ count → Knows log (made_count log) vs → Knows (line ∷ log) (made_count log + 1) (vs ++ new_known (made_count log + 1) name count ∷ [])
+  pub knows_made : (vs : List Known) → 1 ≤ count → Knows log (made_count log) vs
+      → Knows (line ∷ log) (made_count log + 1) (vs ++ new_known (made_count log + 1) name count ∷ [])
   knows_made vs some k =
       let m = made_count log in
-      let below = unmapped (λ s. s ≤ m) no_of vs (subst (λ ns. AllByRecursion (λ s. s ≤ m) ns) k.live (live_below log)) in
+      let below = unmapped (λ s. s ≤ m) no_of vs
+      (subst (λ ns. AllByRecursion (λ s. s ≤ m) ns) k.live (live_below log)) in
       let old = all_both (λ (v : Known). v.no ≤ m) (IsKnown log) (IsKnown (line ∷ log)) old_known vs below k.known in
       let fresh : next_number log (m + 1) ≡ 1 = k.unmade (m + 1) (omega arith) in
       let is_new : IsKnown (line ∷ log) (new_known (m + 1) name count) = record {
@@ -62,7 +67,8 @@ module _ (log : Journal) (c by count : ℕ) (name : List ℕ) where
       } in
       record {
         made_is = refl;
-        live = live_made ∙ ap (λ ns. ns ++ (m + 1) ∷ []) k.live ∙ sym (map_push no_of vs (new_known (m + 1) name count));
+        live = live_made ∙ ap (λ ns. ns ++ (m + 1) ∷ []) k.live
+            ∙ sym (map_push no_of vs (new_known (m + 1) name count));
         known = all_append (IsKnown (line ∷ log)) vs (new_known (m + 1) name count ∷ []) old (is_new, tt);
         unmade = λ s above. let before = k.unmade s (omega (arith, above)) in omega (arith, before);
       }

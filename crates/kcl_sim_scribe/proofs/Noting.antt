@@ -25,7 +25,8 @@ use Rattle.kcl_sim_scribe.proofs.Making.{knows_made}
 use Rattle.kcl_sim_scribe.proofs.Readings.{knows_all}
 use Rattle.kcl_sim_scribe.proofs.Tellings.{IsOther, Told, tells}
 
-pub record Noted (s : ScribeValue) (log : Journal) (c by : ℕ) (what : Command) (lines : List Line) (r : Reply) : Type 0 where
+pub record Noted (s : ScribeValue) (log : Journal) (c by : ℕ) (what : Command) (lines : List Line) (r : Reply) :
+    Type 0 where
   pub can : CanTell s what
   pub lines_are : told_lines s c by what r ≡ map told_by lines
   pub knows : Knows (with_lines lines log) (told_after s what r).made (told_after s what r).streams
@@ -38,38 +39,45 @@ told_what : (lines : List Line) → map (λ (l : EntryLine). l.what) (map told_b
 told_what [] = refl
 told_what (l ∷ ls) = ap (λ xs. l.what ∷ xs) (told_what ls)
 
-whats : (lines : List Line) (c by : ℕ) (es : List Entry) → map told_by lines ≡ lines_by c by es → map (λ (l : Line). l.what) lines ≡ es
+whats : (lines : List Line) (c by : ℕ) (es : List Entry) → map told_by lines ≡ lines_by c by es
+    → map (λ (l : Line). l.what) lines ≡ es
 whats lines c by es h = sym (told_what lines) ∙ ap (map (λ (l : EntryLine). l.what)) h ∙ what_of c by es
 
 module _ (s : ScribeValue) (log : Journal) (c by : ℕ) (k : Knows log s.made s.streams) where
   known_all : (what : Command) (lines : List Line) (r : Reply) → Told log c by s.streams what lines r
       → Knows (with_lines lines log) s.made (changed_by (entries_of s.streams what r) s.streams)
   known_all what lines r t =
-      subst (λ es. Knows (with_lines lines log) s.made (changed_by es s.streams)) (whats lines c by (entries_of s.streams what r) t.told)
+      subst (λ es. Knows (with_lines lines log) s.made (changed_by es s.streams))
+      (whats lines c by (entries_of s.streams what r) t.told)
       (knows_all log lines s.made s.streams t.fits k)
 
   making : (name : List ℕ) (count : ℕ) → 1 ≤ count → (made_count log == last_number) ≡ false
-      → Noted s log c by (command.Create name count) (plain_line c by (entry.Made (made_count log + 1) name count) ∷ []) reply.Done
+      → Noted s log c by (command.Create name count) (plain_line c by (entry.Made (made_count log + 1) name count) ∷ [])
+      reply.Done
   making name count some spent = record {
     can = (ap (λ n. n == last_number) (sym k.made_is) ∙ spent, some);
     lines_are = λ i. line_by c by (entry.Made (sym k.made_is i + 1) name count) ∷ [];
     knows = subst
-        (λ (n : ℕ). Knows (plain_line c by (entry.Made (made_count log + 1) name count) ∷ log) (n + 1) (s.streams ++ new_known (n + 1) name count ∷ []))
+        (λ (n : ℕ). Knows (plain_line c by (entry.Made (made_count log + 1) name count) ∷ log) (n + 1)
+        (s.streams ++ new_known (n + 1) name count ∷ []))
         k.made_is
         (knows_made log c by count name s.streams some (subst (λ n. Knows log n s.streams) (sym k.made_is) k));
   }
 
-  others : (what : Command) → IsOther what → (lines : List Line) (r : Reply) → Told log c by s.streams what lines r → Noted s log c by what lines r
+  others : (what : Command) → IsOther what → (lines : List Line) (r : Reply) → Told log c by s.streams what lines r
+      → Noted s log c by what lines r
   others (command.Create name count) o lines r t = absurd o
   others what o lines r t = record { can = t.can; lines_are = sym t.told; knows = known_all what lines r t }
 
-  all_of : (what : Command) (lines : List Line) (r : Reply) → Outcome log c by what lines (Ok r) → (IsOther what → Told log c by s.streams what lines r)
+  all_of : (what : Command) (lines : List Line) (r : Reply) → Outcome log c by what lines (Ok r)
+      → (IsOther what → Told log c by s.streams what lines r)
       → IsLawfulCommand what → Noted s log c by what lines r
   all_of _ _ _ (Adds _ _ _ (Creates name count fits)) told lawful = making name count lawful.1.0 fits
   all_of _ _ _ (Answers _ _ (Surveys keys rows)) told lawful = others _ tt _ _ (told tt)
   all_of _ _ _ _ told lawful = others _ tt _ _ (told tt)
 
-  all : (what : Command) (lines : List Line) (r : Reply) → Outcome log c by what lines (Ok r) → IsLawfulCommand what → Noted s log c by what lines r
+  all : (what : Command) (lines : List Line) (r : Reply) → Outcome log c by what lines (Ok r) → IsLawfulCommand what
+      → Noted s log c by what lines r
   all what lines r is lawful = all_of what lines r is (tells log c by s.made s.streams k what lines r is) lawful
 
 -- ---- turns
@@ -77,13 +85,15 @@ module _ (s : ScribeValue) (log : Journal) (c by : ℕ) (k : Knows log s.made s.
 pub record NotedTurn (s : ScribeValue) (h : List Turn) (turn : Turn) (d : Decision) (r : Reply) : Type 0 where
   pub can : CanTell s turn.what
   pub lines_are : told_lines s (clock (turn ∷ h)) turn.by turn.what r ≡ map told_by (lines_of d)
-  pub knows : Knows (with_lines (lines_of d) (journal h)) (told_after s turn.what r).made (told_after s turn.what r).streams
+  pub knows : Knows (with_lines (lines_of d) (journal h)) (told_after s turn.what r).made
+      (told_after s turn.what r).streams
 
 is_accepted : (d : Decision) (r : Reply) → Ok r ≡ answer_of d → d ≡ Accepted (lines_of d) r
 is_accepted (Refused q) r e = absurd (cc e)
 is_accepted (Accepted lines q) r e = let same : q ≡ r = cc in ap (λ x. Accepted lines x) same
 
-pub accepted : (s : ScribeValue) (h : List Turn) (turn : Turn) (r : Reply) → StandsFor s h → IsLawful turn → Ok r ≡ answer h turn
+pub accepted : (s : ScribeValue) (h : List Turn) (turn : Turn) (r : Reply) → StandsFor s h → IsLawful turn
+    → Ok r ≡ answer h turn
     → NotedTurn s h turn (decision (journal h) (clock (turn ∷ h)) turn) r
 accepted s h turn r st lawful e =
     let d : Decision = decision (journal h) (clock (turn ∷ h)) turn in
@@ -102,9 +112,11 @@ refused s h turn q st e =
     (ap (map told_by) (sym none), subst (λ ls. Knows (with_lines ls (journal h)) s.made s.streams) (sym none) st.knows)
 
 -- the scribe at the turn's clock
-pub stands_at : (s t : ScribeValue) (h : List Turn) (turn : Turn) → StandsFor s h → t.clock ≡ max s.clock turn.at → Knows (journal (turn ∷ h)) t.made t.streams
+pub stands_at : (s t : ScribeValue) (h : List Turn) (turn : Turn) → StandsFor s h → t.clock ≡ max s.clock turn.at
+    → Knows (journal (turn ∷ h)) t.made t.streams
     → StandsFor t (turn ∷ h)
-stands_at s t h turn st clock_is knows = record { clock_is = ap (λ n. max n turn.at) st.clock_is ∙ sym clock_is; knows = knows }
+stands_at s t h turn st clock_is knows =
+    record { clock_is = ap (λ n. max n turn.at) st.clock_is ∙ sym clock_is; knows = knows }
 
 -- ---- as the code tells
 
@@ -118,10 +130,12 @@ other_lines s c by (command.Create name count) r o = absurd o
 other_lines s c by what r o = refl
 
 pub other_after : (s : ScribeValue) (what : Command)
-    (r : Reply) → IsOther what → record s { streams = changed_by (entries_of s.streams what r) s.streams } ≡ told_after s what r
+    (r : Reply) → IsOther what → record s { streams = changed_by (entries_of s.streams what r) s.streams }
+    ≡ told_after s what r
 other_after s (command.Create name count) r o = absurd o
 other_after s what r o = refl
 
 -- the streams after the entries of lines
-pub changed_lines : (c by : ℕ) (es : List Entry) (vs : List Known) → changed_by (map (λ (l : EntryLine). l.what) (lines_by c by es)) vs ≡ changed_by es vs
+pub changed_lines : (c by : ℕ) (es : List Entry) (vs : List Known)
+    → changed_by (map (λ (l : EntryLine). l.what) (lines_by c by es)) vs ≡ changed_by es vs
 changed_lines c by es vs = ap (λ xs. changed_by xs vs) (what_of c by es)

@@ -1,5 +1,6 @@
 -- What a scribe knows of a journal, after a line of it other than the making of a stream.
-use Rattle.std.proofs.Common.{◌≡◌, ℕ, ◌+◌, ◌<◌, ◌≤◌, List, [], ◌∷◌, length, map, Bool, true, false, refl, sym, ap, ◌∙◌, arith, inl, inr, subst}
+use Rattle.std.proofs.Common.{◌≡◌, ℕ, ◌+◌, ◌<◌, ◌≤◌, List, [], ◌∷◌, length, map, Bool, true, false, refl, sym, ap, ◌∙◌}
+use Rattle.std.proofs.Common.{arith, inl, inr, subst}
 use Rattle.std.proofs.lemmas.Bool.{cases_Bool, eqb-true, ne_eqb}
 use Rattle.std.specs.List.{AllByRecursion, filter, find}
 use Rattle.std.specs.Prelude.{◌==◌, ◌&&◌, not, option_map, if◌then◌else◌}
@@ -10,7 +11,8 @@ use Rattle.kds_defs.specs.Journal.{Journal, Line, with_lines}
 use Rattle.kds_defs.specs.Records.{draws, next_number}
 use Rattle.kds_defs.specs.Shards.{closing_of, shards, shards_after}
 use Rattle.kds_defs.specs.StreamCommands.{last_number}
-use Rattle.kds_defs.specs.Streams.{is_live, is_live_after, live_streams, made_count, made_count_after, name_of, name_of_after, numbers_from}
+use Rattle.kds_defs.specs.Streams.{is_live, is_live_after, live_streams, made_count, made_count_after, name_of}
+use Rattle.kds_defs.specs.Streams.{name_of_after, numbers_from}
 use Rattle.kds_defs.specs.Streams.{same_name, stream_named}
 use Rattle.kds_defs.proofs.Counted.{length_split, length_merged}
 use Rattle.kcl_sim_scribe.specs.Known.{IsKnown, Known, Knows, changed, changed_by, is_gone, known_as, renumbered}
@@ -26,21 +28,25 @@ named_among : (log : Journal) (name : List ℕ) (vs : List Known) → AllByRecur
 named_among log name [] all = refl
 named_among log name (v ∷ vs) all = grind (arith, all.0.named, named_among log name vs all.1)
 
-pub named_is : (log : Journal) (made : ℕ) (vs : List Known) (name : List ℕ) → Knows log made vs → stream_named log name ≡ option_map no_of (known_as name vs)
+pub named_is : (log : Journal) (made : ℕ) (vs : List Known) (name : List ℕ) → Knows log made vs
+    → stream_named log name ≡ option_map no_of (known_as name vs)
 named_is log made vs name k = ap (find (λ s. same_name (name_of log s) name)) k.live ∙ named_among log name vs k.known
 
 -- a live stream was made
 pub live_below : (log : Journal) → AllByRecursion (λ s. s ≤ made_count log) (live_streams log)
-live_below log = all_filter (λ s. s ≤ made_count log) (is_live log) (numbers_from 1 (made_count log)) (up_to 1 (made_count log) (made_count log) (omega arith))
+live_below log = all_filter (λ s. s ≤ made_count log) (is_live log) (numbers_from 1 (made_count log))
+    (up_to 1 (made_count log) (made_count log) (omega arith))
 
 -- ---- lines
 
 -- the line draws the next number of a stream that was made, and its children come after the stream's shards
 abbrev pub Fits : Journal → Entry → Type 0
 Fits log (entry.Made s name count) = ⊥
-Fits log (entry.Put s sh number hash bytes key_bytes) = (s ≤ made_count log) × ((number ≡ next_number log s) × (number < last_number))
+Fits log (entry.Put s sh number hash bytes key_bytes) =
+    (s ≤ made_count log) × ((number ≡ next_number log s) × (number < last_number))
 Fits log (entry.Split s sh at number low high) =
-    (s ≤ made_count log) × (((number ≡ next_number log s) × (number < last_number)) × (high ≡ length (shards log s) + 1))
+    (s ≤ made_count log) × (((number ≡ next_number log s) × (number < last_number))
+    × (high ≡ length (shards log s) + 1))
 Fits log (entry.Merged s sh other number child) =
     (s ≤ made_count log) × (((number ≡ next_number log s) × (number < last_number)) × (child ≡ length (shards log s)))
 Fits log _ = Unit {0}
@@ -93,9 +99,11 @@ as_before log line e v k none shards_same = record {
 }
 
 -- ... where the entry draws a number of a stream, whose last shard is then this one
-drawn_kept : (log : Journal) (line : Line) (e : Entry) (s q last : ℕ) (v : Known) → IsKnown log v → q ≡ next_number log s → q < last_number
+drawn_kept : (log : Journal) (line : Line) (e : Entry) (s q last : ℕ) (v : Known) → IsKnown log v
+    → q ≡ next_number log s → q < last_number
     → draws e v.no ≡ (if s == v.no then 1 else 0)
-    → (s ≡ v.no → (s == v.no) ≡ true → (start : ℕ) → length (shards_after line e v.no start (shards log v.no)) ≡ last + 1)
+    → (s ≡ v.no → (s == v.no) ≡ true → (start : ℕ) → length (shards_after line e v.no start (shards log v.no))
+    ≡ last + 1)
     → ((s == v.no) ≡ false → (start : ℕ) → shards_after line e v.no start (shards log v.no) ≡ shards log v.no)
     → Kept log line e v (if s == v.no then record v { drawn = q; shard = last } else v)
 drawn_kept log line e s q last v k drawn left draws_is its_shards same_shards = elim (cases_Bool (s == v.no)) [
@@ -108,10 +116,12 @@ drawn_kept log line e s q last v k drawn left draws_is its_shards same_shards = 
   | inr other ↦ rw other (as_before log line e v k (draws_is ∙ rw other refl) (same_shards other))
 ]
 
-entry_kept : (log : Journal) (line : Line) (e : Entry) (v : Known) → Fits log e → IsKnown log v → Kept log line e v (renumbered e v)
+entry_kept : (log : Journal) (line : Line) (e : Entry) (v : Known) → Fits log e → IsKnown log v
+    → Kept log line e v (renumbered e v)
 entry_kept log line (entry.Made s name count) v f k = absurd f
 entry_kept log line (entry.Put s sh q hash bytes key_bytes) v f k =
-    drawn_kept log line (entry.Put s sh q hash bytes key_bytes) s q v.shard v k f.1.0 f.1.1 refl (λ is here start. k.many) (λ other start. refl)
+    drawn_kept log line (entry.Put s sh q hash bytes key_bytes) s q v.shard v k f.1.0 f.1.1 refl (λ is here start.
+    k.many) (λ other start. refl)
 entry_kept log line (entry.Split s sh at q low high) v f k =
     drawn_kept log line (entry.Split s sh at q low high) s q high v k f.1.0.0 f.1.0.1 refl
     (λ is here start.
@@ -126,7 +136,8 @@ entry_kept log line (entry.Merged s sh other_sh q child) v f k =
     (λ other start. rw other refl)
 entry_kept log line e v f k = as_before log line e v k refl (λ start. refl)
 
-known_after : (log : Journal) (line : Line) (v : Known) → Fits log line.what → IsKnown log v → IsKnown (line ∷ log) (renumbered line.what v)
+known_after : (log : Journal) (line : Line) (v : Known) → Fits log line.what → IsKnown log v
+    → IsKnown (line ∷ log) (renumbered line.what v)
 known_after log line v f k =
     let w = renumbered line.what v in
     let n = entry_kept log line line.what v f k in
@@ -140,7 +151,8 @@ known_after log line v f k =
 
 -- ---- the live streams
 
-same_no : (log : Journal) (line : Line) (e : Entry) (v : Known) → Fits log e → IsKnown log v → (renumbered e v).no ≡ v.no
+same_no : (log : Journal) (line : Line) (e : Entry) (v : Known) → Fits log e → IsKnown log v
+    → (renumbered e v).no ≡ v.no
 same_no log line e v f k = (entry_kept log line e v f k).same
 
 gone_among : (log : Journal) (line : Line) (e : Entry) (vs : List Known) → Fits log e → AllByRecursion (IsKnown log) vs
@@ -171,8 +183,10 @@ pub knows_after : (log : Journal) (line : Line) (made : ℕ) (vs : List Known) �
 knows_after log line made vs f k = record {
   made_is = made_same log line.what (made_count log) f ∙ k.made_is;
   live = live_after log line made vs f k;
-  known = all_filter (IsKnown (line ∷ log)) (λ (v : Known). not (is_gone line.what v.no)) (map (renumbered line.what) vs)
-      (mapped (IsKnown log) (IsKnown (line ∷ log)) (renumbered line.what) vs (λ v known. known_after log line v f known) k.known);
+  known = all_filter (IsKnown (line ∷ log)) (λ (v : Known). not (is_gone line.what v.no))
+      (map (renumbered line.what) vs)
+      (mapped (IsKnown log) (IsKnown (line ∷ log)) (renumbered line.what) vs (λ v known. known_after log line v f known)
+      k.known);
   unmade = λ s above.
       let none = none_drawn log line.what s f (subst (λ (n : ℕ). n < s) (sym k.made_is) above) in
       omega (arith, none, k.unmade s above);
@@ -181,9 +195,11 @@ knows_after log line made vs f k = record {
 pub knows_all : (log : Journal) (lines : List Line) (made : ℕ) (vs : List Known) → FitAll log lines → Knows log made vs
     → Knows (with_lines lines log) made (changed_by (map (λ (l : Line). l.what) lines) vs)
 knows_all log [] made vs f k = k
-knows_all log (line ∷ lines) made vs f k = knows_all (line ∷ log) lines made (changed line.what vs) f.1 (knows_after log line made vs f.0 k)
+knows_all log (line ∷ lines) made vs f k =
+    knows_all (line ∷ log) lines made (changed line.what vs) f.1 (knows_after log line made vs f.0 k)
 
 -- an entry that says of no stream that it is gone leaves each
-pub stay : (e : Entry) → ((s : ℕ) → e ≡ entry.Gone s → ⊥) → (vs : List Known) → filter (λ v. not (is_gone e v.no)) vs ≡ vs
+pub stay : (e : Entry) → ((s : ℕ) → e ≡ entry.Gone s → ⊥) → (vs : List Known)
+    → filter (λ v. not (is_gone e v.no)) vs ≡ vs
 stay (entry.Gone s) h vs = absurd (h s refl)
 stay e h vs = all_kept vs

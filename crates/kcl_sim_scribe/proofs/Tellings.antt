@@ -1,5 +1,6 @@
 -- The lines of a command that was accepted are those that a scribe tells.
-use Rattle.std.proofs.Common.{◌≡◌, ℕ, suc, ◌+◌, ◌<◌, ◌≤◌, List, [], ◌∷◌, length, map, false, Option, Some, None, refl, sym, ap, ◌∙◌, arith, inl, inr, ◌⊎◌}
+use Rattle.std.proofs.Common.{◌≡◌, ℕ, suc, ◌+◌, ◌<◌, ◌≤◌, List, [], ◌∷◌, length, map, false, Option, Some, None, refl}
+use Rattle.std.proofs.Common.{sym, ap, ◌∙◌, arith, inl, inr, ◌⊎◌}
 use Rattle.std.proofs.lemmas.Bool.{cases_Bool, or_parts}
 use Rattle.std.proofs.lemmas.Bool.Decides.{nat_tests}
 use Rattle.std.specs.List.{filter}
@@ -24,7 +25,8 @@ use Rattle.kds_defs.specs.Streams.{live_streams, made_count, name_of, same_name,
 use Rattle.kds_defs.proofs.Walk as walks
 use Rattle.kcl_sim_scribe.specs.Added.{told_by}
 use Rattle.kcl_sim_scribe.specs.Known.{IsKnown, Known, Knows, known_as}
-use Rattle.kcl_sim_scribe.specs.Telling.{MayNumber, changed_name, entries_of, is_step, line_by, lines_by, numbers_read, put_entries, put_entry}
+use Rattle.kcl_sim_scribe.specs.Telling.{MayNumber, changed_name, entries_of, is_step, line_by, lines_by, numbers_read}
+use Rattle.kcl_sim_scribe.specs.Telling.{put_entries, put_entry}
 use Rattle.kcl_sim_scribe.proofs.Lists.{found_is}
 use Rattle.kcl_sim_scribe.proofs.Readings.{FitAll, live_below, named_is, no_of}
 
@@ -42,48 +44,63 @@ at_most n m h = grind (arith, nat_tests, h)
 
 -- ---- puts and steps, one after another
 
-puts_fit : (log : Journal) (c by s : ℕ) (items : List NewItem) → s ≤ made_count log → next_number log s + length (put_lines log c by s items) ≤ last_number
+puts_fit : (log : Journal) (c by s : ℕ) (items : List NewItem) → s ≤ made_count log
+    → next_number log s + length (put_lines log c by s items) ≤ last_number
     → FitAll log (put_lines log c by s items)
 puts_fit log c by s [] below fits = tt
 puts_fit log c by s (item ∷ items) below fits =
     let line : Line = put_line log c by s (next_number log s) item in
     elim (cases_Bool (is_held_back log c s item)) [
       | inl held ↦ rw held
-          (puts_fit log c by s items below (let h : next_number log s + length (put_lines log c by s items) ≤ last_number = rw held at fits in h))
+          (puts_fit log c by s items below (let h : next_number log s + length (put_lines log c by s items)
+          ≤ last_number = rw held at fits in h))
       | inr free ↦
-          let h : next_number log s + suc (length (put_lines (line ∷ log) c by s items)) ≤ last_number = rw free at fits in
+          let h : next_number log s + suc (length (put_lines (line ∷ log) c by s items)) ≤ last_number =
+          rw free at fits in
           let next : next_number (line ∷ log) s ≡ 1 + next_number log s = rw (is_itself s) refl in
           rw free ((below, (refl, omega (arith, h))), puts_fit (line ∷ log) c by s items below (omega (arith, h, next)))
     ]
 
 puts_told : (log : Journal) (c by s : ℕ)
-    (items : List NewItem) → map told_by (put_lines log c by s items) ≡ lines_by c by (put_entries s items (put_outcomes log c by s items))
+    (items : List NewItem)
+    → map told_by (put_lines log c by s items) ≡ lines_by c by (put_entries s items (put_outcomes log c by s items))
 puts_told log c by s [] = refl
 puts_told log c by s (item ∷ items) =
-    grind (arith, puts_told log c by s items, puts_told (put_line log c by s (next_number log s) item ∷ log) c by s items)
+    grind (
+      arith,
+      puts_told log c by s items,
+      puts_told (put_line log c by s (next_number log s) item ∷ log) c by s items,
+    )
 
 -- where no item or no outcome is left, there is no further entry
-pub none_put : (s : ℕ) (items : List NewItem) (outcomes : List Outcome) → (items ≡ []) ⊎ (outcomes ≡ []) → put_entries s items outcomes ≡ []
+pub none_put : (s : ℕ) (items : List NewItem) (outcomes : List Outcome) → (items ≡ []) ⊎ (outcomes ≡ [])
+    → put_entries s items outcomes ≡ []
 none_put s [] outcomes h = refl
 none_put s (item ∷ items) [] h = refl
 none_put s (item ∷ items) (o ∷ outcomes) (inl e) = absurd (cc e)
 none_put s (item ∷ items) (o ∷ outcomes) (inr e) = absurd (cc e)
 
-steps_fit : (log : Journal) (c by s : ℕ) (steps : List ScaleStep) → s ≤ made_count log → next_number log s + length steps ≤ last_number
+steps_fit : (log : Journal) (c by s : ℕ) (steps : List ScaleStep) → s ≤ made_count log
+    → next_number log s + length steps ≤ last_number
     → FitAll log (step_lines log c by s steps)
 steps_fit log c by s [] below fits = tt
 steps_fit log c by s (Join b ∷ steps) below fits =
     let line : Line = plain_line c by (step_entry log s (Join b)) in
-    let next : next_number (line ∷ log) s ≡ 1 + next_number log s = rw (is_itself s) refl in
-    ((below, ((refl, omega (arith, fits)), refl)), steps_fit (line ∷ log) c by s steps below (omega (arith, fits, next)))
+    let next : next_number (line ∷ log) s ≡ 1 + next_number log s = rw (is_itself s) refl in (
+      (below, ((refl, omega (arith, fits)), refl)),
+      steps_fit (line ∷ log) c by s steps below (omega (arith, fits, next)),
+    )
 steps_fit log c by s (Cut b ∷ steps) below fits =
     let line : Line = plain_line c by (step_entry log s (Cut b)) in
-    let next : next_number (line ∷ log) s ≡ 1 + next_number log s = rw (is_itself s) refl in
-    ((below, ((refl, omega (arith, fits)), refl)), steps_fit (line ∷ log) c by s steps below (omega (arith, fits, next)))
+    let next : next_number (line ∷ log) s ≡ 1 + next_number log s = rw (is_itself s) refl in (
+      (below, ((refl, omega (arith, fits)), refl)),
+      steps_fit (line ∷ log) c by s steps below (omega (arith, fits, next)),
+    )
 
 steps_told : (log : Journal) (c by s : ℕ)
     (steps : List ScaleStep)
-    → map told_by (step_lines log c by s steps) ≡ lines_by c by (filter is_step (map (λ (line : Line). line.what) (step_lines log c by s steps)))
+    → map told_by (step_lines log c by s steps)
+    ≡ lines_by c by (filter is_step (map (λ (line : Line). line.what) (step_lines log c by s steps)))
 steps_told log c by s [] = refl
 steps_told log c by s (Join b ∷ steps) =
     let line : Line = plain_line c by (step_entry log s (Join b)) in
@@ -103,7 +120,8 @@ abbrev pub IsOther : Command → Type 0
 IsOther (command.Create name count) = ⊥
 IsOther _ = Unit {0}
 
-pub record Told (log : Journal) (c by : ℕ) (vs : List Known) (what : Command) (lines : List Line) (r : Reply) : Type 0 where
+pub record Told (log : Journal) (c by : ℕ) (vs : List Known) (what : Command) (lines : List Line) (r : Reply) :
+    Type 0 where
   pub can : MayNumber (changed_name what) vs what
   pub fits : FitAll log lines
   pub told : map told_by lines ≡ lines_by c by (entries_of vs what r)
@@ -111,20 +129,26 @@ pub record Told (log : Journal) (c by : ℕ) (vs : List Known) (what : Command) 
 module _ (log : Journal) (c by made : ℕ) (vs : List Known) (k : Knows log made vs) where
   -- what is known of a stream that a name finds
   in_named : {A : Type 0} (name : List ℕ) (s : ℕ) → stream_named log name ≡ Some s
-      → ((v : Known) → known_as name vs ≡ Some v → s ≡ v.no → s ≤ made_count log → next_number log s ≡ v.drawn + 1 → length (shards log s) ≡ v.shard + 1
+      → ((v : Known) → known_as name vs ≡ Some v → s ≡ v.no → s ≤ made_count log → next_number log s ≡ v.drawn + 1
+      → length (shards log s) ≡ v.shard + 1
       → v.drawn < last_number → A) → A
   in_named name s found each =
       let m = one_of (known_as name vs) s (sym (named_is log made vs name k) ∙ found) in
-      let below : s ≤ made_count log = found_is (λ n. n ≤ made_count log) (λ n. same_name (name_of log n) name) (live_streams log) s (live_below log) found in
+      let below : s ≤ made_count log =
+      found_is (λ n. n ≤ made_count log) (λ n. same_name (name_of log n) name) (live_streams log) s (live_below log)
+      found in
       let known : IsKnown log m.0 = found_is (IsKnown log) (λ (v : Known). same_name v.name name) vs m.0 k.known m.1 in
-      each m.0 m.1 (sym m.2) below (ap (next_number log) (sym m.2) ∙ known.next) (ap (λ n. length (shards log n)) (sym m.2) ∙ known.many) known.left
+      each m.0 m.1 (sym m.2) below (ap (next_number log) (sym m.2) ∙ known.next)
+      (ap (λ n. length (shards log n)) (sym m.2) ∙ known.many) known.left
 
   -- the one line of a command
-  tells_line : (what : Command) (line : Line) (r : Reply) → walks.Tells log c by what line r → IsOther what → Told log c by vs what (line ∷ []) r
+  tells_line : (what : Command) (line : Line) (r : Reply) → walks.Tells log c by what line r → IsOther what
+      → Told log c by vs what (line ∷ []) r
   tells_line _ _ _ (walks.Creates name count fits) other = absurd other
   tells_line _ _ _ (walks.Deletes name s named) other = in_named name s named (λ v is no below next many left.
       record { can = rw is tt; fits = (tt, tt); told = rw is (λ i. line_by c by (entry.Gone (no i)) ∷ []) })
-  tells_line _ _ _ (walks.Keeps name wanted raise s named fits) other = in_named name s named (λ v is no below next many left.
+  tells_line _ _ _ (walks.Keeps name wanted raise s named fits) other =
+      in_named name s named (λ v is no below next many left.
       record { can = rw is tt; fits = (tt, tt); told = rw is (λ i. line_by c by (entry.Kept (no i) wanted) ∷ []) })
   tells_line _ _ _ (walks.Enforces name on s named) other = in_named name s named (λ v is no below next many left.
       record { can = rw is tt; fits = (tt, tt); told = rw is (λ i. line_by c by (entry.Enforced (no i) on) ∷ []) })
@@ -135,7 +159,8 @@ module _ (log : Journal) (c by made : ℕ) (vs : List Known) (k : Knows log made
         fits = ((below, (refl, below_last _ v.drawn next left fits)), tt);
         told = rw is (λ i. line_by c by (put_entry (no i) item place) ∷ []);
       })
-  tells_line _ _ _ (walks.Splits name sh at s named listed fits) other = in_named name s named (λ v is no below next many left.
+  tells_line _ _ _ (walks.Splits name sh at s named listed fits) other =
+      in_named name s named (λ v is no below next many left.
       let parts = or_parts (nat_lt last_number (length (shards log s) + 1)) _ fits in
       let room : length (shards log s) + 1 ≤ last_number = at_most _ _ parts.0 in
       let upper : length (shards log s) + 1 ≡ v.shard + 2 = omega (arith, many) in
@@ -144,7 +169,8 @@ module _ (log : Journal) (c by made : ℕ) (vs : List Known) (k : Knows log made
         fits = ((below, ((refl, below_last _ v.drawn next left parts.1), refl)), tt);
         told = rw is (λ i. line_by c by (entry.Split (no i) sh at (next i) (many i) (upper i)) ∷ []);
       })
-  tells_line _ _ _ (walks.Merges name sh other s named listed fits) o = in_named name s named (λ v is no below next many left.
+  tells_line _ _ _ (walks.Merges name sh other s named listed fits) o =
+      in_named name s named (λ v is no below next many left.
       let parts = or_parts (nat_lt last_number (length (shards log s))) _ fits in
       let room : length (shards log s) ≤ last_number = at_most _ _ parts.0 in
       record {
@@ -155,12 +181,14 @@ module _ (log : Journal) (c by made : ℕ) (vs : List Known) (k : Knows log made
   tells_line _ _ _ (walks.Reads t position limit T place ended begun same) other = record {
     can = tt;
     fits = (tt, tt);
-    told = ap (λ (ns : List ℕ). line_by c by (entry.Read t limit ended ns) ∷ []) (read_told (batch log c T.key.stream T.key.shard (reach T) limit));
+    told = ap (λ (ns : List ℕ). line_by c by (entry.Read t limit ended ns) ∷ [])
+        (read_told (batch log c T.key.stream T.key.shard (reach T) limit));
   }
   tells_line _ _ _ _ other = record { can = tt; fits = (tt, tt); told = refl }
 
   -- any command but the making of a stream
-  pub tells : (what : Command) (lines : List Line) (r : Reply) → walks.Outcome log c by what lines (Ok r) → IsOther what → Told log c by vs what lines r
+  pub tells : (what : Command) (lines : List Line) (r : Reply) → walks.Outcome log c by what lines (Ok r) → IsOther what
+      → Told log c by vs what lines r
   tells _ _ _ (walks.Answers _ _ (walks.Surveys keys rows)) other = record { can = tt; fits = tt; told = refl }
   tells _ _ _ (walks.Answers _ _ _) other = record { can = tt; fits = tt; told = refl }
   tells _ _ _ (walks.Adds what line r line_is) other = tells_line what line r line_is other
@@ -168,7 +196,8 @@ module _ (log : Journal) (c by made : ℕ) (vs : List Known) (k : Knows log made
       record {
         can = rw is tt;
         fits = puts_fit log c by s items below (at_most _ _ fits);
-        told = rw is (puts_told log c by s items ∙ ap (λ n. lines_by c by (put_entries n items (put_outcomes log c by s items))) no);
+        told = rw is (puts_told log c by s items
+            ∙ ap (λ n. lines_by c by (put_entries n items (put_outcomes log c by s items))) no);
       })
   tells _ _ _ (walks.Scales name goal s named few fits) other = in_named name s named (λ v is no below next many left.
       let parts = or_parts (nat_lt last_number (next_number log s + length (steps_to log s goal))) _ fits in

@@ -1,5 +1,6 @@
 -- What a scribe knows of the turns that it noted.
-use Rattle.std.specs.Prelude.{◌≡◌, ℕ, ◌+◌, ◌-◌, ◌<◌, Bool, false, ◌==◌, not, if◌then◌else◌, List, [], ◌∷◌, ◌++◌, length, map, Option}
+use Rattle.std.specs.Prelude.{◌≡◌, ℕ, ◌+◌, ◌-◌, ◌<◌, Bool, false, ◌==◌, not, if◌then◌else◌, List, [], ◌∷◌, ◌++◌, length}
+use Rattle.std.specs.Prelude.{map, Option}
 use Rattle.std.specs.List.{AllByRecursion, filter, find}
 use Rattle.kds_defs.specs.declared.command.Turn.{Turn}
 use Rattle.kds_defs.specs.declared.entry.Entry.{Entry}
@@ -55,7 +56,8 @@ pub record StandsFor (s : ScribeValue) (h : List Turn) : Type 0 where
 abbrev pub renumbered : Entry → Known → Known
 renumbered (entry.Put s sh number hash bytes key_bytes) v = if s == v.no then record v { drawn = number } else v
 renumbered (entry.Split s sh at number low high) v = if s == v.no then record v { drawn = number; shard = high } else v
-renumbered (entry.Merged s sh other number child) v = if s == v.no then record v { drawn = number; shard = child } else v
+renumbered (entry.Merged s sh other number child) v =
+    if s == v.no then record v { drawn = number; shard = child } else v
 renumbered _ v = v
 
 -- an entry says that this stream is gone

@@ -1,5 +1,6 @@
 -- The entries of a command that was accepted, by its reply and what a scribe knows.
-use Rattle.std.specs.Prelude.{◌≡◌, ℕ, ◌+◌, ◌<◌, ◌≤◌, ◌==◌, Bool, true, false, if◌then◌else◌, List, [], ◌∷◌, length, map, Option, Some, None}
+use Rattle.std.specs.Prelude.{◌≡◌, ℕ, ◌+◌, ◌<◌, ◌≤◌, ◌==◌, Bool, true, false, if◌then◌else◌, List, [], ◌∷◌, length, map}
+use Rattle.std.specs.Prelude.{Option, Some, None}
 use Rattle.std.specs.List.{filter}
 use Rattle.kds_defs.specs.declared.command.Command.{Command}
 use Rattle.kds_defs.specs.declared.command.Command.TheVariants as command
@@ -70,7 +71,8 @@ lease_entries (command.Take key counter owner) (reply.Taken t n start) = entry.T
 lease_entries (command.Renew t counter) (reply.Counter n) = entry.Renewed t n ∷ []
 lease_entries (command.Free t counter) (reply.Counter n) = entry.Freed t n ∷ []
 lease_entries (command.OpenShard t) r = entry.Opened t ∷ []
-lease_entries (command.Read t position limit) (reply.Read batch reach ended) = entry.Read t limit ended (numbers_read batch) ∷ []
+lease_entries (command.Read t position limit) (reply.Read batch reach ended) =
+    entry.Read t limit ended (numbers_read batch) ∷ []
 lease_entries (command.Give t) r = entry.Given t ∷ []
 lease_entries (command.Mark t counter to) (reply.Counter n) = entry.Marked t n to ∷ []
 lease_entries (command.CutLease key counter) r = entry.LeaseCut key counter ∷ []

@@ -100,7 +100,8 @@ fn steps(alloc: Global, entries: &[Entry]) -> Result<Items<Entry>, Memory>
 fn split(stream: &Known, shard: ShardNo, at: u128) -> Entry
     requires drawn { stream.now.drawn < last_number }
     requires shard { stream.now.shard + 1 < last_number }
-    ensures { result ≡ entry.Split stream.now.no shard at (stream.now.drawn + 1) (stream.now.shard + 1) (stream.now.shard + 2) }
+    ensures { result ≡ entry.Split stream.now.no shard at (stream.now.drawn + 1) (stream.now.shard + 1)
+        (stream.now.shard + 2) }
 {
     Entry::Split {
         stream: stream.no,

@@ -8,6 +8,7 @@ ghost use Rattle.kcl_sim_scribe.specs.Added.{added_entries, entries_text, histor
 /// Each turn only appends lines to the journal of the earlier turns. The text of these lines is appended to the text of
 /// that journal.
 pub fn turn_by_turn()
-    ensures lines { (h : List Turn) (turn : Turn) → history_entries (turn ∷ h) ≡ history_entries h ++ added_entries h turn }
+    ensures lines { (h : List Turn) (turn : Turn) → history_entries (turn ∷ h) ≡ history_entries h
+        ++ added_entries h turn }
     ensures text { (xs ys : List EntryLine) → entries_text (xs ++ ys) ≡ entries_text xs ++ entries_text ys }
 {}

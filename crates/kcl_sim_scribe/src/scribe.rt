@@ -8,7 +8,8 @@ ghost use Rattle.kds_defs.specs.Lawful.{IsLawful};
 ghost use Rattle.kds_defs.specs.StreamCommands.{last_number};
 ghost use Rattle.kcl_sim_scribe.specs.Added.{added_entries};
 ghost use Rattle.kcl_sim_scribe.specs.Known.{StandsFor, changed_by, with_made};
-ghost use Rattle.kcl_sim_scribe.specs.Telling.{CanTell, MayNumber, told_after, told_lines, changed_name as name_changed, entries_of, line_by, lines_by};
+ghost use Rattle.kcl_sim_scribe.specs.Telling.{CanTell, MayNumber, told_after, told_lines};
+ghost use Rattle.kcl_sim_scribe.specs.Telling.{changed_name as name_changed, entries_of, line_by, lines_by};
 
 use crate::entries::on_stream;
 use crate::known::{Known, find, keep};
@@ -118,7 +119,8 @@ impl Scribe {
     ) -> Result<Items<EntryLine>, Memory>
         requires made { (self.old.made == last_number) ≡ false }
         requires shards { 1 ≤ shards }
-        ensures lines { IfOk result (λ ls. ls ≡ line_by clock by (entry.Made (self.old.made + 1) name.now shards) ∷ []) }
+        ensures lines { IfOk result (λ ls. ls ≡ line_by clock by (entry.Made (self.old.made + 1) name.now shards)
+            ∷ []) }
         ensures ok { OnOk result (self.new ≡ with_made name.now shards self.old) }
         ensures err { OnErr result (self.new ≡ self.old) }
     {
@@ -178,8 +180,10 @@ impl Scribe {
     ) -> Result<Items<EntryLine>, Memory>
         requires lawful { IsLawful turn.now }
         requires answered { (h : List Turn) × (StandsFor self.old h × (answer.now ≡ answer_after h turn.now)) }
-        ensures lines { (h : List Turn) → StandsFor self.old h → answer.now ≡ answer_after h turn.now → IfOk result (λ ls. ls ≡ added_entries h turn.now) }
-        ensures after { (h : List Turn) → StandsFor self.old h → answer.now ≡ answer_after h turn.now → OnOk result (StandsFor self.new (turn.now ∷ h)) }
+        ensures lines { (h : List Turn) → StandsFor self.old h → answer.now ≡ answer_after h turn.now
+            → IfOk result (λ ls. ls ≡ added_entries h turn.now) }
+        ensures after { (h : List Turn) → StandsFor self.old h → answer.now ≡ answer_after h turn.now
+            → OnOk result (StandsFor self.new (turn.now ∷ h)) }
         ensures kept { OnErr result (self.new ≡ self.old) }
     {
         let clock = self.clock.later(turn.at);

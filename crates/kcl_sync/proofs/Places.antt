@@ -1,5 +1,6 @@
 -- A key is in a list where a place of it was found.
-use Rattle.std.proofs.Common.{◌≡◌, ℕ, suc, ◌+◌, nat_lt, length, Bool, true, false, List, [], ◌∷◌, Some, None, refl, sym, ◌∙◌, is_some, arith}
+use Rattle.std.proofs.Common.{◌≡◌, ℕ, suc, ◌+◌, nat_lt, length, Bool, true, false, List, [], ◌∷◌, Some, None, refl, sym}
+use Rattle.std.proofs.Common.{◌∙◌, is_some, arith}
 use Rattle.std.specs.Prelude.{cond, not, ◌||◌, slice_get}
 use Rattle.std.specs.List.{list_any, position, position_or_len}
 use Rattle.std.proofs.lemmas.Bool.Decides.{nat_tests}
@@ -30,15 +31,19 @@ anywhere : {X : Type 0} (p : X → Bool) (xs : List X) → is_some (position p x
 anywhere p [] = refl
 anywhere p (x ∷ xs) = anywhere_here (p x) (list_any p xs) (position_or_len p xs) (length xs) (anywhere p xs)
 
-pub row_anywhere : (key : ShardRef) (rows : List Row) → is_some (position (λ r. same_key r.key key) rows) ≡ has_row rows key
+pub row_anywhere : (key : ShardRef) (rows : List Row) → is_some (position (λ r. same_key r.key key) rows)
+    ≡ has_row rows key
 row_anywhere key rows = anywhere (λ r. same_key r.key key) rows
 
-pub shard_anywhere : (key : ShardRef) (shards : List ShardRef) → is_some (position (λ k. same_key k key) shards) ≡ has_key shards key
+pub shard_anywhere : (key : ShardRef) (shards : List ShardRef) → is_some (position (λ k. same_key k key) shards)
+    ≡ has_key shards key
 shard_anywhere key shards = anywhere (λ k. same_key k key) shards
 
-pub row_at : (key : ShardRef) (rows : List Row) (i : ℕ) (r : Row) → slice_get rows i ≡ Some r → same_key r.key key ≡ true → has_row rows key ≡ true
+pub row_at : (key : ShardRef) (rows : List Row) (i : ℕ) (r : Row) → slice_get rows i ≡ Some r
+    → same_key r.key key ≡ true → has_row rows key ≡ true
 row_at key rows i r h same = any_passes_from_place (λ r. same_key r.key key) rows i r h same
 
-pub shard_at : (key : ShardRef) (shards : List ShardRef) (i : ℕ) (k : ShardRef) → slice_get shards i ≡ Some k → same_key k key ≡ true
+pub shard_at : (key : ShardRef) (shards : List ShardRef) (i : ℕ) (k : ShardRef) → slice_get shards i ≡ Some k
+    → same_key k key ≡ true
     → has_key shards key ≡ true
 shard_at key shards i k h same = any_passes_from_place (λ k. same_key k key) shards i k h same

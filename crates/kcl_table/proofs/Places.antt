@@ -1,5 +1,6 @@
 -- Where rows stand, and what is found there.
-use Rattle.std.proofs.Common.{◌≡◌, ℕ, zero, suc, ◌<◌, ◌≤◌, Bool, true, false, List, [], ◌∷◌, length, Some, None, refl, sym, ap, ◌∙◌, arith}
+use Rattle.std.proofs.Common.{◌≡◌, ℕ, zero, suc, ◌<◌, ◌≤◌, Bool, true, false, List, [], ◌∷◌, length, Some, None, refl}
+use Rattle.std.proofs.Common.{sym, ap, ◌∙◌, arith}
 use Rattle.std.specs.Prelude.{slice_get, slice_index_or, if◌then◌else◌}
 use Rattle.std.specs.List.Sorted.{IsPartitionedBy, IsPartitionPoint}
 use Rattle.kds_base.specs.declared.lease_key.ShardRef.{ShardRef}
@@ -13,7 +14,8 @@ use Rattle.kcl_table.proofs.Keys.{after_else, before_all, before_both, not_same,
 abbrev pub comes_before : ShardRef → Row → Bool
 comes_before key r = is_before r.key key
 
-all_at : (key : ShardRef) (rs : List Row) (j : ℕ) (d : Row) → IsBeforeAll key rs → j < length rs → is_before key (slice_index_or rs j d).key ≡ true
+all_at : (key : ShardRef) (rs : List Row) (j : ℕ) (d : Row) → IsBeforeAll key rs → j < length rs
+    → is_before key (slice_index_or rs j d).key ≡ true
 all_at key [] j d all h = absurd (omega arith)
 all_at key (r ∷ rs) zero d all h = all.0
 all_at key (r ∷ rs) (suc j) d all h = all_at key rs j d all.1 (omega arith)
@@ -24,28 +26,40 @@ partitioned key (r ∷ rs) order zero zero d le within is = is
 partitioned key (r ∷ rs) order zero (suc j) d le within is =
     before_both r.key (slice_index_or rs j d).key key (all_at r.key rs j d order.0 (omega arith)) is
 partitioned key (r ∷ rs) order (suc i) zero d le within is = absurd (omega arith)
-partitioned key (r ∷ rs) order (suc i) (suc j) d le within is = partitioned key rs order.1 i j d (omega arith) (omega arith) is
+partitioned key (r ∷ rs) order (suc i) (suc j) d le within is =
+    partitioned key rs order.1 i j d (omega arith) (omega arith) is
 
-pub place_is : (key : ShardRef) (rs : List Row) (i : ℕ) → i ≤ length rs → IsPartitionPoint (λ r. comes_before key r ≡ true) (λ r. comes_before key r ≡ false) rs i → i ≡ place_of key rs
+pub place_is : (key : ShardRef) (rs : List Row) (i : ℕ) → i ≤ length rs
+    → IsPartitionPoint (λ r. comes_before key r ≡ true) (λ r. comes_before key r ≡ false) rs i → i ≡ place_of key rs
 place_is key [] i le h = omega arith
-place_is key (r ∷ rs) zero le h = ap (λ b. if b then suc (place_of key rs) else 0) (sym (h.1 0 r (omega arith) (omega arith)))
+place_is key (r ∷ rs) zero le h =
+    ap (λ b. if b then suc (place_of key rs) else 0) (sym (h.1 0 r (omega arith) (omega arith)))
 place_is key (r ∷ rs) (suc i) le h =
-    let rest = place_is key rs i (omega arith) (λ k d low high. h.0 (suc k) d (omega arith) (omega arith), λ k d low high. h.1 (suc k) d (omega arith) (omega arith)) in
+    let rest = place_is key rs i (omega arith) (
+      λ k d low high. h.0 (suc k) d (omega arith) (omega arith),
+      λ k d low high. h.1 (suc k) d (omega arith) (omega arith),
+    ) in
     ap suc rest ∙ ap (λ b. if b then suc (place_of key rs) else 0) (sym (h.0 0 r (omega arith) (omega arith)))
 
 pub absent : (key : ShardRef) (rs : List Row) → IsBeforeAll key rs → row_of rs key ≡ None
 absent key [] all = refl
-absent key (r ∷ rs) all = ap (λ b. if b then Some r else row_of rs key) (not_same_after r.key key all.0) ∙ absent key rs all.1
+absent key (r ∷ rs) all = ap (λ b. if b then Some r else row_of rs key) (not_same_after r.key key all.0)
+    ∙ absent key rs all.1
 
-row_here : (key : ShardRef) (r : Row) (rs : List Row) (b d : Bool) → is_before r.key key ≡ b → same_key r.key key ≡ d → AreInOrder (r ∷ rs)
+row_here : (key : ShardRef) (r : Row) (rs : List Row) (b d : Bool) → is_before r.key key ≡ b → same_key r.key key ≡ d
+    → AreInOrder (r ∷ rs)
     → row_of rs key ≡ if_key key (slice_get rs (place_of key rs))
     → (if d then Some r else row_of rs key) ≡ if_key key (slice_get (r ∷ rs) (if b then suc (place_of key rs) else 0))
-row_here key r rs true true before same order rest = absurd (apart (same_key r.key key) same (not_same r.key key before))
+row_here key r rs true true before same order rest =
+    absurd (apart (same_key r.key key) same (not_same r.key key before))
 row_here key r rs true false before same order rest = rest
 row_here key r rs false true before same order rest = ap (λ d. if d then Some r else None) (sym same)
 row_here key r rs false false before same order rest =
-    absent key rs (before_all key r.key rs (after_else r.key key before same) order.0) ∙ ap (λ d. if d then Some r else None) (sym same)
+    absent key rs (before_all key r.key rs (after_else r.key key before same) order.0)
+    ∙ ap (λ d. if d then Some r else None) (sym same)
 
-pub row_there : (key : ShardRef) (rs : List Row) → AreInOrder rs → row_of rs key ≡ if_key key (slice_get rs (place_of key rs))
+pub row_there : (key : ShardRef) (rs : List Row) → AreInOrder rs
+    → row_of rs key ≡ if_key key (slice_get rs (place_of key rs))
 row_there key [] order = refl
-row_there key (r ∷ rs) order = row_here key r rs (is_before r.key key) (same_key r.key key) refl refl order (row_there key rs order.1)
+row_there key (r ∷ rs) order =
+    row_here key r rs (is_before r.key key) (same_key r.key key) refl refl order (row_there key rs order.1)

@@ -37,7 +37,8 @@ abbrev pub target_answer : Option Row → Target → ℕ → Bool → Result ℕ
 target_answer o to delivered at_end = past_checkpoint results o to delivered at_end (counted (counter_in o))
 
 abbrev pub mark_answer : Option Row → ℕ → ℕ → Target → ℕ → Bool → Result ℕ Refusal
-mark_answer o tenure counter to delivered at_end = past_mark results o tenure counter to delivered at_end (Ok (counter_in o + 1))
+mark_answer o tenure counter to delivered at_end =
+    past_mark results o tenure counter to delivered at_end (Ok (counter_in o + 1))
 
 -- the row is removed at its counter, once its shard isn't listed
 abbrev pub cut_answer : Option Row → ℕ → Bool → Result (Unit {0}) Refusal

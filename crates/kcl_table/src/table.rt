@@ -85,8 +85,10 @@ impl Table {
         parent: Option<ShardNo>,
         adjacent: Option<ShardNo>,
     ) -> Result<Result<(), Refusal>, Memory>
-        ensures value { IfOk result (λ a. a ≡ (if is_some (row_of self.old key) then Err refusal.LeaseThere else Ok tt)) }
-        ensures made { IfOk result (λ a. OnOk a (self.new ≡ with_row (new_row key floor start parent adjacent) self.old)) }
+        ensures value { IfOk result
+            (λ a. a ≡ (if is_some (row_of self.old key) then Err refusal.LeaseThere else Ok tt)) }
+        ensures made { IfOk result
+            (λ a. OnOk a (self.new ≡ with_row (new_row key floor start parent adjacent) self.old)) }
         ensures refused { IfOk result (λ a. OnErr a (self.new ≡ self.old)) }
         ensures kept { OnErr result (self.new ≡ self.old) }
     {

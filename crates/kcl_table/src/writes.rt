@@ -53,8 +53,10 @@ pub fn check_owner(
 ) -> Result<Row, Refusal>
     requires order { AreInOrder rows.now }
     requires some { tenure ≢ 0 }
-    ensures refused { (next : Result ℕ Refusal) → IfErr result (λ r. held_answer (row_of rows.now key.now) tenure counter next ≡ Err r) }
-    ensures held { (next : Result ℕ Refusal) → IfOk result (λ r. held_answer (row_of rows.now key.now) tenure counter next ≡ next) }
+    ensures refused { (next : Result ℕ Refusal)
+        → IfErr result (λ r. held_answer (row_of rows.now key.now) tenure counter next ≡ Err r) }
+    ensures held { (next : Result ℕ Refusal)
+        → IfOk result (λ r. held_answer (row_of rows.now key.now) tenure counter next ≡ next) }
     ensures row { IfOk result (λ r. row_of rows.now key.now ≡ Some r) }
 {
     let Some(row) = row_of(rows, key) else {

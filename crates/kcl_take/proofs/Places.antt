@@ -1,5 +1,6 @@
 -- A lease is among those of a worker where a place of it was found.
-use Rattle.std.proofs.Common.{◌≡◌, ℕ, suc, ◌+◌, nat_lt, length, Bool, true, false, List, [], ◌∷◌, Some, None, refl, sym, ◌∙◌, is_some, arith}
+use Rattle.std.proofs.Common.{◌≡◌, ℕ, suc, ◌+◌, nat_lt, length, Bool, true, false, List, [], ◌∷◌, Some, None, refl, sym}
+use Rattle.std.proofs.Common.{◌∙◌, is_some, arith}
 use Rattle.std.specs.Prelude.{cond, not, ◌&&◌, ◌||◌, slice_get}
 use Rattle.std.specs.List.{list_any, position, position_or_len}
 use Rattle.std.proofs.lemmas.Bool.Decides.{nat_tests}
@@ -32,7 +33,8 @@ anywhere p (x ∷ xs) = anywhere_here (p x) (list_any p xs) (position_or_len p x
 pub mine_anywhere : (r : Row) (held : List Held) → is_some (position (is_held_at r) held) ≡ is_mine held r
 mine_anywhere r held = anywhere (is_held_at r) held
 
-pub mine_at : (r : Row) (held : List Held) (i : ℕ) (h : Held) → slice_get held i ≡ Some h → is_held_at r h ≡ true → is_mine held r ≡ true
+pub mine_at : (r : Row) (held : List Held) (i : ℕ) (h : Held) → slice_get held i ≡ Some h → is_held_at r h ≡ true
+    → is_mine held r ≡ true
 mine_at r held i h at same = any_passes_from_place (is_held_at r) held i h at same
 
 -- in whichever order they are asked

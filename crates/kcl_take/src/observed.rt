@@ -133,8 +133,8 @@ impl Observed {
         }
     }
 
-    /// Returns the notes updated with `rows`, which the worker sees at the moment `now`. Each row that has no note, or a
-    /// note with another counter, gets a new note with the row's counter and `now`. The error means out of memory.
+    /// Returns the notes updated with `rows`, which the worker sees at the moment `now`. Each row that has no note, or
+    /// a note with another counter, gets a new note with the row's counter and `now`. The error means out of memory.
     pub fn with_rows(&self, alloc: Global, rows: &[Row], now: Moment) -> Result<Observed, Memory>
         ensures { IfOk result (λ o. (key : ShardRef) → seen_at o key ≡ after_rows rows.now now (seen_at self.now) key) }
     {
@@ -150,7 +150,8 @@ impl Observed {
     /// with another counter, gets a new note with the row's counter and `now`. The error means out of memory; the notes
     /// are then unchanged.
     pub fn see(&mut self, alloc: Global, rows: &[Row], now: Moment) -> Result<(), Memory>
-        ensures ok { OnOk result ((key : ShardRef) → seen_at self.new key ≡ after_rows rows.now now (seen_at self.old) key) }
+        ensures ok { OnOk result ((key : ShardRef)
+            → seen_at self.new key ≡ after_rows rows.now now (seen_at self.old) key) }
         ensures err { OnErr result (self.new ≡ self.old) }
     {
         *self = self.with_rows(alloc, rows, now)?;

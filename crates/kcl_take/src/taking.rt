@@ -4,7 +4,10 @@
 ghost use Rattle.std.specs.Prelude.{◌≡◌, ◌+◌, ◌/◌, ◌==◌, [], is_some, length, map, not, IfOk, OnOk};
 ghost use Rattle.std.specs.List.{cons_option, count_by, filter, list_any, position};
 ghost use Rattle.kds_defs.specs.Leases.{is_end};
-ghost use Rattle.kcl_defs.specs.Plans.{busier, busiest, candidate, candidates, chosen, expiry, first_step, is_available, is_key_held, is_mine, is_owned_by, is_held_at, load_of, loads, others, seen_at, stolen, take_among, take_plan, take_step, target_of, with_owner, with_worker};
+ghost use Rattle.kcl_defs.specs.Plans.{busier, busiest, candidate, candidates, chosen, expiry, first_step};
+ghost use Rattle.kcl_defs.specs.Plans.{is_available, is_key_held, is_mine, is_owned_by, is_held_at, load_of, loads};
+ghost use Rattle.kcl_defs.specs.Plans.{others, seen_at, stolen, take_among, take_plan, take_step, target_of};
+ghost use Rattle.kcl_defs.specs.Plans.{with_owner, with_worker};
 
 use crate::observed::Observed;
 use kcl_defs::{Held, TakeStep};
@@ -342,7 +345,8 @@ pub fn plan(
     now: Moment,
     failover: u64,
 ) -> Result<Items<TakeStep>, Memory>
-    ensures { IfOk result (λ steps. steps ≡ take_plan (expiry (seen_at observed.now) now failover) me held.now rows.now) }
+    ensures { IfOk result
+        (λ steps. steps ≡ take_plan (expiry (seen_at observed.now) now failover) me held.now rows.now) }
 {
     let rows = candidates(alloc, rows, observed, now, failover)?;
     take_among(alloc, me, held, rows.as_slice())

@@ -8,17 +8,20 @@ use Rattle.kcl_defs.specs.declared.plans.LeaseId.{LeaseId}
 use Rattle.kds_defs.specs.declared.reply.Refusal.{Refusal}
 use Rattle.kds_defs.specs.declared.reply.Reply.{Reply}
 use Rattle.kds_defs.specs.declared.reply.Stored.{Stored}
-use Rattle.kcl_defs.specs.Consumers.{Phase, Opening, Starting, Filling, Holding, Giving, Marking, Ending, MarkingEnd, Leaving, Over, due_call}
+use Rattle.kcl_defs.specs.Consumers.{Phase, Opening, Starting, Filling, Holding, Giving, Marking, Ending, MarkingEnd}
+use Rattle.kcl_defs.specs.Consumers.{Leaving, Over, due_call}
 use Rattle.kcl_defs.specs.Workers.{Known, is_before_id, is_due_known, same_id}
 use Rattle.kcl_consumer.specs.Standing.{HasAsked, Standing}
 use Rattle.kcl_worker.specs.Asks.{AskWithin, IsAsk, IsAskOf, IsWithin, processors}
-use Rattle.kcl_worker_lists.specs.Changes.{FirstCalled, FirstUncalled, answered_among, answered_in, is_over_in, live_among, lost_among, lost_in, with_consumer}
+use Rattle.kcl_worker_lists.specs.Changes.{FirstCalled, FirstUncalled, answered_among, answered_in, is_over_in}
+use Rattle.kcl_worker_lists.specs.Changes.{live_among, lost_among, lost_in, with_consumer}
 use Rattle.kcl_worker_lists.specs.Lists.{id_in}
 use Rattle.kcl_worker_lists.specs.Lists.{is_due}
 use Rattle.kcl_worker.specs.Standing.{ConsumersStand}
 use Rattle.kcl_worker.proofs.Happenings.{phase_known}
 
-pub within_lost : {P : Type 0} (asks : P → List Stored → Ask → Type 0) (may : List Stored → Ask → Type 0) (t : LeaseId → Bool) (cs : List (Standing P)) → AskWithin asks may cs → AskWithin asks may (lost_among t cs)
+pub within_lost : {P : Type 0} (asks : P → List Stored → Ask → Type 0) (may : List Stored → Ask → Type 0) (t : LeaseId
+    → Bool) (cs : List (Standing P)) → AskWithin asks may cs → AskWithin asks may (lost_among t cs)
 within_lost asks may t [] w = tt
 within_lost asks may t (c ∷ cs) w = (head (t (id_in c)), within_lost asks may t cs w.1)
   where
@@ -26,63 +29,87 @@ within_lost asks may t (c ∷ cs) w = (head (t (id_in c)), within_lost asks may 
     head true = w.0
     head false = w.0
 
-pub within_answered : {P : Type 0} (asks : P → List Stored → Ask → Type 0) (may : List Stored → Ask → Type 0) (id : LeaseId) (answer : Result Reply Refusal) (cs : List (Standing P)) → AskWithin asks may cs → AskWithin asks may (answered_among id answer cs)
+pub within_answered : {P : Type 0} (asks : P → List Stored → Ask → Type 0) (may : List Stored → Ask
+    → Type 0) (id : LeaseId) (answer : Result Reply Refusal) (cs : List (Standing P)) → AskWithin asks may cs
+    → AskWithin asks may (answered_among id answer cs)
 within_answered asks may id answer [] w = tt
 within_answered asks may id answer (c ∷ cs) w = head (same_id (id_in c) id) (within_answered asks may id answer cs w.1)
   where
-    head : (b : Bool) → AskWithin asks may (answered_among id answer cs) → AskWithin asks may (if b then answered_in answer c ∷ cs else c ∷ answered_among id answer cs)
+    head : (b : Bool) → AskWithin asks may (answered_among id answer cs)
+        → AskWithin asks may (if b then answered_in answer c ∷ cs else c ∷ answered_among id answer cs)
     head true rest = (w.0, w.1)
     head false rest = (w.0, rest)
 
-pub within_with : {P : Type 0} (asks : P → List Stored → Ask → Type 0) (may : List Stored → Ask → Type 0) (c : Standing P) (ds : List (Standing P)) → IsWithin asks may c.processor → AskWithin asks may ds → AskWithin asks may (with_consumer c ds)
+pub within_with : {P : Type 0} (asks : P → List Stored → Ask → Type 0) (may : List Stored → Ask
+    → Type 0) (c : Standing P) (ds : List (Standing P)) → IsWithin asks may c.processor → AskWithin asks may ds
+    → AskWithin asks may (with_consumer c ds)
 within_with asks may c [] one w = (one, tt)
 within_with asks may c (d ∷ ds) one w = head (is_before_id (id_in c) (id_in d)) (within_with asks may c ds one w.1)
   where
-    head : (b : Bool) → AskWithin asks may (with_consumer c ds) → AskWithin asks may (if b then c ∷ d ∷ ds else d ∷ with_consumer c ds)
+    head : (b : Bool) → AskWithin asks may (with_consumer c ds)
+        → AskWithin asks may (if b then c ∷ d ∷ ds else d ∷ with_consumer c ds)
     head true rest = (one, w)
     head false rest = (w.0, rest)
 
-pub within_live : {P : Type 0} (asks : P → List Stored → Ask → Type 0) (may : List Stored → Ask → Type 0) (cs : List (Standing P)) → AskWithin asks may cs → AskWithin asks may (live_among cs)
+pub within_live : {P : Type 0} (asks : P → List Stored → Ask → Type 0) (may : List Stored → Ask
+    → Type 0) (cs : List (Standing P)) → AskWithin asks may cs → AskWithin asks may (live_among cs)
 within_live asks may [] w = tt
 within_live asks may (c ∷ cs) w = head (is_over_in c) (within_live asks may cs w.1)
   where
-    head : (b : Bool) → AskWithin asks may (live_among cs) → AskWithin asks may (cond (not b) (c ∷ live_among cs) (live_among cs))
+    head : (b : Bool) → AskWithin asks may (live_among cs)
+        → AskWithin asks may (cond (not b) (c ∷ live_among cs) (live_among cs))
     head true rest = rest
     head false rest = (w.0, rest)
 
 -- what is written of the consumers, and then those that are over are retired
-pub within_settled : {P : Type 0} (asks : P → List Stored → Ask → Type 0) (may : List Stored → Ask → Type 0) (cs live : List (Standing P)) → live ≡ live_among cs → AskWithin asks may cs → AskWithin asks may live
+pub within_settled : {P : Type 0} (asks : P → List Stored → Ask → Type 0) (may : List Stored → Ask
+    → Type 0) (cs live : List (Standing P)) → live ≡ live_among cs → AskWithin asks may cs → AskWithin asks may live
 within_settled asks may cs live is w = subst (AskWithin asks may) (sym is) (within_live asks may cs w)
 
 -- a loss changes no processor
-pub lost_processors : {P : Type 0} (t : LeaseId → Bool) (cs : List (Standing P)) → processors (lost_among t cs) ≡ processors cs
+pub lost_processors : {P : Type 0} (t : LeaseId → Bool) (cs : List (Standing P))
+    → processors (lost_among t cs) ≡ processors cs
 lost_processors t [] = refl
 lost_processors t (c ∷ cs) = head (t (id_in c)) (lost_processors t cs)
   where
-    head : (b : Bool) → processors (lost_among t cs) ≡ processors cs → ((if b then lost_in c else c).processor ∷ processors (lost_among t cs)) ≡ (c.processor ∷ processors cs)
+    head : (b : Bool) → processors (lost_among t cs) ≡ processors cs
+        → ((if b then lost_in c else c).processor ∷ processors (lost_among t cs)) ≡ (c.processor ∷ processors cs)
     head true e = ap (λ ps. c.processor ∷ ps) e
     head false e = ap (λ ps. c.processor ∷ ps) e
 
 -- where more may be asked
-pub within_more : {P : Type 0} (asks : P → List Stored → Ask → Type 0) (may more : List Stored → Ask → Type 0) (cs : List (Standing P)) → ((batch : List Stored) (a : Ask) → may batch a → more batch a) → AskWithin asks may cs → AskWithin asks more cs
+pub within_more : {P : Type 0} (asks : P → List Stored → Ask → Type 0) (may more : List Stored → Ask
+    → Type 0) (cs : List (Standing P)) → ((batch : List Stored) (a : Ask) → may batch a → more batch a)
+    → AskWithin asks may cs → AskWithin asks more cs
 within_more asks may more [] f w = tt
 within_more asks may more (c ∷ cs) f w = (λ batch a h. f batch a (w.0 batch a h), within_more asks may more cs f w.1)
 
 -- ---- the processor that is called
 
-steady_among : {P : Type 0} (asks : P → List Stored → Ask → Type 0) (may : List Stored → Ask → Type 0) (before behind : List (Standing P)) (one same : Standing P) → ((batch : List Stored) (a : Ask) → asks same.processor batch a → asks one.processor batch a) → AskWithin asks may (before ++ (one ∷ behind)) → AskWithin asks may (before ++ (same ∷ behind))
+steady_among : {P : Type 0} (asks : P → List Stored → Ask → Type 0) (may : List Stored → Ask
+    → Type 0) (before behind : List (Standing P)) (one same : Standing P)
+    → ((batch : List Stored) (a : Ask) → asks same.processor batch a → asks one.processor batch a)
+    → AskWithin asks may (before ++ (one ∷ behind)) → AskWithin asks may (before ++ (same ∷ behind))
 steady_among asks may [] behind one same f w = (λ batch a h. w.0 batch a (f batch a h), w.1)
 steady_among asks may (c ∷ before) behind one same f w = (w.0, steady_among asks may before behind one same f w.1)
 
-pub within_called : {P : Type 0} (stands : P → List Call → Type 0) (asks : P → List Stored → Ask → Type 0) (may : List Stored → Ask → Type 0) (asked : Ask) (old new : List (Standing P)) → FirstCalled stands asks asked old new → AskWithin asks may old → AskWithin asks may new
+pub within_called : {P : Type 0} (stands : P → List Call → Type 0) (asks : P → List Stored → Ask
+    → Type 0) (may : List Stored → Ask → Type 0) (asked : Ask) (old new : List (Standing P))
+    → FirstCalled stands asks asked old new → AskWithin asks may old → AskWithin asks may new
 within_called stands asks may asked old new f w =
-    subst (AskWithin asks may) (sym f.is) (steady_among asks may f.before f.behind f.one f.called f.has.steady (subst (AskWithin asks may) f.was w))
+    subst (AskWithin asks may) (sym f.is)
+    (steady_among asks may f.before f.behind f.one f.called f.has.steady (subst (AskWithin asks may) f.was w))
 
-pub within_uncalled : {P : Type 0} (stands : P → List Call → Type 0) (asks : P → List Stored → Ask → Type 0) (may : List Stored → Ask → Type 0) (old new : List (Standing P)) → FirstUncalled stands asks old new → AskWithin asks may old → AskWithin asks may new
+pub within_uncalled : {P : Type 0} (stands : P → List Call → Type 0) (asks : P → List Stored → Ask
+    → Type 0) (may : List Stored → Ask → Type 0) (old new : List (Standing P)) → FirstUncalled stands asks old new
+    → AskWithin asks may old → AskWithin asks may new
 within_uncalled stands asks may old new f w =
-    subst (AskWithin asks may) (sym f.is) (steady_among asks may f.before f.behind f.one f.same f.has.steady (subst (AskWithin asks may) f.was w))
+    subst (AskWithin asks may) (sym f.is)
+    (steady_among asks may f.before f.behind f.one f.same f.has.steady (subst (AskWithin asks may) f.was w))
 
-is_ask : {P : Type 0} (asks : P → List Stored → Ask → Type 0) (may : List Stored → Ask → Type 0) (p : P) (phase : Phase) (asked : Ask) → HasAsked asks p phase asked → ((batch : List Stored) (a : Ask) → asks p batch a → may batch a) → IsAsk may phase asked
+is_ask : {P : Type 0} (asks : P → List Stored → Ask → Type 0) (may : List Stored → Ask → Type 0) (p : P) (phase : Phase)
+    (asked : Ask) → HasAsked asks p phase asked → ((batch : List Stored) (a : Ask) → asks p batch a → may batch a)
+    → IsAsk may phase asked
 is_ask asks may p Opening asked h f = h
 is_ask asks may p Starting asked h f = h
 is_ask asks may p (Filling reach waiting) asked h f = h
@@ -94,24 +121,34 @@ is_ask asks may p MarkingEnd asked h f = h
 is_ask asks may p (Leaving why) asked h f = h
 is_ask asks may p (Over why) asked h f = h
 
-ask_among : {P : Type 0} (stands : P → List Call → Type 0) (asks : P → List Stored → Ask → Type 0) (may : List Stored → Ask → Type 0) (asked : Ask) (before behind : List (Standing P)) (one : Standing P) (ks : List Known) → AllByRecursion (λ c. is_due c ≡ false) before → is_due one ≡ true → HasAsked asks one.processor one.phase asked → AskWithin asks may (before ++ (one ∷ behind)) → ConsumersStand stands (before ++ (one ∷ behind)) ks → IsAskOf may (find is_due_known ks) asked
+ask_among : {P : Type 0} (stands : P → List Call → Type 0) (asks : P → List Stored → Ask → Type 0) (may : List Stored
+    → Ask → Type 0) (asked : Ask) (before behind : List (Standing P)) (one : Standing P) (ks : List Known)
+    → AllByRecursion (λ c. is_due c ≡ false) before → is_due one ≡ true → HasAsked asks one.processor one.phase asked
+    → AskWithin asks may (before ++ (one ∷ behind)) → ConsumersStand stands (before ++ (one ∷ behind)) ks
+    → IsAskOf may (find is_due_known ks) asked
 ask_among stands asks may asked [] behind one [] none due has w s = absurd s
 ask_among stands asks may asked [] behind one (k ∷ ks) none due has w s =
     head (is_due_known k) (sym due ∙ ap (λ p. is_some (due_call p)) (phase_known stands one k (s.0, s.1)))
   where
     head : (b : Bool) → true ≡ b → IsAskOf may (cond b (Some k) (find is_due_known ks)) asked
-    head true e = subst (λ p. IsAsk may p asked) (phase_known stands one k (s.0, s.1)) (is_ask asks may one.processor one.phase asked has w.0)
+    head true e = subst (λ p. IsAsk may p asked) (phase_known stands one k (s.0, s.1))
+        (is_ask asks may one.processor one.phase asked has w.0)
     head false e = absurd cc
 ask_among stands asks may asked (c ∷ before) behind one [] none due has w s = absurd s
 ask_among stands asks may asked (c ∷ before) behind one (k ∷ ks) none due has w s =
     head (is_due_known k) (sym none.0 ∙ ap (λ p. is_some (due_call p)) (phase_known stands c k (s.0, s.1)))
     (ask_among stands asks may asked before behind one ks none.1 due has w.1 s.2)
   where
-    head : (b : Bool) → false ≡ b → IsAskOf may (find is_due_known ks) asked → IsAskOf may (cond b (Some k) (find is_due_known ks)) asked
+    head : (b : Bool) → false ≡ b → IsAskOf may (find is_due_known ks) asked
+        → IsAskOf may (cond b (Some k) (find is_due_known ks)) asked
     head false e rest = rest
     head true e rest = absurd cc
 
 -- what it asks it may ask
-pub asked_so : {P : Type 0} (stands : P → List Call → Type 0) (asks : P → List Stored → Ask → Type 0) (may : List Stored → Ask → Type 0) (asked : Ask) (old new : List (Standing P)) (ks : List Known) → FirstCalled stands asks asked old new → AskWithin asks may old → ConsumersStand stands old ks → IsAskOf may (find is_due_known ks) asked
+pub asked_so : {P : Type 0} (stands : P → List Call → Type 0) (asks : P → List Stored → Ask → Type 0) (may : List Stored
+    → Ask → Type 0) (asked : Ask) (old new : List (Standing P)) (ks : List Known)
+    → FirstCalled stands asks asked old new → AskWithin asks may old → ConsumersStand stands old ks
+    → IsAskOf may (find is_due_known ks) asked
 asked_so stands asks may asked old new ks f w s =
-    ask_among stands asks may asked f.before f.behind f.one ks f.none_due f.due f.has.asked_so (subst (AskWithin asks may) f.was w) (subst (λ cs. ConsumersStand stands cs ks) f.was s)
+    ask_among stands asks may asked f.before f.behind f.one ks f.none_due f.due f.has.asked_so
+    (subst (AskWithin asks may) f.was w) (subst (λ cs. ConsumersStand stands cs ks) f.was s)

@@ -1,5 +1,6 @@
 -- The next command, by the consumers as the code keeps them and by those of the record.
-use Rattle.std.proofs.Common.{◌≡◌, ℕ, ◌<◌, ◌≤◌, suc, get_or, drop, length, Bool, true, false, List, [], ◌∷◌, Option, Some, None, refl, sym, ap, subst, ◌∙◌, arith}
+use Rattle.std.proofs.Common.{◌≡◌, ℕ, ◌<◌, ◌≤◌, suc, get_or, drop, length, Bool, true, false, List, [], ◌∷◌, Option}
+use Rattle.std.proofs.Common.{Some, None, refl, sym, ap, subst, ◌∙◌, arith}
 use Rattle.std.specs.Prelude.{◌==◌, ◌&&◌, ◌||◌, cond, is_some, not}
 use Rattle.std.specs.List.{AllByRecursion, find, list_any}
 use Rattle.std.specs.Option.{option_map}
@@ -16,7 +17,11 @@ use Rattle.kcl_defs.specs.declared.plans.LeaseId.{LeaseId}
 use Rattle.kcl_defs.specs.declared.plans.SyncStep.{SyncStep}
 use Rattle.kcl_defs.specs.declared.plans.TakeStep.{TakeStep}
 use Rattle.kcl_defs.specs.Consumers.{Phase, due_call, next_command, over_at, phase_after}
-use Rattle.kcl_defs.specs.Workers.{Known, WorkerState, WorkerPast, Gave_command, Pending, Round, AtStopping, Surveying, Consuming, Finishing, Freeing, chore_from, consumer_chore, consumer_command, counter_of, freeing_chore, from_consumers, id_of, is_giving, is_giving_phase, is_nothing_held, is_past, is_stopping, known_of, next_pending, pending_chore, pending_of, phase_of_known, same_id, stopping_chore, worker_after}
+use Rattle.kcl_defs.specs.Workers.{Known, WorkerState, WorkerPast, Gave_command, Pending, Round, AtStopping, Surveying}
+use Rattle.kcl_defs.specs.Workers.{Consuming, Finishing, Freeing, chore_from, consumer_chore, consumer_command}
+use Rattle.kcl_defs.specs.Workers.{counter_of, freeing_chore, from_consumers, id_of, is_giving, is_giving_phase}
+use Rattle.kcl_defs.specs.Workers.{is_nothing_held, is_past, is_stopping, known_of, next_pending, pending_chore}
+use Rattle.kcl_defs.specs.Workers.{pending_of, phase_of_known, same_id, stopping_chore, worker_after}
 use Rattle.kcl_consumer.specs.Standing.{Standing}
 use Rattle.kcl_worker.specs.declared.round.Asked.{Asked}
 use Rattle.kcl_worker.specs.declared.round.Asked.TheVariants as asked
@@ -24,7 +29,8 @@ use Rattle.kcl_worker_lists.specs.Lists.{giving_in, id_in, past_in}
 use Rattle.kcl_worker.specs.Outlook.{IsGiven, IsReady}
 use Rattle.kcl_worker.specs.Parts.{chore_of}
 use Rattle.kcl_worker_lists.specs.Lists.{due_in, due_or, is_due}
-use Rattle.kcl_worker.specs.Standing.{ConsumersStand, ShowsState, StandsFor, WorkerStanding, is_due_in, is_giving_in, is_idle_in}
+use Rattle.kcl_worker.specs.Standing.{ConsumersStand, ShowsState, StandsFor, WorkerStanding, is_due_in, is_giving_in}
+use Rattle.kcl_worker.specs.Standing.{is_idle_in}
 use Rattle.kcl_worker.proofs.Happenings.{phase_known}
 
 -- ---- the same consumer is found on both sides
@@ -35,14 +41,20 @@ IsFoundSo (Some c) (Some k) = (c.made ≡ k.made) × (c.phase ≡ phase_of_known
 IsFoundSo None (Some k) = ⊥
 IsFoundSo (Some c) None = ⊥
 
-pub found_so : {P : Type 0} (stands : P → List Call → Type 0) (t : LeaseId → Phase → Bool) (cs : List (Standing P)) (ks : List Known) → ConsumersStand stands cs ks → IsFoundSo (find (λ c. t (id_in c) c.phase) cs) (find (λ k. t (id_of k) (phase_of_known k)) ks)
+pub found_so : {P : Type 0} (stands : P → List Call → Type 0) (t : LeaseId → Phase → Bool) (cs : List (Standing P))
+    (ks : List Known) → ConsumersStand stands cs ks
+    → IsFoundSo (find (λ c. t (id_in c) c.phase) cs) (find (λ k. t (id_of k) (phase_of_known k)) ks)
 found_so stands t [] [] s = tt
 found_so stands t (c ∷ cs) (k ∷ ks) s =
     let same : c.phase ≡ phase_of_known k = s.1.phase ∙ ap (λ m. phase_after m k.past) s.0 in
-    let e : t (id_in c) c.phase ≡ t (id_of k) (phase_of_known k) = ap (λ m. t (record { key = m.key; tenure = m.tenure }) c.phase) s.0 ∙ ap (λ p. t (id_of k) p) same in
+    let e : t (id_in c) c.phase ≡ t (id_of k) (phase_of_known k) =
+    ap (λ m. t (record { key = m.key; tenure = m.tenure }) c.phase) s.0 ∙ ap (λ p. t (id_of k) p) same in
     head (t (id_in c) c.phase) (t (id_of k) (phase_of_known k)) e (s.0, same) (found_so stands t cs ks s.2)
   where
-    head : (a b : Bool) → a ≡ b → (c.made ≡ k.made) × (c.phase ≡ phase_of_known k) → IsFoundSo (find (λ c. t (id_in c) c.phase) cs) (find (λ k. t (id_of k) (phase_of_known k)) ks) → IsFoundSo (cond a (Some c) (find (λ c. t (id_in c) c.phase) cs)) (cond b (Some k) (find (λ k. t (id_of k) (phase_of_known k)) ks))
+    head : (a b : Bool) → a ≡ b → (c.made ≡ k.made) × (c.phase ≡ phase_of_known k)
+        → IsFoundSo (find (λ c. t (id_in c) c.phase) cs) (find (λ k. t (id_of k) (phase_of_known k)) ks)
+        → IsFoundSo (cond a (Some c) (find (λ c. t (id_in c) c.phase) cs))
+        (cond b (Some k) (find (λ k. t (id_of k) (phase_of_known k)) ks))
     head true true e same rest = same
     head false false e same rest = rest
     head true false e same rest = absurd cc
@@ -53,7 +65,8 @@ found_so stands t (c ∷ cs) [] s = absurd s
 -- ---- what is found by its lease is the first of that lease
 
 same_numbers : (a b c d e f : ℕ) → ((a == d) && (b == e) && (c == f)) ≡ true → (a ≡ d) × (b ≡ e) × (c ≡ f)
-same_numbers a b c d e f h = (one a d (b == e) (c == f) h, two b e (a == d) (c == f) h, three c f ((a == d) && (b == e)) h)
+same_numbers a b c d e f h =
+    (one a d (b == e) (c == f) h, two b e (a == d) (c == f) h, three c f ((a == d) && (b == e)) h)
   where
     one : (a d : ℕ) (s t : Bool) → ((a == d) && s && t) ≡ true → a ≡ d
     one a d true true h = grind (arith, nat_tests)
@@ -79,7 +92,8 @@ same_test t a b h =
 own_id : (a b c : ℕ) → ((a == a) && (b == b) && (c == c)) ≡ true
 own_id a b c = grind (arith, nat_tests)
 
-pub by_id : (t : LeaseId → Bool) (k : Known) (ks : List Known) → find (λ j. t (id_of j)) ks ≡ Some k → (known_of (id_of k) ks ≡ Some k) × (t (id_of k) ≡ true)
+pub by_id : (t : LeaseId → Bool) (k : Known) (ks : List Known) → find (λ j. t (id_of j)) ks ≡ Some k
+    → (known_of (id_of k) ks ≡ Some k) × (t (id_of k) ≡ true)
 by_id t k [] h = absurd cc
 by_id t k (x ∷ xs) h = head (t (id_of x)) refl h (λ g. by_id t k xs g)
   where
@@ -90,17 +104,24 @@ by_id t k (x ∷ xs) h = head (t (id_of x)) refl h (λ g. by_id t k xs g)
     passes false e n y = refl
     passes true e n y = absurd (let f = same_test t (id_of x) (id_of k) e in cc)
 
-    head : (b : Bool) → t (id_of x) ≡ b → cond b (Some x) (find (λ j. t (id_of j)) xs) ≡ Some k → (find (λ j. t (id_of j)) xs ≡ Some k → (known_of (id_of k) xs ≡ Some k) × (t (id_of k) ≡ true)) → (known_of (id_of k) (x ∷ xs) ≡ Some k) × (t (id_of k) ≡ true)
+    head : (b : Bool) → t (id_of x) ≡ b → cond b (Some x) (find (λ j. t (id_of j)) xs) ≡ Some k
+        → (find (λ j. t (id_of j)) xs ≡ Some k → (known_of (id_of k) xs ≡ Some k) × (t (id_of k) ≡ true))
+        → (known_of (id_of k) (x ∷ xs) ≡ Some k) × (t (id_of k) ≡ true)
     head true e g rest =
         let P : Known → Type 0 = λ j. (known_of (id_of j) (x ∷ xs) ≡ Some j) × (t (id_of j) ≡ true) in
-        subst P (same_known x k g) (ap (λ b. cond b (Some x) (known_of (id_of x) xs)) (own_id x.made.key.stream x.made.key.shard x.made.tenure), e)
+        subst P (same_known x k g) (
+          ap (λ b. cond b (Some x) (known_of (id_of x) xs))
+              (own_id x.made.key.stream x.made.key.shard x.made.tenure),
+          e,
+        )
     head false e g rest =
         let r = rest g in
         (ap (λ b. cond b (Some x) (known_of (id_of k) xs)) (passes (same_id (id_of x) (id_of k)) refl e r.1) ∙ r.0, r.1)
 
 -- ---- what holds of all holds of what is found
 
-pub all_found : {A : Type 0} (P : A → Type 0) (t : A → Bool) (x : A) (xs : List A) → find t xs ≡ Some x → AllByRecursion P xs → P x
+pub all_found : {A : Type 0} (P : A → Type 0) (t : A → Bool) (x : A) (xs : List A) → find t xs ≡ Some x
+    → AllByRecursion P xs → P x
 all_found P t x [] h all = absurd cc
 all_found {A} P t x (y ∷ ys) h all = head (t y) h (λ g. all_found P t x ys g all.1)
   where
@@ -112,22 +133,30 @@ all_found {A} P t x (y ∷ ys) h all = head (t y) h (λ g. all_found P t x ys g 
     head false g rest = rest g
 
 -- no call is due, and none is over: each is ready
-pub ready : {P : Type 0} (cs : List (Standing P)) → due_in cs ≡ None → AllByRecursion (λ c. over_at c.phase ≡ None) cs → AllByRecursion IsReady cs
+pub ready : {P : Type 0} (cs : List (Standing P)) → due_in cs ≡ None → AllByRecursion (λ c. over_at c.phase ≡ None) cs
+    → AllByRecursion IsReady cs
 ready [] none all = tt
 ready (c ∷ cs) none all = head (due_call c.phase) refl none (λ n. ready cs n all.1)
   where
-    head : (o : Option Due) → due_call c.phase ≡ o → due_or c o (due_in cs) ≡ None → (due_in cs ≡ None → AllByRecursion IsReady cs) → AllByRecursion IsReady (c ∷ cs)
+    head : (o : Option Due) → due_call c.phase ≡ o → due_or c o (due_in cs) ≡ None
+        → (due_in cs ≡ None → AllByRecursion IsReady cs) → AllByRecursion IsReady (c ∷ cs)
     head None e n rest = ((e, all.0), rest n)
     head (Some due) e n rest = absurd cc
 
 -- ---- a consumer's command
 
-pub consumer_given : {P : Type 0} (stands : P → List Call → Type 0) (made : WorkerMade) (s : WorkerState) (syncs : List SyncStep) (takes : List TakeStep) (place : Option LeaseId) (cs : List (Standing P)) (held : List Held) (c : Standing P) (what : Command) → ConsumersStand stands cs s.consumers → held ≡ s.held → past_in place cs ≡ Some c → next_command c.made c.phase (counter_of (id_in c) held) ≡ Some what → IsGiven made s syncs takes (Some (from_consumers place s)) (asked.Consume (id_in c)) what
+pub consumer_given : {P : Type 0} (stands : P → List Call → Type 0) (made : WorkerMade) (s : WorkerState)
+    (syncs : List SyncStep) (takes : List TakeStep) (place : Option LeaseId) (cs : List (Standing P)) (held : List Held)
+    (c : Standing P) (what : Command) → ConsumersStand stands cs s.consumers → held ≡ s.held → past_in place cs ≡ Some c
+    → next_command c.made c.phase (counter_of (id_in c) held) ≡ Some what
+    → IsGiven made s syncs takes (Some (from_consumers place s)) (asked.Consume (id_in c)) what
 consumer_given {P} stands made s syncs takes place cs held c what stand same found next =
     go (find (λ k. is_past place (id_of k)) s.consumers) refl
-    (subst (λ o. IsFoundSo o (find (λ k. is_past place (id_of k)) s.consumers)) found (found_so stands (λ id p. is_past place id) cs s.consumers stand))
+    (subst (λ o. IsFoundSo o (find (λ k. is_past place (id_of k)) s.consumers)) found
+    (found_so stands (λ id p. is_past place id) cs s.consumers stand))
   where
-    go : (o : Option Known) → find (λ k. is_past place (id_of k)) s.consumers ≡ o → IsFoundSo (Some c) o → IsGiven made s syncs takes (Some (consumer_chore o)) (asked.Consume (id_in c)) what
+    go : (o : Option Known) → find (λ k. is_past place (id_of k)) s.consumers ≡ o → IsFoundSo (Some c) o
+        → IsGiven made s syncs takes (Some (consumer_chore o)) (asked.Consume (id_in c)) what
     go None e f = absurd f
     go (Some k) e f =
         let of_known : next_command k.made (phase_of_known k) (counter_of (id_of k) s.held) ≡ Some what =
@@ -142,23 +171,34 @@ consumer_given {P} stands made s syncs takes place cs held c what stand same fou
           command = ap (λ o. consumer_command s o) (by_id (is_past place) k s.consumers e).0 ∙ of_known;
         }
 
-pub survey_given : {P : Type 0} (stands : P → List Call → Type 0) (made : WorkerMade) (s : WorkerState) (syncs : List SyncStep) (takes : List TakeStep) (place : Option LeaseId) (cs : List (Standing P)) → ConsumersStand stands cs s.consumers → past_in place cs ≡ None → IsGiven made s syncs takes (Some (from_consumers place s)) asked.Survey command.Survey
+pub survey_given : {P : Type 0} (stands : P → List Call → Type 0) (made : WorkerMade) (s : WorkerState)
+    (syncs : List SyncStep) (takes : List TakeStep) (place : Option LeaseId) (cs : List (Standing P))
+    → ConsumersStand stands cs s.consumers → past_in place cs ≡ None
+    → IsGiven made s syncs takes (Some (from_consumers place s)) asked.Survey command.Survey
 survey_given {P} stands made s syncs takes place cs stand found =
     go (find (λ k. is_past place (id_of k)) s.consumers)
-    (subst (λ o. IsFoundSo o (find (λ k. is_past place (id_of k)) s.consumers)) found (found_so stands (λ id p. is_past place id) cs s.consumers stand))
+    (subst (λ o. IsFoundSo o (find (λ k. is_past place (id_of k)) s.consumers)) found
+    (found_so stands (λ id p. is_past place id) cs s.consumers stand))
   where
-    go : (o : Option Known) → IsFoundSo {P = P} None o → IsGiven made s syncs takes (Some (consumer_chore o)) asked.Survey command.Survey
+    go : (o : Option Known) → IsFoundSo {P = P} None o
+        → IsGiven made s syncs takes (Some (consumer_chore o)) asked.Survey command.Survey
     go None f = record { which = Surveying; is = refl; asks = refl; command = refl }
     go (Some k) f = absurd f
 
 -- ---- at a stop
 
-pub giving_given : {P : Type 0} (stands : P → List Call → Type 0) (made : WorkerMade) (s : WorkerState) (syncs : List SyncStep) (takes : List TakeStep) (cs : List (Standing P)) (c : Standing P) → ConsumersStand stands cs s.consumers → giving_in cs ≡ Some c → IsGiven made s syncs takes (stopping_chore s (find is_giving s.consumers)) (asked.Finish (id_in c)) (command.Give c.made.tenure)
+pub giving_given : {P : Type 0} (stands : P → List Call → Type 0) (made : WorkerMade) (s : WorkerState)
+    (syncs : List SyncStep) (takes : List TakeStep) (cs : List (Standing P)) (c : Standing P)
+    → ConsumersStand stands cs s.consumers → giving_in cs ≡ Some c
+    → IsGiven made s syncs takes (stopping_chore s (find is_giving s.consumers)) (asked.Finish (id_in c))
+    (command.Give c.made.tenure)
 giving_given stands made s syncs takes cs c stand found =
     go (find is_giving s.consumers)
-    (subst (λ o. IsFoundSo o (find is_giving s.consumers)) found (found_so stands (λ id p. is_giving_phase p) cs s.consumers stand))
+    (subst (λ o. IsFoundSo o (find is_giving s.consumers)) found
+    (found_so stands (λ id p. is_giving_phase p) cs s.consumers stand))
   where
-    go : (o : Option Known) → IsFoundSo (Some c) o → IsGiven made s syncs takes (stopping_chore s o) (asked.Finish (id_in c)) (command.Give c.made.tenure)
+    go : (o : Option Known) → IsFoundSo (Some c) o
+        → IsGiven made s syncs takes (stopping_chore s o) (asked.Finish (id_in c)) (command.Give c.made.tenure)
     go None f = absurd f
     go (Some k) f = record {
       which = Finishing (id_of k);
@@ -167,16 +207,23 @@ giving_given stands made s syncs takes cs c stand found =
       command = ap (λ m. Some (command.Give m.tenure)) (sym f.0);
     }
 
-none_giving : {P : Type 0} (stands : P → List Call → Type 0) (s : WorkerState) (cs : List (Standing P)) → ConsumersStand stands cs s.consumers → giving_in cs ≡ None → stopping_chore s (find is_giving s.consumers) ≡ freeing_chore s.held
+none_giving : {P : Type 0} (stands : P → List Call → Type 0) (s : WorkerState) (cs : List (Standing P))
+    → ConsumersStand stands cs s.consumers → giving_in cs ≡ None
+    → stopping_chore s (find is_giving s.consumers) ≡ freeing_chore s.held
 none_giving {P} stands s cs stand found =
     go (find is_giving s.consumers)
-    (subst (λ o. IsFoundSo o (find is_giving s.consumers)) found (found_so stands (λ id p. is_giving_phase p) cs s.consumers stand))
+    (subst (λ o. IsFoundSo o (find is_giving s.consumers)) found
+    (found_so stands (λ id p. is_giving_phase p) cs s.consumers stand))
   where
     go : (o : Option Known) → IsFoundSo {P = P} None o → stopping_chore s o ≡ freeing_chore s.held
     go None f = refl
     go (Some k) f = absurd f
 
-pub freeing_given : {P : Type 0} (stands : P → List Call → Type 0) (made : WorkerMade) (s : WorkerState) (syncs : List SyncStep) (takes : List TakeStep) (cs : List (Standing P)) (held : List Held) (h : Held) (rest : List Held) → ConsumersStand stands cs s.consumers → held ≡ s.held → giving_in cs ≡ None → held ≡ h ∷ rest → IsGiven made s syncs takes (stopping_chore s (find is_giving s.consumers)) (asked.Free h) (command.Free h.tenure h.counter)
+pub freeing_given : {P : Type 0} (stands : P → List Call → Type 0) (made : WorkerMade) (s : WorkerState)
+    (syncs : List SyncStep) (takes : List TakeStep) (cs : List (Standing P)) (held : List Held) (h : Held)
+    (rest : List Held) → ConsumersStand stands cs s.consumers → held ≡ s.held → giving_in cs ≡ None → held ≡ h ∷ rest
+    → IsGiven made s syncs takes (stopping_chore s (find is_giving s.consumers)) (asked.Free h)
+    (command.Free h.tenure h.counter)
 freeing_given stands made s syncs takes cs held h rest stand same found first = record {
   which = Freeing h;
   is = none_giving stands s cs stand found ∙ ap freeing_chore (sym same ∙ first);
@@ -184,8 +231,11 @@ freeing_given stands made s syncs takes cs held h rest stand same found first = 
   command = refl;
 }
 
-pub nothing_given : {P : Type 0} (stands : P → List Call → Type 0) (s : WorkerState) (cs : List (Standing P)) (held : List Held) → ConsumersStand stands cs s.consumers → held ≡ s.held → giving_in cs ≡ None → held ≡ [] → stopping_chore s (find is_giving s.consumers) ≡ None
-nothing_given stands s cs held stand same found none = none_giving stands s cs stand found ∙ ap freeing_chore (sym same ∙ none)
+pub nothing_given : {P : Type 0} (stands : P → List Call → Type 0) (s : WorkerState) (cs : List (Standing P))
+    (held : List Held) → ConsumersStand stands cs s.consumers → held ≡ s.held → giving_in cs ≡ None → held ≡ []
+    → stopping_chore s (find is_giving s.consumers) ≡ None
+nothing_given stands s cs held stand same found none =
+    none_giving stands s cs stand found ∙ ap freeing_chore (sym same ∙ none)
 
 -- ---- a command is given
 
@@ -193,7 +243,13 @@ none_mapped : (o : Option Pending) → None ≡ option_map (λ p. p.chore) o →
 none_mapped None e = refl
 none_mapped (Some p) e = absurd cc
 
-pub asked_stands : {P F : Type 0} (stands : P → List Call → Type 0) (w new : WorkerStanding P F) (now : ℕ) (syncs : List SyncStep) (takes : List TakeStep) (asked : Asked) (what : Command) (past : WorkerPast) → w.waiting ≡ None → new ≡ record w { waiting = chore_of asked syncs takes } → IsGiven w.made (worker_after w.made past) syncs takes (chore_from w.made.settings.failover now (worker_after w.made past) w.round) asked what → StandsFor stands w past → (p : Pending) × (next_pending w.made now (worker_after w.made past) ≡ Some p) × (p.what ≡ what) × StandsFor stands new (Gave_command now ∷ past)
+pub asked_stands : {P F : Type 0} (stands : P → List Call → Type 0) (w new : WorkerStanding P F) (now : ℕ)
+    (syncs : List SyncStep) (takes : List TakeStep) (asked : Asked) (what : Command) (past : WorkerPast)
+    → w.waiting ≡ None → new ≡ record w { waiting = chore_of asked syncs takes }
+    → IsGiven w.made (worker_after w.made past) syncs takes
+    (chore_from w.made.settings.failover now (worker_after w.made past) w.round) asked what → StandsFor stands w past
+    → (p : Pending) × (next_pending w.made now (worker_after w.made past) ≡ Some p) × (p.what ≡ what)
+    × StandsFor stands new (Gave_command now ∷ past)
 asked_stands {P} {F} stands w new now syncs takes asked what past free is g st =
     let s : WorkerState = worker_after w.made past in
     let p : Pending = record { chore = g.which; what = what } in
@@ -234,17 +290,28 @@ first_list [] x h e = absurd (none h)
     none h = omega (arith, h)
 first_list (y ∷ ys) x h e = ap (λ z. z ∷ ys) (sym e)
 
-pub giving_as : {P : Type 0} (stands : P → List Call → Type 0) (made : WorkerMade) (s : WorkerState) (syncs : List SyncStep) (takes : List TakeStep) (cs : List (Standing P)) (c : Standing P) (id : LeaseId) (t : ℕ) → id ≡ id_in c → t ≡ c.made.tenure → ConsumersStand stands cs s.consumers → giving_in cs ≡ Some c → IsGiven made s syncs takes (stopping_chore s (find is_giving s.consumers)) (asked.Finish id) (command.Give t)
+pub giving_as : {P : Type 0} (stands : P → List Call → Type 0) (made : WorkerMade) (s : WorkerState)
+    (syncs : List SyncStep) (takes : List TakeStep) (cs : List (Standing P)) (c : Standing P) (id : LeaseId) (t : ℕ)
+    → id ≡ id_in c → t ≡ c.made.tenure → ConsumersStand stands cs s.consumers → giving_in cs ≡ Some c
+    → IsGiven made s syncs takes (stopping_chore s (find is_giving s.consumers)) (asked.Finish id) (command.Give t)
 giving_as stands made s syncs takes cs c id t a b stand found =
-    subst (λ i. IsGiven made s syncs takes (stopping_chore s (find is_giving s.consumers)) (asked.Finish i) (command.Give t)) (sym a)
-    (subst (λ n. IsGiven made s syncs takes (stopping_chore s (find is_giving s.consumers)) (asked.Finish (id_in c)) (command.Give n)) (sym b)
+    subst (λ i. IsGiven made s syncs takes (stopping_chore s (find is_giving s.consumers)) (asked.Finish i)
+    (command.Give t)) (sym a)
+    (subst (λ n. IsGiven made s syncs takes (stopping_chore s (find is_giving s.consumers)) (asked.Finish (id_in c))
+    (command.Give n)) (sym b)
     (giving_given stands made s syncs takes cs c stand found))
 
-pub consumer_as : {P : Type 0} (stands : P → List Call → Type 0) (made : WorkerMade) (s : WorkerState) (syncs : List SyncStep) (takes : List TakeStep) (place : Option LeaseId) (cs : List (Standing P)) (held : List Held) (c : Standing P) (id : LeaseId) (counter : ℕ) (what : Command) → id ≡ id_in c → counter ≡ counter_of id held → ConsumersStand stands cs s.consumers → held ≡ s.held → past_in place cs ≡ Some c → next_command c.made c.phase counter ≡ Some what → IsGiven made s syncs takes (Some (from_consumers place s)) (asked.Consume id) what
+pub consumer_as : {P : Type 0} (stands : P → List Call → Type 0) (made : WorkerMade) (s : WorkerState)
+    (syncs : List SyncStep) (takes : List TakeStep) (place : Option LeaseId) (cs : List (Standing P)) (held : List Held)
+    (c : Standing P) (id : LeaseId) (counter : ℕ) (what : Command) → id ≡ id_in c → counter ≡ counter_of id held
+    → ConsumersStand stands cs s.consumers → held ≡ s.held → past_in place cs ≡ Some c
+    → next_command c.made c.phase counter ≡ Some what
+    → IsGiven made s syncs takes (Some (from_consumers place s)) (asked.Consume id) what
 consumer_as stands made s syncs takes place cs held c id counter what a b stand same found next =
     subst (λ i. IsGiven made s syncs takes (Some (from_consumers place s)) (asked.Consume i) what) (sym a)
     (consumer_given stands made s syncs takes place cs held c what stand same found
-    (ap (λ i. next_command c.made c.phase (counter_of i held)) (sym a) ∙ ap (λ n. next_command c.made c.phase n) (sym b) ∙ next))
+    (ap (λ i. next_command c.made c.phase (counter_of i held)) (sym a) ∙ ap (λ n. next_command c.made c.phase n) (sym b)
+    ∙ next))
 
 -- ---- where nothing is left to do
 
@@ -252,7 +319,8 @@ none_due_any : {P : Type 0} (cs : List (Standing P)) → due_in cs ≡ None → 
 none_due_any [] none = refl
 none_due_any (c ∷ cs) none = head (due_call c.phase) none (λ n. none_due_any cs n)
   where
-    head : (o : Option Due) → due_or c o (due_in cs) ≡ None → (due_in cs ≡ None → list_any is_due cs ≡ false) → (is_some o || list_any is_due cs) ≡ false
+    head : (o : Option Due) → due_or c o (due_in cs) ≡ None → (due_in cs ≡ None → list_any is_due cs ≡ false)
+        → (is_some o || list_any is_due cs) ≡ false
     head None n rest = rest n
     head (Some due) n rest = absurd cc
 
@@ -260,13 +328,16 @@ pub none_found_any : {A : Type 0} (t : A → Bool) (xs : List A) → find t xs �
 none_found_any t [] none = refl
 none_found_any {A} t (x ∷ xs) none = head (t x) none (λ n. none_found_any t xs n)
   where
-    head : (b : Bool) → cond b (Some x) (find t xs) ≡ None → (find t xs ≡ None → list_any t xs ≡ false) → (b || list_any t xs) ≡ false
+    head : (b : Bool) → cond b (Some x) (find t xs) ≡ None → (find t xs ≡ None → list_any t xs ≡ false)
+        → (b || list_any t xs) ≡ false
     head true n rest = absurd cc
     head false n rest = rest n
 
-none_giving_in : {P : Type 0} (stands : P → List Call → Type 0) (cs : List (Standing P)) (ks : List Known) → ConsumersStand stands cs ks → find is_giving ks ≡ None → giving_in cs ≡ None
+none_giving_in : {P : Type 0} (stands : P → List Call → Type 0) (cs : List (Standing P)) (ks : List Known)
+    → ConsumersStand stands cs ks → find is_giving ks ≡ None → giving_in cs ≡ None
 none_giving_in {P} stands cs ks stand none =
-    go (giving_in cs) (subst (λ o. IsFoundSo (giving_in cs) o) none (found_so stands (λ id p. is_giving_phase p) cs ks stand))
+    go (giving_in cs) (subst (λ o. IsFoundSo (giving_in cs) o) none
+    (found_so stands (λ id p. is_giving_phase p) cs ks stand))
   where
     go : (o : Option (Standing P)) → IsFoundSo o None → o ≡ None
     go None f = refl
@@ -276,39 +347,60 @@ nothing_held : (held : List Held) → freeing_chore held ≡ None → is_nothing
 nothing_held [] none = refl
 nothing_held (h ∷ held) none = absurd cc
 
-nothing_left : (s : WorkerState) (o : Option Known) → stopping_chore s o ≡ None → (o ≡ None) × (freeing_chore s.held ≡ None)
+nothing_left : (s : WorkerState) (o : Option Known) → stopping_chore s o ≡ None
+    → (o ≡ None) × (freeing_chore s.held ≡ None)
 nothing_left s None none = (refl, none)
 nothing_left s (Some k) none = absurd cc
 
-stops_at : (failover now : ℕ) (s : WorkerState) (round : Round) → chore_from failover now s round ≡ None → (is_stopping round ≡ true) × (stopping_chore s (find is_giving s.consumers) ≡ None)
+stops_at : (failover now : ℕ) (s : WorkerState) (round : Round) → chore_from failover now s round ≡ None
+    → (is_stopping round ≡ true) × (stopping_chore s (find is_giving s.consumers) ≡ None)
 stops_at failover now s AtStopping none = (refl, none)
 stops_at failover now s _ none = absurd cc
 
-pub idle_so : {P F : Type 0} (stands : P → List Call → Type 0) (w : WorkerStanding P F) (s : WorkerState) (failover now : ℕ) → ShowsState stands w s → due_in w.consumers ≡ None → chore_from failover now s w.round ≡ None → is_idle_in w ≡ true
+pub idle_so : {P F : Type 0} (stands : P → List Call → Type 0) (w : WorkerStanding P F) (s : WorkerState)
+    (failover now : ℕ) → ShowsState stands w s → due_in w.consumers ≡ None → chore_from failover now s w.round ≡ None
+    → is_idle_in w ≡ true
 idle_so stands w s failover now shows none chore =
     let r = stops_at failover now s w.round chore in
     let l = nothing_left s (find is_giving s.consumers) r.1 in
-    ap (λ b. b && not (list_any is_due w.consumers) && not (list_any (λ c. is_giving_phase c.phase) w.consumers) && is_nothing_held w.held) r.0
-    ∙ ap (λ b. true && not b && not (list_any (λ c. is_giving_phase c.phase) w.consumers) && is_nothing_held w.held) (none_due_any w.consumers none)
-    ∙ ap (λ b. true && not false && not b && is_nothing_held w.held) (none_found_any (λ c. is_giving_phase c.phase) w.consumers (none_giving_in stands w.consumers s.consumers shows.consumers l.0))
+    ap (λ b. b && not (list_any is_due w.consumers) && not (list_any (λ c. is_giving_phase c.phase) w.consumers)
+    && is_nothing_held w.held) r.0
+    ∙ ap (λ b. true && not b && not (list_any (λ c. is_giving_phase c.phase) w.consumers) && is_nothing_held w.held)
+    (none_due_any w.consumers none)
+    ∙ ap (λ b. true && not false && not b && is_nothing_held w.held)
+    (none_found_any (λ c. is_giving_phase c.phase) w.consumers
+    (none_giving_in stands w.consumers s.consumers shows.consumers l.0))
     ∙ nothing_held w.held (ap freeing_chore shows.held ∙ l.1)
 
 -- ---- by the fields that the code has, whose value is `old`
 
-pub asked_leaves : {P F : Type 0} (stands : P → List Call → Type 0) (w old : WorkerStanding P F) → w ≡ old → (now : ℕ) (syncs : List SyncStep) (takes : List TakeStep) (asked : Asked) (what : Command) (past : WorkerPast) → old.waiting ≡ None → ((s : WorkerState) → ConsumersStand stands w.consumers s.consumers → w.held ≡ s.held → IsGiven w.made s syncs takes (chore_from w.made.settings.failover now s w.round) asked what) → StandsFor stands old past → (p : Pending) × (next_pending old.made now (worker_after old.made past) ≡ Some p) × (p.what ≡ what) × StandsFor stands (record w { waiting = chore_of asked syncs takes }) (Gave_command now ∷ past)
+pub asked_leaves : {P F : Type 0} (stands : P → List Call → Type 0) (w old : WorkerStanding P F) → w ≡ old
+    → (now : ℕ) (syncs : List SyncStep) (takes : List TakeStep) (asked : Asked) (what : Command) (past : WorkerPast)
+    → old.waiting ≡ None → ((s : WorkerState) → ConsumersStand stands w.consumers s.consumers → w.held ≡ s.held
+    → IsGiven w.made s syncs takes (chore_from w.made.settings.failover now s w.round) asked what)
+    → StandsFor stands old past → (p : Pending) × (next_pending old.made now (worker_after old.made past) ≡ Some p)
+    × (p.what ≡ what) × StandsFor stands (record w { waiting = chore_of asked syncs takes }) (Gave_command now ∷ past)
 asked_leaves {P} {F} stands w old is now syncs takes asked what past free given st =
     let st0 : StandsFor stands w past = subst (λ v. StandsFor stands v past) (sym is) st in
-    let Q : WorkerStanding P F → Type 0 = λ v. (p : Pending) × (next_pending v.made now (worker_after v.made past) ≡ Some p) × (p.what ≡ what) × StandsFor stands (record w { waiting = chore_of asked syncs takes }) (Gave_command now ∷ past) in
+    let Q : WorkerStanding P F → Type 0 =
+    λ v. (p : Pending) × (next_pending v.made now (worker_after v.made past) ≡ Some p) × (p.what ≡ what)
+    × StandsFor stands (record w { waiting = chore_of asked syncs takes }) (Gave_command now ∷ past) in
     subst Q is
-    (asked_stands stands w (record w { waiting = chore_of asked syncs takes }) now syncs takes asked what past (ap (λ v. v.waiting) is ∙ free) refl
+    (asked_stands stands w (record w { waiting = chore_of asked syncs takes }) now syncs takes asked what past
+    (ap (λ v. v.waiting) is ∙ free) refl
     (given (worker_after w.made past) st0.shows.consumers st0.shows.held) st0)
 
-pub none_left : {P F : Type 0} (stands : P → List Call → Type 0) (w old : WorkerStanding P F) → w ≡ old → (now : ℕ) (past : WorkerPast) → due_in old.consumers ≡ None → is_idle_in old ≡ false → ((s : WorkerState) → ConsumersStand stands w.consumers s.consumers → w.held ≡ s.held → chore_from w.made.settings.failover now s w.round ≡ None) → StandsFor stands old past → ⊥
+pub none_left : {P F : Type 0} (stands : P → List Call → Type 0) (w old : WorkerStanding P F) → w ≡ old
+    → (now : ℕ) (past : WorkerPast) → due_in old.consumers ≡ None → is_idle_in old ≡ false
+    → ((s : WorkerState) → ConsumersStand stands w.consumers s.consumers → w.held ≡ s.held
+    → chore_from w.made.settings.failover now s w.round ≡ None) → StandsFor stands old past → ⊥
 none_left stands w old is now past none busy left st =
     let st0 : StandsFor stands w past = subst (λ v. StandsFor stands v past) (sym is) st in
     let s : WorkerState = worker_after w.made past in
     apart (is_idle_in old)
-    (sym (ap is_idle_in is) ∙ idle_so stands w s w.made.settings.failover now st0.shows (ap (λ v. due_in v.consumers) is ∙ none) (left s st0.shows.consumers st0.shows.held)) busy
+    (sym (ap is_idle_in is)
+    ∙ idle_so stands w s w.made.settings.failover now st0.shows (ap (λ v. due_in v.consumers) is ∙ none)
+    (left s st0.shows.consumers st0.shows.held)) busy
 
 -- ---- what callers see of a worker, beside its record
 
@@ -319,7 +411,8 @@ none_due stands [] [] none s = refl
 none_due stands [] (k ∷ ks) none s = absurd s
 none_due stands (c ∷ cs) [] none s = absurd s
 none_due stands (c ∷ cs) (k ∷ ks) none s =
-    head (due_call c.phase) (due_call (phase_of_known k)) (ap due_call (phase_known stands c k (s.0, s.1))) none (λ n. none_due stands cs ks n s.2)
+    head (due_call c.phase) (due_call (phase_of_known k)) (ap due_call (phase_known stands c k (s.0, s.1))) none
+    (λ n. none_due stands cs ks n s.2)
   where
     head : (o u : Option Due) → o ≡ u → due_or c o (due_in cs) ≡ None → (due_in cs ≡ None → find is_due_known ks ≡ None)
         → cond (is_some u) (Some k) (find is_due_known ks) ≡ None
@@ -327,13 +420,15 @@ none_due stands (c ∷ cs) (k ∷ ks) none s =
     head None (Some due) e n rest = absurd cc
     head None None e n rest = rest n
 
-any_same : {P : Type 0} (stands : P → List Call → Type 0) (f : Phase → Bool) (cs : List (Standing P)) (ks : List Known) → ConsumersStand stands cs ks
+any_same : {P : Type 0} (stands : P → List Call → Type 0) (f : Phase → Bool) (cs : List (Standing P)) (ks : List Known)
+    → ConsumersStand stands cs ks
     → list_any (λ c. f c.phase) cs ≡ list_any (λ k. f (phase_of_known k)) ks
 any_same stands f [] [] s = refl
 any_same stands f [] (k ∷ ks) s = absurd s
 any_same stands f (c ∷ cs) [] s = absurd s
 any_same stands f (c ∷ cs) (k ∷ ks) s =
-    ap (λ p. f p || list_any (λ d. f d.phase) cs) (phase_known stands c k (s.0, s.1)) ∙ ap (λ r. f (phase_of_known k) || r) (any_same stands f cs ks s.2)
+    ap (λ p. f p || list_any (λ d. f d.phase) cs) (phase_known stands c k (s.0, s.1))
+    ∙ ap (λ r. f (phase_of_known k) || r) (any_same stands f cs ks s.2)
 
 -- it is idle where its record says so
 pub idle_same : {P F : Type 0} (stands : P → List Call → Type 0) (w : WorkerStanding P F) (past : WorkerPast)
@@ -341,10 +436,14 @@ pub idle_same : {P F : Type 0} (stands : P → List Call → Type 0) (w : Worker
 idle_same stands w past s =
     let state = worker_after w.made past in
     let shows = s.shows in
-    let same : (f : Phase → Bool) → list_any (λ c. f c.phase) w.consumers ≡ list_any (λ k. f (phase_of_known k)) state.consumers =
+    let same : (f : Phase → Bool)
+    → list_any (λ c. f c.phase) w.consumers ≡ list_any (λ k. f (phase_of_known k)) state.consumers =
     λ f. any_same stands f w.consumers state.consumers shows.consumers in
     ap (λ r. is_stopping r && not (is_due_in w) && not (is_giving_in w) && is_nothing_held w.held) shows.round
-    ∙ ap (λ b. is_stopping state.round && not b && not (is_giving_in w) && is_nothing_held w.held) (same (λ p. is_some (due_call p)))
-    ∙ ap (λ b. is_stopping state.round && not (list_any is_due_known state.consumers) && not b && is_nothing_held w.held) (same is_giving_phase)
-    ∙ ap (λ h. is_stopping state.round && not (list_any is_due_known state.consumers) && not (list_any is_giving state.consumers) && is_nothing_held h)
+    ∙ ap (λ b. is_stopping state.round && not b && not (is_giving_in w) && is_nothing_held w.held)
+    (same (λ p. is_some (due_call p)))
+    ∙ ap (λ b. is_stopping state.round && not (list_any is_due_known state.consumers) && not b
+    && is_nothing_held w.held) (same is_giving_phase)
+    ∙ ap (λ h. is_stopping state.round && not (list_any is_due_known state.consumers)
+    && not (list_any is_giving state.consumers) && is_nothing_held h)
     shows.held

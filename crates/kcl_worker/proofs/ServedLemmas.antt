@@ -10,9 +10,12 @@ use Rattle.kcl_defs.specs.WorkerLives.{IsOfTenure, IsToldIn, IsServed, IsServedW
 use Rattle.kcl_defs.proofs.RetiredLemmas.{are_served}
 use Rattle.kcl_consumer.specs.Standing.{Standing}
 use Rattle.kcl_worker_lists.specs.Lists.{Retirement}
-use Rattle.kcl_worker.specs.Standing.{WorkerStanding, ConsumersStand, RetirementsStand, StandsFor, IsRetiredIn, IsServedIn, AreServedIn}
+use Rattle.kcl_worker.specs.Standing.{WorkerStanding, ConsumersStand, RetirementsStand, StandsFor, IsRetiredIn}
+use Rattle.kcl_worker.specs.Standing.{IsServedIn, AreServedIn}
 
-consumers_served : {P : Type 0} (stands : P → List Call → Type 0) (by : ℕ) (h : List Turn) (cs : List (Standing P)) (ks : List Known) → ConsumersStand stands cs ks → AllByRecursion (IsServed by h) ks → AllByRecursion (IsServedIn stands by h) cs
+consumers_served : {P : Type 0} (stands : P → List Call → Type 0) (by : ℕ) (h : List Turn) (cs : List (Standing P))
+    (ks : List Known) → ConsumersStand stands cs ks → AllByRecursion (IsServed by h) ks
+    → AllByRecursion (IsServedIn stands by h) cs
 consumers_served stands by h [] [] s all = tt
 consumers_served stands by h (c ∷ cs) (k ∷ ks) s all =
     let calls = subst (λ m. stands c.processor (calls_after m k.past)) s.0 s.1.calls in (
@@ -25,17 +28,23 @@ consumers_served stands by h (c ∷ cs) (k ∷ ks) s all =
 consumers_served stands by h [] (k ∷ ks) s all = absurd s
 consumers_served stands by h (c ∷ cs) [] s all = absurd s
 
-retired_served : {P : Type 0} (stands : P → List Call → Type 0) (by : ℕ) (h : List Turn) (rs : List (Retirement P)) (ks : List Known) → RetirementsStand stands rs ks → AllByRecursion (IsServedWhole by h) ks → AllByRecursion (IsRetiredIn stands by h) rs
+retired_served : {P : Type 0} (stands : P → List Call → Type 0) (by : ℕ) (h : List Turn) (rs : List (Retirement P))
+    (ks : List Known) → RetirementsStand stands rs ks → AllByRecursion (IsServedWhole by h) ks
+    → AllByRecursion (IsRetiredIn stands by h) rs
 retired_served stands by h [] [] s all = tt
-retired_served stands by h (r ∷ rs) (k ∷ ks) s all =
-    ((k.made, s.0.key, s.0.tenure, all.0.0, (calls_after k.made k.past, s.0.calls, all.0.1)), retired_served stands by h rs ks s.1 all.1)
+retired_served stands by h (r ∷ rs) (k ∷ ks) s all = (
+  (k.made, s.0.key, s.0.tenure, all.0.0, (calls_after k.made k.past, s.0.calls, all.0.1)),
+  retired_served stands by h rs ks s.1 all.1,
+)
 retired_served stands by h [] (k ∷ ks) s all = absurd s
 retired_served stands by h (r ∷ rs) [] s all = absurd s
 
-pub worker_served : {P F : Type 0} (stands : P → List Call → Type 0) (by : ℕ) (h : List Turn) (w : WorkerStanding P F) (past : WorkerPast) → StandsFor stands w past → IsToldIn by h w.made past → AreServedIn stands by h w
+pub worker_served : {P F : Type 0} (stands : P → List Call → Type 0) (by : ℕ) (h : List Turn) (w : WorkerStanding P F)
+    (past : WorkerPast) → StandsFor stands w past → IsToldIn by h w.made past → AreServedIn stands by h w
 worker_served stands by h w past s told =
     let all = are_served by h w.made past s.orderly told in
     record {
-      consumers = consumers_served stands by h w.consumers (worker_after w.made past).consumers s.shows.consumers all.consumers;
+      consumers = consumers_served stands by h w.consumers (worker_after w.made past).consumers s.shows.consumers
+          all.consumers;
       retired = retired_served stands by h w.retired (worker_after w.made past).retired s.shows.retired all.retired;
     }

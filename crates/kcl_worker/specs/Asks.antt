@@ -16,7 +16,8 @@ abbrev pub processors : {P : Type 0} → List (Standing P) → List P
 processors cs = map (λ c. c.processor) cs
 
 -- those of all consumers
-abbrev pub AskWithin : {P : Type 0} → (P → List Stored → Ask → Type 0) → (List Stored → Ask → Type 0) → List (Standing P) → Type 0
+abbrev pub AskWithin : {P : Type 0} → (P → List Stored → Ask → Type 0) → (List Stored → Ask → Type 0)
+    → List (Standing P) → Type 0
 AskWithin asks may cs = AllByRecursion (IsWithin asks may) (processors cs)
 
 -- after a batch a processor asks what may be asked of it, and after another call nothing

@@ -23,7 +23,8 @@ abbrev pub IsReady : {P : Type 0} → Standing P → Type 0
 IsReady c = (due_call c.phase ≡ None) × (over_at c.phase ≡ None)
 
 -- what is asked is this chore, with its command
-pub record IsGiven (made : WorkerMade) (s : WorkerState) (syncs : List SyncStep) (takes : List TakeStep) (chore : Option Chore) (asked : Asked)
+pub record IsGiven (made : WorkerMade) (s : WorkerState) (syncs : List SyncStep) (takes : List TakeStep)
+    (chore : Option Chore) (asked : Asked)
     (what : Command) : Type 0 where
   pub which : Chore
   pub is : chore ≡ Some which
@@ -31,19 +32,24 @@ pub record IsGiven (made : WorkerMade) (s : WorkerState) (syncs : List SyncStep)
   pub command : command_of made s which ≡ Some what
 
 -- each state with these consumers and leases has this chore, which is asked with its command
-abbrev pub IsNext : {P : Type 0} → (P → List Call → Type 0) → List (Standing P) → List Held → WorkerMade → List SyncStep → List TakeStep
+abbrev pub IsNext : {P : Type 0} → (P → List Call → Type 0) → List (Standing P) → List Held → WorkerMade → List SyncStep
+    → List TakeStep
     → (WorkerState → Option Chore) → Asked × Command → Type 0
-IsNext stands cs held made syncs takes chore given = (s : WorkerState) → ConsumersStand stands cs s.consumers → held ≡ s.held
+IsNext stands cs held made syncs takes chore given = (s : WorkerState) → ConsumersStand stands cs s.consumers
+    → held ≡ s.held
     → IsGiven made s syncs takes (chore s) given.0 given.1
 
 -- whoever the worker is, and whatever it has planned
-abbrev pub IsNextOfAny : {P : Type 0} → (P → List Call → Type 0) → List (Standing P) → List Held → (WorkerState → Option Chore) → Asked × Command → Type 0
+abbrev pub IsNextOfAny : {P : Type 0} → (P → List Call → Type 0) → List (Standing P) → List Held
+    → (WorkerState → Option Chore) → Asked × Command → Type 0
 IsNextOfAny stands cs held chore given = (made : WorkerMade) (syncs : List SyncStep) (takes : List TakeStep)
     → IsNext stands cs held made syncs takes chore given
 
 -- no state with these consumers and leases has such a chore
-abbrev pub HasNoChore : {P : Type 0} → (P → List Call → Type 0) → List (Standing P) → List Held → (WorkerState → Option Chore) → Type 0
-HasNoChore stands cs held chore = (s : WorkerState) → ConsumersStand stands cs s.consumers → held ≡ s.held → chore s ≡ None
+abbrev pub HasNoChore : {P : Type 0} → (P → List Call → Type 0) → List (Standing P) → List Held
+    → (WorkerState → Option Chore) → Type 0
+HasNoChore stands cs held chore = (s : WorkerState) → ConsumersStand stands cs s.consumers → held ≡ s.held
+    → chore s ≡ None
 
 -- the chore of a state in this part of the round, and at a stop
 abbrev pub chore_in : WorkerMade → ℕ → Part → List SyncStep → List TakeStep → WorkerState → Option Chore

@@ -2,7 +2,8 @@
 use Rattle.std.specs.Prelude.{List, [], ◌∷◌, Option, Some, None}
 use Rattle.kcl_defs.specs.declared.plans.SyncStep.{SyncStep}
 use Rattle.kcl_defs.specs.declared.plans.TakeStep.{TakeStep}
-use Rattle.kcl_defs.specs.Workers.{Round, AtSurvey, AtSync, AtTakes, AtRenewals, AtConsumers, AtStopping, Chore, Surveying, Syncing, Taking, Renewing, Consuming, Finishing, Freeing}
+use Rattle.kcl_defs.specs.Workers.{Round, AtSurvey, AtSync, AtTakes, AtRenewals, AtConsumers, AtStopping, Chore}
+use Rattle.kcl_defs.specs.Workers.{Surveying, Syncing, Taking, Renewing, Consuming, Finishing, Freeing}
 use Rattle.kcl_worker.specs.declared.round.Part.{Part}
 use Rattle.kcl_worker.specs.declared.round.Part.TheVariants as part
 use Rattle.kcl_worker.specs.declared.round.Asked.{Asked}

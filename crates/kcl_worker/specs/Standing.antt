@@ -10,7 +10,8 @@ use Rattle.kcl_defs.specs.declared.plans.Held.{Held}
 use Rattle.kcl_defs.specs.declared.plans.Seen.{Seen}
 use Rattle.kcl_defs.specs.Consumers.{over_at, calls_after}
 use Rattle.kcl_defs.specs.Plans.{seen_at}
-use Rattle.kcl_defs.specs.Workers.{Round, Chore, Known, WorkerState, WorkerPast, worker_after, phase_of_known, is_stopping, is_giving_phase, is_nothing_held}
+use Rattle.kcl_defs.specs.Workers.{Round, Chore, Known, WorkerState, WorkerPast, worker_after, phase_of_known}
+use Rattle.kcl_defs.specs.Workers.{is_stopping, is_giving_phase, is_nothing_held}
 use Rattle.kds_defs.specs.declared.command.Turn.{Turn}
 use Rattle.kds_defs.specs.declared.reply.Refusal.{Refusal}
 use Rattle.kds_defs.specs.declared.reply.Reply.{Reply}
@@ -57,7 +58,8 @@ is_idle_in w = is_stopping w.round && not (is_due_in w) && not (is_giving_in w) 
 -- each consumer stands for its own record
 abbrev pub ConsumersStand : {P : Type 0} → (P → List Call → Type 0) → List (Standing P) → List Known → Type 0
 ConsumersStand stands [] [] = Unit {0}
-ConsumersStand stands (c ∷ cs) (k ∷ ks) = (c.made ≡ k.made) × ConsumerStandsFor stands c k.past × ConsumersStand stands cs ks
+ConsumersStand stands (c ∷ cs) (k ∷ ks) = (c.made ≡ k.made) × ConsumerStandsFor stands c k.past
+    × ConsumersStand stands cs ks
 ConsumersStand stands [] (k ∷ ks) = ⊥
 ConsumersStand stands (c ∷ cs) [] = ⊥
 
@@ -74,7 +76,8 @@ RetirementsStand stands [] (k ∷ ks) = ⊥
 RetirementsStand stands (r ∷ rs) [] = ⊥
 
 -- the fields are those of this state
-pub record ShowsState {P F : Type 0} (stands : P → List Call → Type 0) (w : WorkerStanding P F) (s : WorkerState) : Type 0 where
+pub record ShowsState {P F : Type 0} (stands : P → List Call → Type 0) (w : WorkerStanding P F) (s : WorkerState) :
+    Type 0 where
   pub round : w.round ≡ s.round
   pub waiting : w.waiting ≡ option_map (λ p. p.chore) s.waiting
   pub seen : (key : ShardRef) → seen_at w.seen key ≡ s.seen key
@@ -83,7 +86,8 @@ pub record ShowsState {P F : Type 0} (stands : P → List Call → Type 0) (w : 
   pub retired : RetirementsStand stands w.retired s.retired
 
 -- the worker stands for this record
-pub record StandsFor {P F : Type 0} (stands : P → List Call → Type 0) (w : WorkerStanding P F) (past : WorkerPast) : Type 0 where
+pub record StandsFor {P F : Type 0} (stands : P → List Call → Type 0) (w : WorkerStanding P F) (past : WorkerPast) :
+    Type 0 where
   pub orderly : IsOrderly w.made past
   pub shows : ShowsState stands w (worker_after w.made past)
 
@@ -91,13 +95,15 @@ pub record StandsFor {P F : Type 0} (stands : P → List Call → Type 0) (w : W
 
 -- the consumer is of a tenure of the history, and its processor's calls are the given reads of that tenure
 abbrev pub IsServedIn : {P : Type 0} → (P → List Call → Type 0) → ℕ → List Turn → Standing P → Type 0
-IsServedIn stands by h c = IsOfTenure by h c.made × ((calls : List Call) × stands c.processor calls × IsLifeIn by h c.made calls)
+IsServedIn stands by h c =
+    IsOfTenure by h c.made × ((calls : List Call) × stands c.processor calls × IsLifeIn by h c.made calls)
 
 -- and no batch that a retired one was handed waits
 abbrev pub IsRetiredIn : {P : Type 0} → (P → List Call → Type 0) → ℕ → List Turn → Retirement P → Type 0
 IsRetiredIn stands by h r = (made : Tenancy) × (r.key ≡ made.key) × (r.tenure ≡ made.tenure) × IsOfTenure by h made
     × ((calls : List Call) × stands r.processor calls × IsWholeLifeIn by h made calls)
 
-pub record AreServedIn {P F : Type 0} (stands : P → List Call → Type 0) (by : ℕ) (h : List Turn) (w : WorkerStanding P F) : Type 0 where
+pub record AreServedIn {P F : Type 0} (stands : P → List Call → Type 0) (by : ℕ) (h : List Turn)
+    (w : WorkerStanding P F) : Type 0 where
   pub consumers : AllByRecursion (IsServedIn stands by h) w.consumers
   pub retired : AllByRecursion (IsRetiredIn stands by h) w.retired

@@ -7,7 +7,8 @@ use Rattle.kds_defs.specs.declared.reply.Refusal.{Refusal}
 use Rattle.kds_defs.specs.declared.reply.Reply.{Reply}
 use Rattle.kds_defs.specs.declared.reply.Reply.TheVariants as reply
 use Rattle.kcl_defs.specs.Consumers.{Losing, Phase}
-use Rattle.kcl_defs.specs.Workers.{WorkerState, after_renewal, happens_to, held_after, id_of, id_of_held, is_marking_or_opening, renewed, same_id, without_held}
+use Rattle.kcl_defs.specs.Workers.{WorkerState, after_renewal, happens_to, held_after, id_of, id_of_held}
+use Rattle.kcl_defs.specs.Workers.{is_marking_or_opening, renewed, same_id, without_held}
 use Rattle.kcl_consumer.specs.Standing.{Standing}
 use Rattle.kcl_worker.specs.declared.answers.Taken.{Taken}
 use Rattle.kcl_worker.specs.declared.answers.Written.{Written}
@@ -35,7 +36,8 @@ pub record IsWritten (answer : Result Reply Refusal) (w : Written) : Type 0 wher
       → held_after now id phase answer held ≡ held_by now id (is_marking_or_opening phase) w held
 
 -- these leases and consumers show the state t, which is s but for them
-pub record Leaves {P : Type 0} (stands : P → List Call → Type 0) (s t : WorkerState) (held : List Held) (cs : List (Standing P)) : Type 0 where
+pub record Leaves {P : Type 0} (stands : P → List Call → Type 0) (s t : WorkerState) (held : List Held)
+    (cs : List (Standing P)) : Type 0 where
   pub held_so : held ≡ t.held
   pub consumers : ConsumersStand stands cs t.consumers
   pub round : t.round ≡ s.round
@@ -44,13 +46,16 @@ pub record Leaves {P : Type 0} (stands : P → List Call → Type 0) (s t : Work
   pub retired : t.retired ≡ s.retired
 
 -- of each state with the leases and consumers before, those after show what the change makes of it
-abbrev pub LeadsTo : {P : Type 0} → (P → List Call → Type 0) → (WorkerState → WorkerState) → List Held → List (Standing P) → List Held
+abbrev pub LeadsTo : {P : Type 0} → (P → List Call → Type 0) → (WorkerState → WorkerState) → List Held
+    → List (Standing P) → List Held
     → List (Standing P) → Type 0
-LeadsTo stands change held cs held_after cs_after = (s : WorkerState) → held ≡ s.held → ConsumersStand stands cs s.consumers
+LeadsTo stands change held cs held_after cs_after = (s : WorkerState) → held ≡ s.held
+    → ConsumersStand stands cs s.consumers
     → Leaves stands s (change s) held_after cs_after
 
 -- what a Take was answered
 abbrev pub IsTaken : Result Reply Refusal → Option Taken → Type 0
-IsTaken (Ok (reply.Taken tenure counter start)) o = o ≡ Some (record { tenure = tenure; counter = counter; start = start })
+IsTaken (Ok (reply.Taken tenure counter start)) o =
+    o ≡ Some (record { tenure = tenure; counter = counter; start = start })
 IsTaken (Ok _) o = o ≡ None
 IsTaken (Err r) o = o ≡ None

@@ -20,7 +20,8 @@ use kcl_consumer::{Maker, Processor};
 pub fn service()
     ensures served { (by : ℕ) (h : List Turn) (made : WorkerMade) (past : WorkerPast)
         → IsOrderly made past → IsToldIn by h made past → AreServed by h made past }
-    ensures of_tenures { (by : ℕ) (h : List Turn) (t : ℕ) (T : TenureState) → tenure (journal h) t ≡ Some T → (T.by == by) ≡ true → AreOfTenure by h t T }
+    ensures of_tenures { (by : ℕ) (h : List Turn) (t : ℕ) (T : TenureState) → tenure (journal h) t ≡ Some T
+        → (T.by == by) ≡ true → AreOfTenure by h t T }
     ensures others { (by : ℕ) (turn : Turn) (h : List Turn) (made : WorkerMade) (past : WorkerPast)
         → (turn.by == by) ≡ false → IsToldIn by h made past → IsToldIn by (turn ∷ h) made past }
 {}

@@ -8,7 +8,8 @@ ghost use Rattle.kds_defs.specs.declared.command.Command.TheVariants as command;
 ghost use Rattle.kcl_defs.specs.declared.plans.SyncStep.{SyncStep};
 ghost use Rattle.kcl_defs.specs.declared.plans.TakeStep.{TakeStep};
 ghost use Rattle.kcl_defs.specs.Workers.{from_consumers, from_renewals, from_sync, from_takes, sync_command};
-ghost use Rattle.kcl_worker.specs.Outlook.{HasNoChore, IsLeaseCommand, IsNext, IsNextOfAny, IsReady, chore_at_stop, chore_in};
+ghost use Rattle.kcl_worker.specs.Outlook.{HasNoChore, IsLeaseCommand, IsNext, IsNextOfAny, IsReady, chore_at_stop};
+ghost use Rattle.kcl_worker.specs.Outlook.{chore_in};
 ghost use Rattle.kcl_worker.specs.Parts.{chore_of};
 
 use crate::round::{Asked, Part};
@@ -61,7 +62,8 @@ pub fn from_renewals<P: Processor>(
     failover: u64,
 ) -> (Asked, Command)
     requires { AllByRecursion IsReady consumers.now }
-    ensures given { IsNextOfAny P.stands_for consumers.now held.now (λ s. Some (from_renewals failover now place s)) result }
+    ensures given { IsNextOfAny P.stands_for consumers.now held.now (λ s. Some (from_renewals failover now place s))
+        result }
     ensures lawful { IsLeaseCommand result.1 }
     ensures asks { (syncs : List SyncStep) (takes : List TakeStep) → IsSome (chore_of result.0 syncs takes) }
 {
@@ -83,7 +85,8 @@ pub fn from_takes<P: Processor>(
     requires ready { AllByRecursion IsReady consumers.now }
     requires name { 1 ≤ made.now.name }
     ensures given { (syncs : List SyncStep)
-        → IsNext P.stands_for consumers.now held.now made.now syncs takes.now (λ s. Some (from_takes made.now.settings.failover now takes.now s)) result }
+        → IsNext P.stands_for consumers.now held.now made.now syncs takes.now
+        (λ s. Some (from_takes made.now.settings.failover now takes.now s)) result }
     ensures lawful { IsLeaseCommand result.1 }
     ensures asks { (syncs : List SyncStep) → IsSome (chore_of result.0 syncs takes.now) }
 {
@@ -150,7 +153,8 @@ pub fn next_while_stopping<P: Processor>(
     ensures none { IfNone result (HasNoChore P.stands_for consumers.now held.now chore_at_stop) }
     ensures some { IfSome result (IsNextOfAny P.stands_for consumers.now held.now chore_at_stop) }
     ensures lawful { IfSome result (λ given. IsLeaseCommand given.1) }
-    ensures asks { IfSome result (λ given. (syncs : List SyncStep) (takes : List TakeStep) → IsSome (chore_of given.0 syncs takes)) }
+    ensures asks { IfSome result (λ given. (syncs : List SyncStep) (takes : List TakeStep)
+        → IsSome (chore_of given.0 syncs takes)) }
 {
     match first_giving(consumers) {
         Some(c) => Some((
@@ -183,8 +187,11 @@ pub fn next_in_part<P: Processor>(
 ) -> Option<(Asked, Command)>
     requires ready { AllByRecursion IsReady consumers.now }
     requires name { 1 ≤ made.now.name }
-    ensures none { IfNone result (HasNoChore P.stands_for consumers.now held.now (chore_in made.now now part syncs.now takes.now)) }
-    ensures some { IfSome result (IsNext P.stands_for consumers.now held.now made.now syncs.now takes.now (chore_in made.now now part syncs.now takes.now)) }
+    ensures none { IfNone result
+        (HasNoChore P.stands_for consumers.now held.now (chore_in made.now now part syncs.now takes.now)) }
+    ensures some { IfSome result
+        (IsNext P.stands_for consumers.now held.now made.now syncs.now takes.now
+        (chore_in made.now now part syncs.now takes.now)) }
     ensures lawful { IfSome result (λ given. IsLeaseCommand given.1) }
     ensures asks { IfSome result (λ given. IsSome (chore_of given.0 syncs.now takes.now)) }
 {

@@ -1,5 +1,6 @@
 -- The call of the first processor that must be called, and the consumer that absorbs an answer.
-use Rattle.std.proofs.Common.{◌≡◌, ℕ, ◌+◌, ◌<◌, ◌++◌, get_or, map, set, take, drop, length, suc, List, ◌∷◌, Ok, Err, sym, ap, ◌∙◌}
+use Rattle.std.proofs.Common.{◌≡◌, ℕ, ◌+◌, ◌<◌, ◌++◌, get_or, map, set, take, drop, length, suc, List, ◌∷◌, Ok, Err}
+use Rattle.std.proofs.Common.{sym, ap, ◌∙◌}
 use Rattle.std.specs.Prelude.{OnErr, OnOk, Result, if◌then◌else◌}
 use Rattle.std.proofs.lemmas.List.{set_split, take-append-drop}
 use Rattle.std.proofs.lemmas.List.Edits.{map_over_more}
@@ -12,15 +13,19 @@ use Rattle.kds_defs.specs.declared.reply.Refusal.{Refusal}
 use Rattle.kds_defs.specs.declared.reply.Reply.{Reply}
 use Rattle.kcl_defs.specs.Consumers.{after_answer, given_after}
 use Rattle.kcl_consumer.specs.Standing.{HasCalled, IsAsBefore, Standing}
-use Rattle.kcl_worker_lists.specs.Changes.{FirstCalled, FirstUncalled, IsFirstDue, IsFirstOf, answered_among, answered_in}
+use Rattle.kcl_worker_lists.specs.Changes.{FirstCalled, FirstUncalled, IsFirstDue, IsFirstOf, answered_among}
+use Rattle.kcl_worker_lists.specs.Changes.{answered_in}
 
-split_at : {X : Type 0} (xs : List X) (i : ℕ) (x : X) → i < length xs → x ≡ get_or xs i x → xs ≡ take i xs ++ (x ∷ drop (suc i) xs)
+split_at : {X : Type 0} (xs : List X) (i : ℕ) (x : X) → i < length xs → x ≡ get_or xs i x
+    → xs ≡ take i xs ++ (x ∷ drop (suc i) xs)
 split_at xs i x lt at =
     sym (take-append-drop i xs)
     ∙ ap (λ l. take i xs ++ l) (drop-cons xs i x lt)
     ∙ ap (λ y. take i xs ++ (y ∷ drop (suc i) xs)) (sym at)
 
-pub first_called : {P : Type 0} (stands : P → List Call → Type 0) (asks : P → List Stored → Ask → Type 0) (asked : Ask) (i : ℕ) (cs new : List (Standing P)) (c d : Standing P) → IsFirstDue i cs → c ≡ get_or cs i c → new ≡ set cs i d → HasCalled stands asks asked c d → FirstCalled stands asks asked cs new
+pub first_called : {P : Type 0} (stands : P → List Call → Type 0) (asks : P → List Stored → Ask
+    → Type 0) (asked : Ask) (i : ℕ) (cs new : List (Standing P)) (c d : Standing P) → IsFirstDue i cs
+    → c ≡ get_or cs i c → new ≡ set cs i d → HasCalled stands asks asked c d → FirstCalled stands asks asked cs new
 first_called stands asks asked i cs new c d f at is has = record {
   before = take i cs;
   one = c;
@@ -33,7 +38,9 @@ first_called stands asks asked i cs new c d f at is has = record {
   has = has;
 }
 
-pub first_uncalled : {P : Type 0} (stands : P → List Call → Type 0) (asks : P → List Stored → Ask → Type 0) (i : ℕ) (cs new : List (Standing P)) (c d : Standing P) → IsFirstDue i cs → c ≡ get_or cs i c → new ≡ set cs i d → IsAsBefore stands asks c d → FirstUncalled stands asks cs new
+pub first_uncalled : {P : Type 0} (stands : P → List Call → Type 0) (asks : P → List Stored → Ask
+    → Type 0) (i : ℕ) (cs new : List (Standing P)) (c d : Standing P) → IsFirstDue i cs → c ≡ get_or cs i c
+    → new ≡ set cs i d → IsAsBefore stands asks c d → FirstUncalled stands asks cs new
 first_uncalled stands asks i cs new c d f at is has = record {
   before = take i cs;
   one = c;
@@ -54,19 +61,26 @@ on_err P Q (Err e) f h = f h
 
 -- ---- a loop that writes over each element
 
-pub map_over : {X : Type 0} (f : X → X) (xs ys : List X) (i : ℕ) (x y : X) → i < length xs → ys ≡ map f (take i xs) ++ drop i xs → x ≡ get_or ys i x → y ≡ f x → set ys i y ≡ map f (take (i + 1) xs) ++ drop (i + 1) xs
+pub map_over : {X : Type 0} (f : X → X) (xs ys : List X) (i : ℕ) (x y : X) → i < length xs
+    → ys ≡ map f (take i xs) ++ drop i xs → x ≡ get_or ys i x → y ≡ f x
+    → set ys i y ≡ map f (take (i + 1) xs) ++ drop (i + 1) xs
 map_over f xs ys i x y lt so_far at is = ap (λ z. set ys i z) is ∙ map_over_more f xs ys i x lt so_far at
 
 -- ---- the consumer that absorbs
 
-pub answered_same : {P : Type 0} (answer : Result Reply Refusal) (c d : Standing P) → d.made ≡ c.made → d.phase ≡ after_answer c.made answer c.phase → d.given ≡ given_after answer c.phase c.given → d.processor ≡ c.processor → d ≡ answered_in answer c
+pub answered_same : {P : Type 0} (answer : Result Reply Refusal) (c d : Standing P) → d.made ≡ c.made
+    → d.phase ≡ after_answer c.made answer c.phase → d.given ≡ given_after answer c.phase c.given
+    → d.processor ≡ c.processor → d ≡ answered_in answer c
 answered_same answer c d a b g e = λ i. record { made = a i; phase = b i; given = g i; processor = e i }
 
-pub answered_here : {P : Type 0} (id : LeaseId) (answer : Result Reply Refusal) (i : ℕ) (cs : List (Standing P)) (c d : Standing P) → IsFirstOf id i cs → c ≡ get_or cs i c → d ≡ answered_in answer c → set cs i d ≡ answered_among id answer cs
+pub answered_here : {P : Type 0} (id : LeaseId) (answer : Result Reply Refusal) (i : ℕ) (cs : List (Standing P))
+    (c d : Standing P) → IsFirstOf id i cs → c ≡ get_or cs i c → d ≡ answered_in answer c
+    → set cs i d ≡ answered_among id answer cs
 answered_here id answer i cs c d f at is =
     set_split cs i d f.within
     ∙ ap (λ x. take i cs ++ (x ∷ drop (suc i) cs)) is
     ∙ ap (λ l. take i cs ++ l) (sym
     (ap (answered_among id answer) (drop-cons cs i c f.within ∙ ap (λ y. y ∷ drop (suc i) cs) (sym at))
-    ∙ ap (λ b. if b then answered_in answer c ∷ drop (suc i) cs else c ∷ answered_among id answer (drop (suc i) cs)) (f.same c at)))
+    ∙ ap (λ b. if b then answered_in answer c ∷ drop (suc i) cs else c ∷ answered_among id answer (drop (suc i) cs))
+    (f.same c at)))
     ∙ f.before answer

@@ -1,5 +1,6 @@
 -- Where rows stand whose keys rise, and what is found there.
-use Rattle.std.proofs.Common.{◌≡◌, ℕ, zero, suc, ◌+◌, ◌<◌, ◌≤◌, drop, Bool, true, false, List, [], ◌∷◌, length, Some, None, refl, sym, ap, subst, ◌∙◌, arith}
+use Rattle.std.proofs.Common.{◌≡◌, ℕ, zero, suc, ◌+◌, ◌<◌, ◌≤◌, drop, Bool, true, false, List, [], ◌∷◌, length, Some}
+use Rattle.std.proofs.Common.{None, refl, sym, ap, subst, ◌∙◌, arith}
 use Rattle.std.specs.Prelude.{slice_get, slice_index_or, if◌then◌else◌}
 use Rattle.std.specs.List.Sorted.{IsPartitionedBy, IsPartitionPoint}
 use Rattle.std.proofs.lemmas.Bool.Decides.{nat_tests}
@@ -24,13 +25,15 @@ not_same_after a b h = grind (arith, nat_tests)
 after_else : (a b : ShardRef) → is_before a b ≡ false → same_key a b ≡ false → is_before b a ≡ true
 after_else a b h g = grind (arith, nat_tests)
 
-before_first : (a b : ShardRef) (rs : List Row) → is_before a b ≡ true → IsBeforeFirst b (keys_of rs) → IsBeforeFirst a (keys_of rs)
+before_first : (a b : ShardRef) (rs : List Row) → is_before a b ≡ true → IsBeforeFirst b (keys_of rs)
+    → IsBeforeFirst a (keys_of rs)
 before_first a b [] h first = tt
 before_first a b (r ∷ rs) h first = before_both a b r.key h first
 
 -- ---- one row more from the end
 
-pub rising_more : (rs : List Row) (i : ℕ) (d : Row) → i < length rs → before_next (slice_index_or rs i d).key (slice_get rs (suc i)) ≡ true
+pub rising_more : (rs : List Row) (i : ℕ) (d : Row) → i < length rs
+    → before_next (slice_index_or rs i d).key (slice_get rs (suc i)) ≡ true
     → AreRising (keys_of (drop (suc i) rs)) → AreRising (keys_of (drop i rs))
 rising_more [] i d within h rising = absurd (omega arith)
 rising_more (r ∷ []) zero d within h rising = (tt, tt)
@@ -38,11 +41,13 @@ rising_more (r ∷ x ∷ rs) zero d within h rising = (h, rising)
 rising_more (r ∷ rs) (suc i) d within h rising = rising_more rs i d (omega arith) h rising
 
 pub rising_back : (rs : List Row) (k j : ℕ) (r : Row) → suc j ≡ k → k ≤ length rs → r ≡ slice_index_or rs j r
-    → before_next r.key (slice_get rs (j + 1)) ≡ true → AreRising (keys_of (drop k rs)) → AreRising (keys_of (drop j rs))
+    → before_next r.key (slice_get rs (j + 1)) ≡ true → AreRising (keys_of (drop k rs))
+    → AreRising (keys_of (drop j rs))
 rising_back rs k j r e within is h rising =
     let more : j + 1 ≡ suc j = omega arith in
     rising_more rs j r (omega (arith, e, within))
-    (subst (λ (x : Row). before_next x.key (slice_get rs (suc j)) ≡ true) is (subst (λ n. before_next r.key (slice_get rs n) ≡ true) more h))
+    (subst (λ (x : Row). before_next x.key (slice_get rs (suc j)) ≡ true) is
+    (subst (λ n. before_next r.key (slice_get rs n) ≡ true) more h))
     (subst (λ n. AreRising (keys_of (drop n rs))) (sym e) rising)
 
 -- ---- where a row stands
@@ -51,7 +56,8 @@ rising_back rs k j r e within is h rising =
 abbrev pub comes_before : ShardRef → Row → Bool
 comes_before key r = is_before r.key key
 
-all_at : (key : ShardRef) (rs : List Row) (j : ℕ) (d : Row) → IsBeforeFirst key (keys_of rs) → AreRising (keys_of rs) → j < length rs
+all_at : (key : ShardRef) (rs : List Row) (j : ℕ) (d : Row) → IsBeforeFirst key (keys_of rs) → AreRising (keys_of rs)
+    → j < length rs
     → is_before key (slice_index_or rs j d).key ≡ true
 all_at key [] j d first rising h = absurd (omega arith)
 all_at key (r ∷ rs) zero d first rising h = first
@@ -64,30 +70,42 @@ partitioned key (r ∷ rs) rising zero zero d le within is = is
 partitioned key (r ∷ rs) rising zero (suc j) d le within is =
     before_both r.key (slice_index_or rs j d).key key (all_at r.key rs j d rising.0 rising.1 (omega arith)) is
 partitioned key (r ∷ rs) rising (suc i) zero d le within is = absurd (omega arith)
-partitioned key (r ∷ rs) rising (suc i) (suc j) d le within is = partitioned key rs rising.1 i j d (omega arith) (omega arith) is
+partitioned key (r ∷ rs) rising (suc i) (suc j) d le within is =
+    partitioned key rs rising.1 i j d (omega arith) (omega arith) is
 
 pub place_is : (key : ShardRef) (rs : List Row) (i : ℕ) → i ≤ length rs
     → IsPartitionPoint (λ r. comes_before key r ≡ true) (λ r. comes_before key r ≡ false) rs i → i ≡ place_of key rs
 place_is key [] i le h = omega arith
-place_is key (r ∷ rs) zero le h = ap (λ b. if b then suc (place_of key rs) else 0) (sym (h.1 0 r (omega arith) (omega arith)))
+place_is key (r ∷ rs) zero le h =
+    ap (λ b. if b then suc (place_of key rs) else 0) (sym (h.1 0 r (omega arith) (omega arith)))
 place_is key (r ∷ rs) (suc i) le h =
-    let rest = place_is key rs i (omega arith) (λ k d low high. h.0 (suc k) d (omega arith) (omega arith), λ k d low high. h.1 (suc k) d (omega arith) (omega arith)) in
+    let rest = place_is key rs i (omega arith) (
+      λ k d low high. h.0 (suc k) d (omega arith) (omega arith),
+      λ k d low high. h.1 (suc k) d (omega arith) (omega arith),
+    ) in
     ap suc rest ∙ ap (λ b. if b then suc (place_of key rs) else 0) (sym (h.0 0 r (omega arith) (omega arith)))
 
-absent : (key : ShardRef) (rs : List Row) → IsBeforeFirst key (keys_of rs) → AreRising (keys_of rs) → row_of rs key ≡ None
+absent : (key : ShardRef) (rs : List Row) → IsBeforeFirst key (keys_of rs) → AreRising (keys_of rs)
+    → row_of rs key ≡ None
 absent key [] first rising = refl
 absent key (r ∷ rs) first rising =
-    ap (λ b. if b then Some r else row_of rs key) (not_same_after r.key key first) ∙ absent key rs (before_first key r.key rs first rising.0) rising.1
+    ap (λ b. if b then Some r else row_of rs key) (not_same_after r.key key first)
+    ∙ absent key rs (before_first key r.key rs first rising.0) rising.1
 
-row_here : (key : ShardRef) (r : Row) (rs : List Row) (b d : Bool) → is_before r.key key ≡ b → same_key r.key key ≡ d → AreRising (keys_of (r ∷ rs))
+row_here : (key : ShardRef) (r : Row) (rs : List Row) (b d : Bool) → is_before r.key key ≡ b → same_key r.key key ≡ d
+    → AreRising (keys_of (r ∷ rs))
     → row_of rs key ≡ if_key key (slice_get rs (place_of key rs))
     → (if d then Some r else row_of rs key) ≡ if_key key (slice_get (r ∷ rs) (if b then suc (place_of key rs) else 0))
-row_here key r rs true true before same rising rest = absurd (apart (same_key r.key key) same (not_same r.key key before))
+row_here key r rs true true before same rising rest =
+    absurd (apart (same_key r.key key) same (not_same r.key key before))
 row_here key r rs true false before same rising rest = rest
 row_here key r rs false true before same rising rest = ap (λ d. if d then Some r else None) (sym same)
 row_here key r rs false false before same rising rest =
-    absent key rs (before_first key r.key rs (after_else r.key key before same) rising.0) rising.1 ∙ ap (λ d. if d then Some r else None) (sym same)
+    absent key rs (before_first key r.key rs (after_else r.key key before same) rising.0) rising.1
+    ∙ ap (λ d. if d then Some r else None) (sym same)
 
-pub row_there : (key : ShardRef) (rs : List Row) → AreRising (keys_of rs) → row_of rs key ≡ if_key key (slice_get rs (place_of key rs))
+pub row_there : (key : ShardRef) (rs : List Row) → AreRising (keys_of rs)
+    → row_of rs key ≡ if_key key (slice_get rs (place_of key rs))
 row_there key [] rising = refl
-row_there key (r ∷ rs) rising = row_here key r rs (is_before r.key key) (same_key r.key key) refl refl rising (row_there key rs rising.1)
+row_there key (r ∷ rs) rising =
+    row_here key r rs (is_before r.key key) (same_key r.key key) refl refl rising (row_there key rs rising.1)

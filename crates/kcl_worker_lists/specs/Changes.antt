@@ -1,5 +1,6 @@
 -- What happens to consumers as the code keeps them.
-use Rattle.std.specs.Prelude.{ℕ, ◌<◌, ◌≡◌, ◌&&◌, Bool, true, false, not, is_some, if◌then◌else◌, List, [], ◌∷◌, ◌++◌, drop, length, map, take, Option, Some, None, Result}
+use Rattle.std.specs.Prelude.{ℕ, ◌<◌, ◌≡◌, ◌&&◌, Bool, true, false, not, is_some, if◌then◌else◌, List, [], ◌∷◌, ◌++◌}
+use Rattle.std.specs.Prelude.{drop, length, map, take, Option, Some, None, Result}
 use Rattle.std.specs.List.{AllByRecursion, filter, find, list_any, slice_index_or as get_or}
 use Rattle.kcl_defs.specs.declared.consumer.Ask.{Ask}
 use Rattle.kcl_defs.specs.declared.consumer.Call.{Call}
@@ -25,7 +26,8 @@ abbrev pub lost_in : {P : Type 0} → Standing P → Standing P
 lost_in c = record c { phase = after_loss c.phase }
 
 abbrev pub answered_in : {P : Type 0} → Result Reply Refusal → Standing P → Standing P
-answered_in answer c = record c { phase = after_answer c.made answer c.phase; given = given_after answer c.phase c.given }
+answered_in answer c =
+    record c { phase = after_answer c.made answer c.phase; given = given_after answer c.phase c.given }
 
 -- it is over, and why
 abbrev pub is_over_in : {P : Type 0} → Standing P → Bool
@@ -81,7 +83,8 @@ pub record IsFirstDue {P : Type 0} (i : ℕ) (cs : List (Standing P)) : Type 0 w
   pub due : (c : Standing P) → c ≡ get_or cs i c → is_due c ≡ true
 
 -- the processor of the first one whose processor must be called was called
-pub record FirstCalled {P : Type 0} (stands : P → List Call → Type 0) (asks : P → List Stored → Ask → Type 0) (asked : Ask)
+pub record FirstCalled {P : Type 0} (stands : P → List Call → Type 0) (asks : P → List Stored → Ask
+    → Type 0) (asked : Ask)
     (old new : List (Standing P)) : Type 0 where
   pub before : List (Standing P)
   pub one : Standing P
@@ -110,10 +113,12 @@ kept_unless_over id (Some c) held = if is_over_in c then without_held id held el
 
 abbrev pub held_in : {P : Type 0} → ℕ → LeaseId → Result Reply Refusal → List (Standing P) → List Held → List Held
 held_in now id answer cs held =
-    kept_unless_over id (one_of id (answered_among id answer cs)) (held_after now id (phase_or_opening (one_of id cs)) answer held)
+    kept_unless_over id (one_of id (answered_among id answer cs))
+    (held_after now id (phase_or_opening (one_of id cs)) answer held)
 
 -- the processor's call of the first one ran out of memory, and nothing was done
-pub record FirstUncalled {P : Type 0} (stands : P → List Call → Type 0) (asks : P → List Stored → Ask → Type 0) (old new : List (Standing P)) : Type 0 where
+pub record FirstUncalled {P : Type 0} (stands : P → List Call → Type 0) (asks : P → List Stored → Ask
+    → Type 0) (old new : List (Standing P)) : Type 0 where
   pub before : List (Standing P)
   pub one : Standing P
   pub same : Standing P
@@ -129,5 +134,6 @@ is_over_one (Some c) = is_over_in c
 -- the first consumer of a lease stands at this place
 pub record IsFirstOf {P : Type 0} (id : LeaseId) (i : ℕ) (cs : List (Standing P)) : Type 0 where
   pub within : i < length cs
-  pub before : (answer : Result Reply Refusal) → take i cs ++ answered_among id answer (drop i cs) ≡ answered_among id answer cs
+  pub before : (answer : Result Reply Refusal) → take i cs ++ answered_among id answer (drop i cs)
+      ≡ answered_among id answer cs
   pub same : (c : Standing P) → c ≡ get_or cs i c → same_id (id_in c) id ≡ true

@@ -22,12 +22,14 @@ gone rows held = filter (λ h. not (still_stands rows h)) held
 abbrev pub is_among : List Held → LeaseId → Bool
 is_among held id = list_any (λ h. same_id (id_of_held h) id) held
 
-pub record IsPlanned (made : WorkerMade) (seen : List Seen) (held : List Held) (shards : List ShardRef) (rows : List Row) (now : ℕ) (p : Planned) : Type 0 where
+pub record IsPlanned (made : WorkerMade) (seen : List Seen) (held : List Held) (shards : List ShardRef)
+    (rows : List Row) (now : ℕ) (p : Planned) : Type 0 where
   pub seen_so : (key : ShardRef) → seen_at p.observed key ≡ after_rows rows now (seen_at seen) key
   pub held_so : p.held.items ≡ filter (still_stands rows) held
   pub gone_so : p.gone.items ≡ gone rows held
   pub syncs_so : p.syncs ≡ sync_plan shards rows made.settings.from
-  pub takes_so : p.takes ≡ take_plan (expiry (seen_at p.observed) now made.settings.failover) made.name p.held.items rows
+  pub takes_so : p.takes
+      ≡ take_plan (expiry (seen_at p.observed) now made.settings.failover) made.name p.held.items rows
 
 -- what was planned after the answer, if it is a survey's
 abbrev pub IsPlannedAfter : WorkerMade → List Seen → List Held → ℕ → Result Reply Refusal → Option Planned → Type 0

@@ -2,7 +2,8 @@
 //! ShardConsumer). A tenure is one worker's hold on a lease. The list is ordered by the keys and then by the tenure
 //! numbers of the consumers' leases. A processor call is due if the consumer has to make this call next. A consumer is
 //! over once it has nothing more to do.
-ghost use Rattle.std.specs.Prelude.{◌≡◌, ◌+◌, ◌<◌, ◌≤◌, length, if◌then◌else◌, true, IfNone, IfSome, IsSome, None, OnErr, OnOk, Result};
+ghost use Rattle.std.specs.Prelude.{◌≡◌, ◌+◌, ◌<◌, ◌≤◌, length, if◌then◌else◌, true, IfNone, IfSome, IsSome, None};
+ghost use Rattle.std.specs.Prelude.{OnErr, OnOk, Result};
 ghost use Rattle.kds_defs.specs.declared.reply.Refusal.{Refusal};
 ghost use Rattle.kds_defs.specs.declared.reply.Reply.{Reply};
 ghost use Rattle.std.specs.List.{insert, list_any};
@@ -12,7 +13,9 @@ ghost use Rattle.std.specs.Option.{option_map};
 ghost use Rattle.kcl_worker_lists.specs.Planning.{is_among};
 ghost use Rattle.kcl_worker_lists.specs.Lists.{giving_in, id_in, past_in};
 ghost use Rattle.kcl_defs.specs.Workers.{is_giving_phase, is_marking_or_opening, same_id};
-ghost use Rattle.kcl_worker_lists.specs.Changes.{FirstCalled, FirstUncalled, IsFirstDue, IsFirstOf, answered_among, is_over_one, lost_among, lost_in, one_of, phase_or_opening, with_consumer};
+ghost use Rattle.kcl_worker_lists.specs.Changes.{FirstCalled, FirstUncalled, IsFirstDue, IsFirstOf, answered_among};
+ghost use Rattle.kcl_worker_lists.specs.Changes.{is_over_one, lost_among, lost_in, one_of, phase_or_opening};
+ghost use Rattle.kcl_worker_lists.specs.Changes.{with_consumer};
 ghost use Rattle.kcl_worker_lists.specs.Lists.{due_in, is_due};
 
 use crate::leases::{is_before_id, is_past, same_id};
@@ -142,7 +145,8 @@ fn first_due<P: Processor>(consumers: &[Consumer<P>]) -> Option<usize>
 /// The error means that the processor ran out of memory; the same call is then still due.
 pub fn call_first<P: Processor>(consumers: &mut Vec<Consumer<P>>) -> Result<(), Memory>
     requires { IsSome (due_in consumers.old.items) }
-    ensures ok { OnOk result ((asked : Ask) × FirstCalled P.stands_for P.asks asked consumers.old.items consumers.new.items) }
+    ensures ok { OnOk result ((asked : Ask)
+        × FirstCalled P.stands_for P.asks asked consumers.old.items consumers.new.items) }
     ensures err { OnErr result (FirstUncalled P.stands_for P.asks consumers.old.items consumers.new.items) }
     ensures len { vec_len consumers.new ≡ vec_len consumers.old }
 {
@@ -188,7 +192,8 @@ pub fn is_over_at<P: Processor>(consumers: &[Consumer<P>], id: &LeaseId) -> bool
 /// Returns the index of the first consumer of the lease `id`, or `None` if the lease has no consumer.
 fn index_of<P: Processor>(consumers: &[Consumer<P>], id: &LeaseId) -> Option<usize>
     ensures some { IfSome result (λ i. IsFirstOf id.now i consumers.now) }
-    ensures none { IfNone result ((answer : Result Reply Refusal) → answered_among id.now answer consumers.now ≡ consumers.now) }
+    ensures none { IfNone result ((answer : Result Reply Refusal)
+        → answered_among id.now answer consumers.now ≡ consumers.now) }
 {
     for i in 0..consumers.len() {
         if same_id(&id_of(&consumers[i]), id) {

@@ -5,7 +5,8 @@ ghost use Rattle.std.specs.Prelude.{◌≡◌, ◌<◌, ◌≤◌, ◌&&◌, if�
 ghost use Rattle.std.specs.List.{find, insert};
 ghost use Rattle.std.specs.Vec.{vec_capacity, vec_len};
 ghost use Rattle.kcl_defs.specs.Plans.{is_due, renewed_held};
-ghost use Rattle.kcl_defs.specs.Workers.{counter_of, id_of_held, is_before_id, is_nothing_held, is_past, renewed, same_id, with_held, without_held};
+ghost use Rattle.kcl_defs.specs.Workers.{counter_of, id_of_held, is_before_id, is_nothing_held, is_past, renewed};
+ghost use Rattle.kcl_defs.specs.Workers.{same_id, with_held, without_held};
 
 use kcl_defs::{Held, LeaseId};
 use kds_base::Moment;

@@ -41,7 +41,8 @@ pub fn retire_finished<P: Processor>(
 )
     requires room { vec_len retired.old + vec_len consumers.old ≤ vec_capacity retired.old }
     ensures live { consumers.new.items ≡ live_among consumers.old.items }
-    ensures over { map retirement retired.new.items ≡ map retirement retired.old.items ++ retired_among consumers.old.items }
+    ensures over { map retirement retired.new.items ≡ map retirement retired.old.items
+        ++ retired_among consumers.old.items }
     ensures room { vec_len retired.new + vec_len consumers.new ≤ vec_capacity retired.new }
 {
     let mut i = 0;
@@ -70,7 +71,8 @@ pub fn make_room<P: Processor>(
     ensures room { vec_len retired.new + vec_len consumers.new ≤ vec_capacity retired.new }
     ensures for_held { OnOk result (vec_len held.new < vec_capacity held.new) }
     ensures for_consumer { OnOk result (vec_len consumers.new < vec_capacity consumers.new) }
-    ensures for_retirement { OnOk result (vec_len retired.new + (vec_len consumers.new + 1) ≤ vec_capacity retired.new) }
+    ensures for_retirement { OnOk result
+        (vec_len retired.new + (vec_len consumers.new + 1) ≤ vec_capacity retired.new) }
 {
     held.reserve(1)?;
     consumers.reserve(1)?;

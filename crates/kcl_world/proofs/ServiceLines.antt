@@ -28,33 +28,44 @@ seen s = facing s.clock (ShowsAll s)
 abbrev AreOfStreams : List Line → Type 0
 AreOfStreams lines = AllByRecursion (λ line. is_some (stream_of line.what) ≡ true) lines
 
-service_line : (log : Journal) (c by : ℕ) (what : Command) (line : Line) → IsAdded log c by what line → is_service what ≡ true
+service_line : (log : Journal) (c by : ℕ) (what : Command) (line : Line) → IsAdded log c by what line
+    → is_service what ≡ true
     → is_some (stream_of line.what) ≡ true
 service_line log c by _ _ (Alone _ _ _ (Creates name count fits)) h = refl
 service_line log c by _ _ _ h = h
 
-service_lines : (log : Journal) (c by : ℕ) (what : Command) → is_service what ≡ true → AreOfStreams (lines_of (decide log c by what))
+service_lines : (log : Journal) (c by : ℕ) (what : Command) → is_service what ≡ true
+    → AreOfStreams (lines_of (decide log c by what))
 service_lines log c by what h =
-    each_line (λ line. is_some (stream_of line.what) ≡ true) log c by what (λ line added. service_line log c by what line added h)
+    each_line (λ line. is_some (stream_of line.what) ≡ true) log c by what
+    (λ line added. service_line log c by what line added h)
 
 -- ---- what such lines leave
 
-rows_along : (rs : List Row) (lines : List Line) (log : Journal) → AreOfStreams lines → HasRows log rs → HasRows (with_lines lines log) rs
+rows_along : (rs : List Row) (lines : List Line) (log : Journal) → AreOfStreams lines → HasRows log rs
+    → HasRows (with_lines lines log) rs
 rows_along rs [] log of has = has
-rows_along rs (line ∷ lines) log of has = rows_along rs lines (line ∷ log) of.1 (rows_beside log line rs (of_some (stream_of line.what) of.0) has)
+rows_along rs (line ∷ lines) log of has =
+    rows_along rs lines (line ∷ log) of.1 (rows_beside log line rs (of_some (stream_of line.what) of.0) has)
 
-tenures_along : (ts : List TenureValue) (lines : List Line) (log : Journal) → AreOfStreams lines → HasTenures log ts → HasTenures (with_lines lines log) ts
+tenures_along : (ts : List TenureValue) (lines : List Line) (log : Journal) → AreOfStreams lines → HasTenures log ts
+    → HasTenures (with_lines lines log) ts
 tenures_along ts [] log of has = has
 tenures_along ts (line ∷ lines) log of has =
     tenures_along ts lines (line ∷ log) of.1 (tenures_beside log line ts (of_some (stream_of line.what) of.0) has)
 
 -- a command to the service leads the whole machine where it leads the service
-pub service_leads : {E : Type 0} (r : Result (Result Reply Refusal) E) (s s' : ServiceValue) (rs : List Row) (ts : List TenureValue) (by : ℕ) (what : Command)
-    → is_service what ≡ true → IfOk r (service.Leads s s' what) → IfOk r (Leads (world s rs ts) (world s' rs ts) by what)
+pub service_leads : {E : Type 0} (r : Result (Result Reply Refusal) E) (s s' : ServiceValue) (rs : List Row)
+    (ts : List TenureValue) (by : ℕ) (what : Command)
+    → is_service what ≡ true → IfOk r (service.Leads s s' what)
+    → IfOk r (Leads (world s rs ts) (world s' rs ts) by what)
 service_leads (Err e) s s' rs ts by what own led = tt
 service_leads (Ok gives) s s' rs ts by what own led = λ log st.
     let l = led log by st.shows in
     let of = service_lines log s.clock by what own in
     let lines = lines_of (decide log s.clock by what) in
-    let rows = rows_along rs lines log of (rows_of (seen s) rs ts log st) in
-    (l.0, stands_of (seen s') rs ts (with_lines lines log) l.1 rows (tenures_along ts lines log of (tenures_of (seen s) rs ts log st)))
+    let rows = rows_along rs lines log of (rows_of (seen s) rs ts log st) in (
+      l.0,
+      stands_of (seen s') rs ts (with_lines lines log) l.1 rows
+          (tenures_along ts lines log of (tenures_of (seen s) rs ts log st)),
+    )

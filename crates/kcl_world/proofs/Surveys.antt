@@ -14,8 +14,14 @@ use Rattle.kcl_leases.proofs.RowChanges.{rows_are}
 use Rattle.kds_service.specs.Shown.{ServiceValue}
 use Rattle.kcl_world.specs.Standing.{Leads, Stands, world}
 
-pub survey_leads : (s : ServiceValue) (rs : List Row) (ts : List TenureValue) (by : ℕ) (shards : List ShardRef) (found : List Row) → ((log : Journal) → Stands (world s rs ts) log → shards ≡ listed_in log s.clock (live_streams log)) → found ≡ rs
+pub survey_leads : (s : ServiceValue) (rs : List Row) (ts : List TenureValue) (by : ℕ) (shards : List ShardRef)
+    (found : List Row) → ((log : Journal) → Stands (world s rs ts) log
+    → shards ≡ listed_in log s.clock (live_streams log)) → found ≡ rs
     → Leads (world s rs ts) (world s rs ts) by command.Survey (Ok (reply.Survey shards found))
 survey_leads s rs ts by shards found listed is = λ log st.
-    let all : found ≡ rows log = is ∙ sym (rows_are log rs st.row_is st.distinct) ∙ ap (rows_at log) (sym st.keys_are) in
-    (ap (λ xs. Ok (reply.Survey xs found)) (listed log st) ∙ ap (λ ys. Ok (reply.Survey (listed_in log s.clock (live_streams log)) ys)) all, st)
+    let all : found ≡ rows log = is ∙ sym (rows_are log rs st.row_is st.distinct)
+    ∙ ap (rows_at log) (sym st.keys_are) in (
+      ap (λ xs. Ok (reply.Survey xs found)) (listed log st)
+          ∙ ap (λ ys. Ok (reply.Survey (listed_in log s.clock (live_streams log)) ys)) all,
+      st,
+    )

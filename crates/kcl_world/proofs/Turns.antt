@@ -26,27 +26,39 @@ pub stands_new : (s : ServiceValue) → s.clock ≡ 0 → s.turn ≡ 0 → Shows
 stands_new s clock first shows = record {
   clock_is = clock;
   turn_is = first;
-  stands = stands_of (seen s) [] [] [] shows (record { keys_are = refl; row_is = λ k. refl; distinct = tt; bounded = λ k e. cc })
+  stands = stands_of (seen s) [] [] [] shows (record {
+    keys_are = refl;
+    row_is = λ k. refl;
+    distinct = tt;
+    bounded = λ k e. cc;
+  })
       (record { count_is = refl; few = omega arith; tenure_is = no_tenure; given = λ t. tt });
 }
 
 -- at another clock
-pub stands_at : (s s' : ServiceValue) (rs : List Row) (ts : List TenureValue) (log : Journal) → Stands (world s rs ts) log → ShowsAll s' log → Stands (world s' rs ts) log
-stands_at s s' rs ts log st shows = stands_of (seen s') rs ts log shows (rows_of (seen s) rs ts log st) (tenures_of (seen s) rs ts log st)
+pub stands_at : (s s' : ServiceValue) (rs : List Row) (ts : List TenureValue) (log : Journal)
+    → Stands (world s rs ts) log → ShowsAll s' log → Stands (world s' rs ts) log
+stands_at s s' rs ts log st shows =
+    stands_of (seen s') rs ts log shows (rows_of (seen s) rs ts log st) (tenures_of (seen s) rs ts log st)
 
 -- what each part of a turn leaves of whose turn it is: the clock's, the command's, and the settling
 abbrev pub TakesTurns : ServiceValue → ServiceValue → ServiceValue → ServiceValue → Type 0
-TakesTurns s at mid last = (at.turn ≡ s.turn) × (mid.turn ≡ at.turn) × (last.turn ≡ turn_after (length mid.streams) mid.turn)
+TakesTurns s at mid last = (at.turn ≡ s.turn) × (mid.turn ≡ at.turn)
+    × (last.turn ≡ turn_after (length mid.streams) mid.turn)
 
 -- the services: before the turn, at its clock, after the command, and settled
-pub turn_done : (s at mid last : ServiceValue) (rs rs' : List Row) (ts ts' : List TenureValue) (h : List Turn) (turn : Turn) (gives : Result Reply Refusal) → StandsFor (world s rs ts) h
-    → ShowsAll at (journal h) → at.clock ≡ max s.clock turn.at → Leads (world at rs ts) (world mid rs' ts') turn.by turn.what gives → mid.clock ≡ at.clock
+pub turn_done : (s at mid last : ServiceValue) (rs rs' : List Row) (ts ts' : List TenureValue) (h : List Turn)
+    (turn : Turn) (gives : Result Reply Refusal) → StandsFor (world s rs ts) h
+    → ShowsAll at (journal h) → at.clock ≡ max s.clock turn.at
+    → Leads (world at rs ts) (world mid rs' ts') turn.by turn.what gives → mid.clock ≡ at.clock
     → ((log : Journal) → ShowsAll mid log → ShowsAll last log) → last.clock ≡ mid.clock → TakesTurns s at mid last
     → (gives ≡ answer h turn) × StandsFor (world last rs' ts') (turn ∷ h)
 turn_done s at mid last rs rs' ts ts' h turn gives stood shows at_is led mid_is settles last_is turns =
     let c : at.clock ≡ clock_of (turn ∷ h) = at_is ∙ ap (λ n. max n turn.at) stood.clock_is in
     let l = led (journal h) (stands_at s at rs ts (journal h) stood.stands shows) in
-    let after = subst (λ n. Stands (world mid rs' ts') (with_lines (lines_of (decide (journal h) n turn.by turn.what)) (journal h))) c l.1 in (
+    let after = subst (λ n.
+    Stands (world mid rs' ts') (with_lines (lines_of (decide (journal h) n turn.by turn.what)) (journal h)))
+    c l.1 in (
       l.0 ∙ ap (λ n. answer_of (decide (journal h) n turn.by turn.what)) c,
       record {
         clock_is = last_is ∙ mid_is ∙ c;
@@ -58,9 +70,14 @@ turn_done s at mid last rs rs' ts ts' h turn gives stood shows at_is led mid_is 
     )
 
 -- the same, for some history
-pub turn_stands : (s at mid last : ServiceValue) (rs rs' : List Row) (ts ts' : List TenureValue) (turn : Turn) (gives : Result Reply Refusal) → ((h : List Turn) × StandsFor (world s rs ts) h)
-    → ((log : Journal) → ShowsAll s log → ShowsAll at log) → at.clock ≡ max s.clock turn.at → Leads (world at rs ts) (world mid rs' ts') turn.by turn.what gives → mid.clock ≡ at.clock
+pub turn_stands : (s at mid last : ServiceValue) (rs rs' : List Row) (ts ts' : List TenureValue) (turn : Turn)
+    (gives : Result Reply Refusal) → ((h : List Turn) × StandsFor (world s rs ts) h)
+    → ((log : Journal) → ShowsAll s log → ShowsAll at log) → at.clock ≡ max s.clock turn.at
+    → Leads (world at rs ts) (world mid rs' ts') turn.by turn.what gives → mid.clock ≡ at.clock
     → ((log : Journal) → ShowsAll mid log → ShowsAll last log) → last.clock ≡ mid.clock → TakesTurns s at mid last
     → (h : List Turn) × StandsFor (world last rs' ts') h
-turn_stands s at mid last rs rs' ts ts' turn gives stood shows at_is led mid_is settles last_is turns =
-    (turn ∷ stood.0, (turn_done s at mid last rs rs' ts ts' stood.0 turn gives stood.1 (shows (journal stood.0) stood.1.stands.shows) at_is led mid_is settles last_is turns).1)
+turn_stands s at mid last rs rs' ts ts' turn gives stood shows at_is led mid_is settles last_is turns = (
+  turn ∷ stood.0,
+  (turn_done s at mid last rs rs' ts ts' stood.0 turn gives stood.1
+      (shows (journal stood.0) stood.1.stands.shows) at_is led mid_is settles last_is turns).1,
+)

@@ -35,7 +35,8 @@ Stands w log = lease.Stands (leased w) log
 abbrev pub Leads : WorldValue → WorldValue → ℕ → Command → Result Reply Refusal → Type 0
 Leads old new by what gives = lease.Leads (leased old) (leased new) by what gives
 
--- The place of the stream that is settled next: each turn settled one of those that were live after it, and they took turns.
+-- The place of the stream that is settled next: each turn settled one of those that were live after it, and they took
+-- turns.
 abbrev pub turn_of : List Turn → ℕ
 turn_of [] = 0
 turn_of (turn ∷ h) = turn_after (length (live_streams (journal (turn ∷ h)))) (turn_of h)

@@ -26,7 +26,8 @@ fn lease_answer(
 ) -> Result<Answer, Memory>
     requires leases { is_service what ≡ false }
     requires stands { (log : Journal) × Stands (world service.now table.old book.old.tenures) log }
-    ensures leads { IfOk result (Leads (world service.now table.old book.old.tenures) (world service.now table.new book.new.tenures) by what) }
+    ensures leads { IfOk result
+        (Leads (world service.now table.old book.old.tenures) (world service.now table.new book.new.tenures) by what) }
     ensures kept { OnErr result ((table.new ≡ table.old) × (book.new.tenures ≡ book.old.tenures)) }
     ensures sure { NeedsNoMemory what → IsOk result }
 {
@@ -70,10 +71,12 @@ pub fn answer(
 ) -> Result<Answer, Memory>
     requires lawful { IsLawfulCommand what }
     requires stands { (log : Journal) × Stands (world service.old table.old book.old.tenures) log }
-    ensures leads { IfOk result (Leads (world service.old table.old book.old.tenures) (world service.new table.new book.new.tenures) by what) }
+    ensures leads { IfOk result
+        (Leads (world service.old table.old book.old.tenures) (world service.new table.new book.new.tenures) by what) }
     ensures clock { service.new.clock ≡ service.old.clock }
     ensures turn { service.new.turn ≡ service.old.turn }
-    ensures kept { OnErr result ((service.new ≡ service.old) × (table.new ≡ table.old) × (book.new.tenures ≡ book.old.tenures)) }
+    ensures kept { OnErr result ((service.new ≡ service.old) × (table.new ≡ table.old)
+        × (book.new.tenures ≡ book.old.tenures)) }
     ensures sure { NeedsNoMemory what → IsOk result }
 {
     if what.is_service() {

@@ -34,7 +34,8 @@ impl Model for World {
 
     ghost view = { λ w. world w.service w.table w.book.tenures };
 
-    ghost invariant = { λ w. (w.service.clock ≡ w.clock) × ((h : List Turn) × StandsFor (world w.service w.table w.book.tenures) h) };
+    ghost invariant = { λ w. (w.service.clock ≡ w.clock)
+        × ((h : List Turn) × StandsFor (world w.service w.table w.book.tenures) h) };
 }
 
 /// Raises the clock of the service and of each of its streams from `before` to `clock`. Does nothing if the two times
@@ -47,7 +48,8 @@ fn raise(service: &mut Service, before: Moment, clock: Moment) -> bool
     ensures shows { (log : Journal) → ShowsAll service.old log → ShowsAll service.new log }
     ensures same { result ≡ false → service.new ≡ service.old }
     ensures back { result ≡ true → CanGoBack service.new }
-    ensures shows_back { result ≡ true → (log : Journal) → ShowsAll service.old log → ShowsAll (gone_back service.new) log }
+    ensures shows_back { result ≡ true → (log : Journal) → ShowsAll service.old log
+        → ShowsAll (gone_back service.new) log }
     ensures clock_back { result ≡ true → (gone_back service.new).clock ≡ before }
 {
     if before == clock {

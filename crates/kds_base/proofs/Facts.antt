@@ -75,22 +75,27 @@ same_some x y h = cc
 
 -- ---- lists
 
-pub all_append : {A : Type 0} (P : A → Type 0) (xs ys : List A) → AllByRecursion P xs → AllByRecursion P ys → AllByRecursion P (xs ++ ys)
+pub all_append : {A : Type 0} (P : A → Type 0) (xs ys : List A) → AllByRecursion P xs → AllByRecursion P ys
+    → AllByRecursion P (xs ++ ys)
 all_append P [] ys h g = g
 all_append P (x ∷ xs) ys h g = (h.0, all_append P xs ys h.1 g)
 
-pub all_choice : {A : Type 0} (P : A → Type 0) (b : Bool) (x : A) (xs : List A) → P x → AllByRecursion P xs → AllByRecursion P (cond b (x ∷ xs) xs)
+pub all_choice : {A : Type 0} (P : A → Type 0) (b : Bool) (x : A) (xs : List A) → P x → AllByRecursion P xs
+    → AllByRecursion P (cond b (x ∷ xs) xs)
 all_choice P true x xs h all = (h, all)
 all_choice P false x xs h all = all
 
-pub all_filter : {A : Type 0} (P : A → Type 0) (p : A → Bool) (xs : List A) → AllByRecursion P xs → AllByRecursion P (filter p xs)
+pub all_filter : {A : Type 0} (P : A → Type 0) (p : A → Bool) (xs : List A) → AllByRecursion P xs
+    → AllByRecursion P (filter p xs)
 all_filter P p [] h = tt
 all_filter P p (x ∷ xs) h = all_choice P (p x) x (filter p xs) h.0 (all_filter P p xs h.1)
 
-pub all_weaker : {A : Type 0} (P Q : A → Type 0) → ((x : A) → P x → Q x) → (xs : List A) → AllByRecursion P xs → AllByRecursion Q xs
+pub all_weaker : {A : Type 0} (P Q : A → Type 0) → ((x : A) → P x → Q x) → (xs : List A) → AllByRecursion P xs
+    → AllByRecursion Q xs
 all_weaker P Q h [] all = tt
 all_weaker P Q h (x ∷ xs) all = (h x all.0, all_weaker P Q h xs all.1)
 
-pub all_both : {A : Type 0} (P Q R : A → Type 0) → ((x : A) → P x → Q x → R x) → (xs : List A) → AllByRecursion P xs → AllByRecursion Q xs → AllByRecursion R xs
+pub all_both : {A : Type 0} (P Q R : A → Type 0) → ((x : A) → P x → Q x → R x) → (xs : List A) → AllByRecursion P xs
+    → AllByRecursion Q xs → AllByRecursion R xs
 all_both P Q R h [] ps qs = tt
 all_both P Q R h (x ∷ xs) ps qs = (h x ps.0 qs.0, all_both P Q R h xs ps.1 qs.1)

@@ -1,5 +1,7 @@
 -- Texts of digits: each number has one, and it is read digit by digit.
-use Rattle.std.proofs.Common.{decimal, sym, ap, ◌∙◌, subst, get_or, take, Some, None, zero, suc, inl, inr, ◌⊎◌, ◌≡◌, ℕ, ◌+◌, ◌-◌, ◌*◌, ◌/◌, ◌%◌, ◌^◌, ◌<◌, ◌≤◌, List, [], ◌∷◌, ◌++◌, length, Bool, true, false, refl, arith, rules}
+use Rattle.std.proofs.Common.{decimal, sym, ap, ◌∙◌, subst, get_or, take, Some, None, zero, suc, inl, inr, ◌⊎◌, ◌≡◌, ℕ}
+use Rattle.std.proofs.Common.{◌+◌, ◌-◌, ◌*◌, ◌/◌, ◌%◌, ◌^◌, ◌<◌, ◌≤◌, List, [], ◌∷◌, ◌++◌, length, Bool, true, false}
+use Rattle.std.proofs.Common.{refl, arith, rules}
 use Rattle.std.proofs.lemmas.Grind.{common_steps}
 use Rattle.std.proofs.lemmas.Bool.Decides.{nat_tests}
 use Rattle.std.proofs.lemmas.Int.Digits.{digits_value_more}
@@ -40,7 +42,8 @@ le_value_after : (n : ℕ) (ds : List ℕ) → n ≤ digits_value_after 10 n ds
 le_value_after n [] = omega arith
 le_value_after n (c ∷ cs) = omega (arith, le_value_after (n * 10 + digit_value c) cs)
 
-value_after : (n : ℕ) (ds : List ℕ) → 0 < n → AllDigits 10 ds → digits_value_after 10 n ds < 10 ^ 64 → decimal (digits_value_after 10 n ds) ≡ decimal n ++ ds
+value_after : (n : ℕ) (ds : List ℕ) → 0 < n → AllDigits 10 ds → digits_value_after 10 n ds < 10 ^ 64
+    → decimal (digits_value_after 10 n ds) ≡ decimal n ++ ds
 value_after n [] some d small = sym (append-nil (decimal n))
 value_after n (c ∷ cs) some d small =
     let m : ℕ = n * 10 + digit_value c in
@@ -48,11 +51,13 @@ value_after n (c ∷ cs) some d small =
     let front : m / 10 ≡ n = omega (arith, d.0) in
     let end : 48 + m % 10 ≡ c = omega (arith, d.0) in
     value_after m cs (omega arith) d.1 small
-    ∙ ap (λ x. x ++ cs) (decimal_step_wide m (omega arith) (omega (arith, le_value_after m cs)) ∙ (λ i. decimal (front i) ++ (end i ∷ [])))
+    ∙ ap (λ x. x ++ cs) (decimal_step_wide m (omega arith) (omega (arith, le_value_after m cs))
+    ∙ (λ i. decimal (front i) ++ (end i ∷ [])))
     ∙ append_assoc (decimal n) (c ∷ []) cs
 
 -- digits are the text of their value
-value_digits : (ds : List ℕ) → AllDigits 10 ds → 0 < length ds → (get_or ds 0 0 ≡ 48 → length ds ≡ 1) → digits_value 10 ds < 10 ^ 64 → decimal (digits_value 10 ds) ≡ ds
+value_digits : (ds : List ℕ) → AllDigits 10 ds → 0 < length ds → (get_or ds 0 0 ≡ 48 → length ds ≡ 1)
+    → digits_value 10 ds < 10 ^ 64 → decimal (digits_value 10 ds) ≡ ds
 value_digits [] d some lead small = absurd (omega arith)
 value_digits (c ∷ []) d some lead small =
     let k = digit_value_digit c (digit_from_value c d.0) in
@@ -76,25 +81,37 @@ spells bits n text few h =
     let small : digits_value 10 text < 2 ^ bits = grind (arith, common_steps) in
     let v : digits_value 10 text ≡ n = grind (arith, common_steps) in
     let d = plain_digits text p in
-    sym (ap decimal (sym v) ∙ value_digits text (own.to text d.0) d.1 (plain_first text p) (few_digits bits _ few small))
+    sym (ap decimal (sym v)
+    ∙ value_digits text (own.to text d.0) d.1 (plain_first text p) (few_digits bits _ few small))
 
 -- what makes a text plain
-plain_from : (text : List ℕ) → 0 < length text → IsDigits text → (48 < get_or text 0 0) ⊎ (length text ≡ 1) → is_plain text ≡ true
+plain_from : (text : List ℕ) → 0 < length text → IsDigits text → (48 < get_or text 0 0) ⊎ (length text ≡ 1)
+    → is_plain text ≡ true
 plain_from text some digits (inl big) = grind (arith, common_steps)
 plain_from text some digits (inr one) = grind (arith, common_steps)
 
 first_digit : (n : ℕ) → 0 < n → n < 10 ^ 64 → 48 < get_or (decimal n) 0 0
-first_digit n some small = (decimal_by_steps_wide (λ m ds. (0 < length ds) × (0 < m → 48 < get_or ds 0 0)) (λ m l. (omega arith, λ a. omega arith))
-    (λ m ds l h. (omega (arith, length-append ds ((48 + m % 10) ∷ [])), λ a. omega (arith, get_or-append ds ((48 + m % 10) ∷ []) 0 0 h.0, h.1 (omega arith)))) n small).1 some
+first_digit n some small =
+    (decimal_by_steps_wide (λ m ds. (0 < length ds) × (0 < m → 48 < get_or ds 0 0))
+    (λ m l. (omega arith, λ a. omega arith))
+    (λ m ds l h. (
+      omega (arith, length-append ds ((48 + m % 10) ∷ [])),
+      λ a. omega (arith, get_or-append ds ((48 + m % 10) ∷ []) 0 0 h.0, h.1 (omega arith)),
+    )) n small).1 some
 
 decimal_digits : (n : ℕ) → n < 10 ^ 64 → IsDigits (decimal n)
 decimal_digits n small = own.from (decimal n) (decimal_is_IsNumeral_wide n small).0.1
 
 pub decimal_plain : (n : ℕ) → n < 10 ^ 64 → is_plain (decimal n) ≡ true
-decimal_plain zero small = plain_from (decimal 0) (decimal_is_IsNumeral_wide 0 small).0.0 (decimal_digits 0 small) (inr (ap length (decimal_digit 0 (omega arith))))
-decimal_plain (suc n) small = plain_from (decimal (suc n)) (decimal_is_IsNumeral_wide (suc n) small).0.0 (decimal_digits (suc n) small) (inl (first_digit (suc n) (omega arith) small))
+decimal_plain zero small =
+    plain_from (decimal 0) (decimal_is_IsNumeral_wide 0 small).0.0 (decimal_digits 0 small)
+    (inr (ap length (decimal_digit 0 (omega arith))))
+decimal_plain (suc n) small =
+    plain_from (decimal (suc n)) (decimal_is_IsNumeral_wide (suc n) small).0.0 (decimal_digits (suc n) small)
+    (inl (first_digit (suc n) (omega arith) small))
 
-number_from : (bits n : ℕ) (text : List ℕ) → is_plain text ≡ true → digits_value 10 text ≡ n → n < 2 ^ bits → number_of bits text ≡ Some n
+number_from : (bits n : ℕ) (text : List ℕ) → is_plain text ≡ true → digits_value 10 text ≡ n → n < 2 ^ bits
+    → number_of bits text ≡ Some n
 number_from bits n text p v small = grind (arith, common_steps)
 
 pub reads : (bits n : ℕ) → bits ≤ 128 → n < 2 ^ bits → number_of bits (decimal n) ≡ Some n
@@ -115,17 +132,20 @@ pub some_digits : (text : List ℕ) → are_digits text ≡ true → IsDigits te
 some_digits text p = (grind (arith, common_steps), grind (arith, common_steps))
 
 -- digits are read one after another
-pub next_digit : (ds : List ℕ) (i n : ℕ) → i < length ds → is_ascii_digit (get_or ds i 0) ≡ true → n ≡ digits_value 10 (take i ds)
+pub next_digit : (ds : List ℕ) (i n : ℕ) → i < length ds → is_ascii_digit (get_or ds i 0) ≡ true
+    → n ≡ digits_value 10 (take i ds)
     → digits_value 10 (take (i + 1) ds) ≡ n * 10 + (get_or ds i 0 - 48)
 next_digit ds i n inside digit value =
     let worth : digit_value (get_or ds i 0) ≡ get_or ds i 0 - 48 = grind (arith, nat_tests) in
     rw (digits_value_more 10 ds i inside, worth, value)
 
-pub more_digits : (ds : List ℕ) (i : ℕ) → i < length ds → list_all is_ascii_digit (take i ds) ≡ true → is_ascii_digit (get_or ds i 0) ≡ true
+pub more_digits : (ds : List ℕ) (i : ℕ) → i < length ds → list_all is_ascii_digit (take i ds) ≡ true
+    → is_ascii_digit (get_or ds i 0) ≡ true
     → list_all is_ascii_digit (take (i + 1) ds) ≡ true
 more_digits ds i inside front digit = list_all_more is_ascii_digit ds i 0 inside ∙ rw (front, digit) refl
 
-some_other : (test : ℕ → Bool) (xs : List ℕ) (i : ℕ) → i < length xs → test (get_or xs i 0) ≡ false → list_all test xs ≡ false
+some_other : (test : ℕ → Bool) (xs : List ℕ) (i : ℕ) → i < length xs → test (get_or xs i 0) ≡ false
+    → list_all test xs ≡ false
 some_other test [] i inside fails = absurd (omega arith)
 some_other test (x ∷ xs) zero inside fails = rw fails refl
 some_other test (x ∷ xs) (suc i) inside fails = none (test x) _ (some_other test xs i (omega arith) fails)
@@ -138,7 +158,8 @@ some_other test (x ∷ xs) (suc i) inside fails = none (test x) _ (some_other te
 pub none_of_nothing : (bits : ℕ) (text : List ℕ) → length text ≡ 0 → None ≡ digits_of bits text
 none_of_nothing bits text e = let no : nat_lt 0 (length text) ≡ false = grind (arith, common_steps) in rw no refl
 
-pub none_of_others : (bits i : ℕ) (text : List ℕ) → i < length text → is_ascii_digit (get_or text i 0) ≡ false → None ≡ digits_of bits text
+pub none_of_others : (bits i : ℕ) (text : List ℕ) → i < length text → is_ascii_digit (get_or text i 0) ≡ false
+    → None ≡ digits_of bits text
 none_of_others bits i text inside fails =
     let all : list_all is_ascii_digit text ≡ false = some_other is_ascii_digit text i inside fails in
     let no : are_digits text ≡ false = grind (arith, common_steps) in
@@ -153,7 +174,8 @@ none_of_large bits i text large =
     past true n h = let no : nat_lt n (2 ^ bits) ≡ false = grind (arith, nat_tests) in rw no refl
     past false n h = refl
 
-pub all_read : (bits n : ℕ) (text : List ℕ) → 0 < length text → list_all is_ascii_digit text ≡ true → n ≡ digits_value 10 text → n < 2 ^ bits → Some n ≡ digits_of bits text
+pub all_read : (bits n : ℕ) (text : List ℕ) → 0 < length text → list_all is_ascii_digit text ≡ true
+    → n ≡ digits_value 10 text → n < 2 ^ bits → Some n ≡ digits_of bits text
 all_read bits n text some all value small =
     let digits : are_digits text ≡ true = grind (arith, common_steps) in
     let less : digits_value 10 text < 2 ^ bits = subst (λ (z : ℕ). z < 2 ^ bits) value small in
@@ -161,8 +183,10 @@ all_read bits n text some all value small =
     rw (digits, fits_bits) (ap (λ z. Some z) value)
 
 -- a text of digits is plain where it has no needless zero
-pub none_of_needless : (bits : ℕ) (text : List ℕ) → (nat_lt 1 (length text) && slice_index text 0 == 48) ≡ true → None ≡ number_of bits text
+pub none_of_needless : (bits : ℕ) (text : List ℕ) → (nat_lt 1 (length text) && slice_index text 0 == 48) ≡ true
+    → None ≡ number_of bits text
 none_of_needless bits text e = let no : is_plain text ≡ false = grind (arith, common_steps) in rw no refl
 
-pub plain_as_digits : (bits : ℕ) (text : List ℕ) → (nat_lt 1 (length text) && slice_index text 0 == 48) ≡ false → digits_of bits text ≡ number_of bits text
+pub plain_as_digits : (bits : ℕ) (text : List ℕ) → (nat_lt 1 (length text) && slice_index text 0 == 48) ≡ false
+    → digits_of bits text ≡ number_of bits text
 plain_as_digits bits text e = let same : are_digits text ≡ is_plain text = grind (arith, common_steps) in rw same refl

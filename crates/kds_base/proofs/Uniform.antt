@@ -1,5 +1,6 @@
 -- The uniform ranges of a new stream, one after another.
-use Rattle.std.proofs.Common.{◌≡◌, ℕ, zero, suc, ◌+◌, ◌-◌, ◌*◌, ◌/◌, ◌^◌, ◌<◌, ◌≤◌, List, [], ◌∷◌, ◌++◌, ◌==◌, if◌then◌else◌, sym, ap, ◌∙◌, append_assoc, arith}
+use Rattle.std.proofs.Common.{◌≡◌, ℕ, zero, suc, ◌+◌, ◌-◌, ◌*◌, ◌/◌, ◌^◌, ◌<◌, ◌≤◌, List, [], ◌∷◌, ◌++◌, ◌==◌}
+use Rattle.std.proofs.Common.{if◌then◌else◌, sym, ap, ◌∙◌, append_assoc, arith}
 use Rattle.std.proofs.Math.Nat.{add-div_right}
 use Rattle.std.proofs.lemmas.Bool.Decides.{nat_tests}
 use Rattle.kds_base.specs.Span.{Span, last_key, uniform_from, uniform}
@@ -13,7 +14,8 @@ width n some few =
 times_next : (a w : ℕ) → a * w + a ≡ a * (w + 1)
 times_next a w = omega arith
 
-pub start_is : (a m i n : ℕ) → a ≡ i → m ≡ n → i < n → n < 2 ^ 32 → a * ((last_key - (m - 1)) / m) + a ≡ i * (2 ^ 128 / n)
+pub start_is : (a m i n : ℕ) → a ≡ i → m ≡ n → i < n → n < 2 ^ 32
+    → a * ((last_key - (m - 1)) / m) + a ≡ i * (2 ^ 128 / n)
 start_is a m i n is_i is_n below few =
     times_next a ((last_key - (m - 1)) / m)
     ∙ ap (λ b. b * ((last_key - (m - 1)) / m + 1)) is_i
@@ -23,11 +25,13 @@ start_is a m i n is_i is_n below few =
 last_end : (w i n e : ℕ) → 0 + (i + 1) ≡ n → e ≡ (if i + 1 == n then last_key else (i + 1) * w - 1) → last_key ≡ e
 last_end w i n e h g = grind (arith, nat_tests)
 
-inner_end : (w i n k e : ℕ) → suc k + (i + 1) ≡ n → e ≡ (if i + 1 == n then last_key else (i + 1) * w - 1) → (i + 1) * w - 1 ≡ e
+inner_end : (w i n k e : ℕ) → suc k + (i + 1) ≡ n → e ≡ (if i + 1 == n then last_key else (i + 1) * w - 1)
+    → (i + 1) * w - 1 ≡ e
 inner_end w i n k e h g = grind (arith, nat_tests)
 
 -- the next range, where so many follow it
-pub next_range : (w i n k e : ℕ) → k + (i + 1) ≡ n → e ≡ (if i + 1 == n then last_key else (i + 1) * w - 1) → uniform_from w (i * w) (suc k) ≡ record { start = i * w; end = e } ∷ uniform_from w ((i + 1) * w) k
+pub next_range : (w i n k e : ℕ) → k + (i + 1) ≡ n → e ≡ (if i + 1 == n then last_key else (i + 1) * w - 1)
+    → uniform_from w (i * w) (suc k) ≡ record { start = i * w; end = e } ∷ uniform_from w ((i + 1) * w) k
 next_range w i n zero e h g = ap (λ z. record { start = i * w; end = z } ∷ []) (last_end w i n e h g)
 next_range w i n (suc k) e h g =
     let s : i * w + w ≡ (i + 1) * w = omega arith in
@@ -35,7 +39,9 @@ next_range w i n (suc k) e h g =
     ∙ ap (λ z. record { start = i * w; end = z } ∷ uniform_from w ((i + 1) * w) (suc k)) (inner_end w i n k e h g)
 
 -- the ranges so far, and the ranges after one more
-pub pushed : (ranges : List Span) (w i n k s e : ℕ) → ranges ++ uniform_from w (i * w) (suc k) ≡ uniform n → s ≡ i * w → k + (i + 1) ≡ n → e ≡ (if i + 1 == n then last_key else (i + 1) * w - 1) → (ranges ++ record { start = s; end = e } ∷ []) ++ uniform_from w ((i + 1) * w) k ≡ uniform n
+pub pushed : (ranges : List Span) (w i n k s e : ℕ) → ranges ++ uniform_from w (i * w) (suc k) ≡ uniform n → s ≡ i * w
+    → k + (i + 1) ≡ n → e ≡ (if i + 1 == n then last_key else (i + 1) * w - 1)
+    → (ranges ++ record { start = s; end = e } ∷ []) ++ uniform_from w ((i + 1) * w) k ≡ uniform n
 pushed ranges w i n k s e so_far is_s h is_e =
     append_assoc ranges (record { start = s; end = e } ∷ []) (uniform_from w ((i + 1) * w) k)
     ∙ ap (λ z. ranges ++ (record { start = z; end = e } ∷ uniform_from w ((i + 1) * w) k)) is_s

@@ -1,5 +1,6 @@
 -- Digits that are read by blocks: what is read of a front and of a block is read of both.
-use Rattle.std.proofs.Common.{sym, ap, ◌∙◌, Option, Some, None, zero, suc, ◌≡◌, ℕ, ◌+◌, ◌*◌, ◌^◌, ◌<◌, ◌≤◌, List, [], ◌∷◌, ◌++◌, length, Bool, true, false, refl, arith}
+use Rattle.std.proofs.Common.{sym, ap, ◌∙◌, Option, Some, None, zero, suc, ◌≡◌, ℕ, ◌+◌, ◌*◌, ◌^◌, ◌<◌, ◌≤◌, List, []}
+use Rattle.std.proofs.Common.{◌∷◌, ◌++◌, length, Bool, true, false, refl, arith}
 use native.Mathlib.Nat.{pow-zero, pow-succ', pow-le-pow_right, mul-le-mul_right}
 use Rattle.std.proofs.lemmas.Grind.{common_steps}
 use Rattle.std.proofs.lemmas.Bool.Decides.{nat_tests}
@@ -18,9 +19,15 @@ use Rattle.kds_base.proofs.NumberLemmas.{IsDigits, own}
 after_weighs : (n : ℕ) (ds : List ℕ) → digits_value_after 10 n ds ≡ n * 10 ^ length ds + digits_value 10 ds
 after_weighs n [] = omega (arith, ap (λ x. n * x) (pow-zero 10))
 after_weighs n (c ∷ cs) =
-    omega (arith, ap (λ x. n * x) (pow-succ' 10 (length cs)), after_weighs (n * 10 + digit_value c) cs, after_weighs (0 * 10 + digit_value c) cs)
+    omega (
+      arith,
+      ap (λ x. n * x) (pow-succ' 10 (length cs)),
+      after_weighs (n * 10 + digit_value c) cs,
+      after_weighs (0 * 10 + digit_value c) cs,
+    )
 
-after_both : (n : ℕ) (ds es : List ℕ) → digits_value_after 10 n (ds ++ es) ≡ digits_value_after 10 (digits_value_after 10 n ds) es
+after_both : (n : ℕ) (ds es : List ℕ)
+    → digits_value_after 10 n (ds ++ es) ≡ digits_value_after 10 (digits_value_after 10 n ds) es
 after_both n [] es = refl
 after_both n (d ∷ ds) es = after_both (n * 10 + digit_value d) ds es
 
@@ -39,7 +46,8 @@ too_large bits text large = go (are_digits text) (digits_value 10 text) large
     go true n h = let no : nat_lt n (2 ^ bits) ≡ false = grind (arith, nat_tests) in rw no refl
     go false n h = refl
 
-is_read : (bits : ℕ) (text : List ℕ) → 0 < length text → list_all is_ascii_digit text ≡ true → digits_value 10 text < 2 ^ bits
+is_read : (bits : ℕ) (text : List ℕ) → 0 < length text → list_all is_ascii_digit text ≡ true
+    → digits_value 10 text < 2 ^ bits
     → Some (digits_value 10 text) ≡ digits_of bits text
 is_read bits text some all small =
     let digits : are_digits text ≡ true = grind (arith, common_steps) in
@@ -47,8 +55,10 @@ is_read bits text some all small =
     rw (digits, fits) refl
 
 -- why a text isn't read, and what it is where it is read
-why_not : (bits : ℕ) (text : List ℕ) → 0 < length text → digits_of bits text ≡ None → list_all is_ascii_digit text ≡ true → 2 ^ bits ≤ digits_value 10 text
-why_not bits text some h all = let digits : are_digits text ≡ true = grind (arith, common_steps) in grind (arith, nat_tests)
+why_not : (bits : ℕ) (text : List ℕ) → 0 < length text → digits_of bits text ≡ None
+    → list_all is_ascii_digit text ≡ true → 2 ^ bits ≤ digits_value 10 text
+why_not bits text some h all = let digits : are_digits text ≡ true = grind (arith, common_steps) in
+    grind (arith, nat_tests)
 
 all_of : (bits n : ℕ) (text : List ℕ) → digits_of bits text ≡ Some n → list_all is_ascii_digit text ≡ true
 all_of bits n text h = grind (arith, common_steps)
@@ -65,32 +75,42 @@ by_test : {A : Type 0} (b : Bool) → (b ≡ true → A) → (b ≡ false → A)
 by_test true holds fails = holds refl
 by_test false holds fails = fails refl
 
-other_front : (front block : List ℕ) → list_all is_ascii_digit front ≡ false → list_all is_ascii_digit (front ++ block) ≡ false
+other_front : (front block : List ℕ) → list_all is_ascii_digit front ≡ false
+    → list_all is_ascii_digit (front ++ block) ≡ false
 other_front front block h = list_all-append is_ascii_digit front block ∙ rw h refl
 
-other_block : (front block : List ℕ) → list_all is_ascii_digit block ≡ false → list_all is_ascii_digit (front ++ block) ≡ false
+other_block : (front block : List ℕ) → list_all is_ascii_digit block ≡ false
+    → list_all is_ascii_digit (front ++ block) ≡ false
 other_block front block h = list_all-append is_ascii_digit front block ∙ rw h (none (list_all is_ascii_digit front))
   where
     none : (b : Bool) → (b && false) ≡ false
     none true = refl
     none false = refl
 
-pub front_not_read : (front block : List ℕ) → 0 < length front → digits_of 128 front ≡ None → None ≡ digits_of 128 (front ++ block)
+pub front_not_read : (front block : List ℕ) → 0 < length front → digits_of 128 front ≡ None
+    → None ≡ digits_of 128 (front ++ block)
 front_not_read front block some h = by_test (list_all is_ascii_digit front)
     (λ all. too_large 128 (front ++ block)
-    (omega (arith, why_not 128 front some h all, value_of_both front block, weight (digits_value 10 front) (length block))))
+    (omega (
+      arith,
+      why_not 128 front some h all,
+      value_of_both front block,
+      weight (digits_value 10 front) (length block),
+    )))
     (λ other. not_read 128 (front ++ block) (other_front front block other))
   where
     weight : (n k : ℕ) → n ≤ n * 10 ^ k
     weight n zero = omega (arith, ap (λ x. n * x) (pow-zero 10))
     weight n (suc k) = omega (arith, ap (λ x. n * x) (pow-succ' 10 k), weight n k)
 
-pub block_not_read : (front block : List ℕ) → length block ≡ 19 → digits_of 64 block ≡ None → None ≡ digits_of 128 (front ++ block)
+pub block_not_read : (front block : List ℕ) → length block ≡ 19 → digits_of 64 block ≡ None
+    → None ≡ digits_of 128 (front ++ block)
 block_not_read front block long h = by_test (list_all is_ascii_digit block)
     (λ all. absurd (omega (arith, why_not 64 block (omega arith) h all, block_end block all long)))
     (λ other. not_read 128 (front ++ block) (other_block front block other))
 
-module _ (front block : List ℕ) (x y : ℕ) (long : length block ≡ 19) (front_is : digits_of 128 front ≡ Some x) (block_is : digits_of 64 block ≡ Some y) where
+module _ (front block : List ℕ) (x y : ℕ) (long : length block ≡ 19) (front_is : digits_of 128 front ≡ Some x)
+    (block_is : digits_of 64 block ≡ Some y) where
   value_is : digits_value 10 (front ++ block) ≡ x * 10 ^ 19 + y
   value_is = value_of_both front block
       ∙ (λ i. value_of 128 x front front_is i * 10 ^ long i + value_of 64 y block block_is i)
@@ -106,7 +126,8 @@ module _ (front block : List ℕ) (x y : ℕ) (long : length block ≡ 19) (fron
       ∙ is_read 128 (front ++ block) (omega (arith, length-append front block)) all (omega (arith, value_is))
 
   -- what is made of the number and the block, where it fits
-  pub both_as_made : (r : Option ℕ) → IfSome r (λ n. n ≡ x * 10 ^ 19 + y) → IfSome r (λ n. n < 2 ^ 128) → IfNone r (2 ^ 128 ≤ x * 10 ^ 19 + y)
+  pub both_as_made : (r : Option ℕ) → IfSome r (λ n. n ≡ x * 10 ^ 19 + y) → IfSome r (λ n. n < 2 ^ 128)
+      → IfNone r (2 ^ 128 ≤ x * 10 ^ 19 + y)
       → r ≡ digits_of 128 (front ++ block)
   both_as_made (Some n) is small large = both_read n is small
   both_as_made None is small large = both_too_large large
@@ -131,16 +152,19 @@ none_of_long text long = by_test (is_plain text) (λ plain. go text long plain) 
         let some : 0 < 0 * 10 + digit_value c = grind (arith, nat_tests) in
         let more : 39 ≤ length cs = omega arith in
         let wide : 10 ^ 39 ≤ 10 ^ length cs = pow-le-pow_right {n = 10} (omega arith) more in
-        large (digits_value 10 (c ∷ cs)) (is_plain (c ∷ cs)) (omega (arith, wide, first_weighs (0 * 10 + digit_value c) cs some))
+        large (digits_value 10 (c ∷ cs)) (is_plain (c ∷ cs))
+        (omega (arith, wide, first_weighs (0 * 10 + digit_value c) cs some))
 
 -- ---- one block alone
 
 pub short_as_wide : (text : List ℕ) → length text ≤ 19 → digits_of 64 text ≡ digits_of 128 text
 short_as_wide text short = by_test (list_all is_ascii_digit text)
-    (λ all. let small : digits_value 10 text < 10 ^ 19 = digits_value_short own text 19 all short in go (are_digits text) (digits_value 10 text) small)
+    (λ all. let small : digits_value 10 text < 10 ^ 19 = digits_value_short own text 19 all short in
+    go (are_digits text) (digits_value 10 text) small)
     (λ other. sym (not_read 64 text other) ∙ not_read 128 text other)
   where
-    go : (b : Bool) (n : ℕ) → n < 10 ^ 19 → (if b && nat_lt n (2 ^ 64) then Some n else None) ≡ (if b && nat_lt n (2 ^ 128) then Some n else None)
+    go : (b : Bool) (n : ℕ) → n < 10 ^ 19 → (if b && nat_lt n (2 ^ 64) then Some n else None)
+        ≡ (if b && nat_lt n (2 ^ 128) then Some n else None)
     go true n h =
         let one : nat_lt n (2 ^ 64) ≡ true = grind (arith, nat_tests) in
         let two : nat_lt n (2 ^ 128) ≡ true = grind (arith, nat_tests) in

@@ -1,6 +1,7 @@
 //! Reads and writes numbers as decimal text. For each number, `read_u64` and `read_u128` accept exactly one text: the
 //! text that `write_u64` and `write_u128` write for this number. Writing a number makes no temporary allocation.
-ghost use Rattle.std.specs.Prelude.{◌≡◌, ◌++◌, ◌+◌, ◌-◌, ◌*◌, ◌<◌, ◌≤◌, ◌^◌, ◌==◌, ◌&&◌, ℕ, length, nat_lt, slice_index, true, decimal, OnOk, OnErr, IfSome, IfNone};
+ghost use Rattle.std.specs.Prelude.{◌≡◌, ◌++◌, ◌+◌, ◌-◌, ◌*◌, ◌<◌, ◌≤◌, ◌^◌, ◌==◌, ◌&&◌, ℕ, length, nat_lt};
+ghost use Rattle.std.specs.Prelude.{slice_index, true, decimal, OnOk, OnErr, IfSome, IfNone};
 ghost use Rattle.std.specs.Char.{is_ascii_digit};
 ghost use Rattle.kds_base.specs.NumberText.{digits_of, number_of};
 

@@ -17,16 +17,19 @@ pub asked_so : (P : Task → Type 0) (asked : Option Task) (task : Task) → Som
 asked_so P asked task is p = subst (λ (o : Option Task). IfSome o P) is p
 
 -- words that don't ask for an end have no task that has it
-pub no_door : (asked : Option Task) (task : Task) → Some task ≡ asked → asks_for_door asked ≡ false → serves_door task ≡ false
+pub no_door : (asked : Option Task) (task : Task) → Some task ≡ asked → asks_for_door asked ≡ false
+    → serves_door task ≡ false
 no_door asked task is none = ap asks_for_door is ∙ none
 
-pub no_input : (asked : Option Task) (task : Task) → Some task ≡ asked → asks_for_input asked ≡ false → reads_input task ≡ false
+pub no_input : (asked : Option Task) (task : Task) → Some task ≡ asked → asks_for_input asked ≡ false
+    → reads_input task ≡ false
 no_input asked task is none = ap asks_for_input is ∙ none
 
 pub not_none : {A : Type 0} (x : A) (o : Option A) → Some x ≡ o → o ≡ None → ⊥
 not_none x o is none = cc
 
-sound_so : (status : Status) (input out : Around (Option (List ℕ))) → Replayed true status input out → status ≡ Done → IfSome input.before IsAuditedSound
+sound_so : (status : Status) (input out : Around (Option (List ℕ))) → Replayed true status input out → status ≡ Done
+    → IfSome input.before IsAuditedSound
 sound_so status input out r done = r.sound refl done
 
 -- a journal that was asked for and is whole
@@ -44,7 +47,8 @@ none_completed (Serve port passes) bytes = refl
 none_completed (Drill number workers records) bytes = inr refl
 
 -- the end of a task whose door doesn't listen is one of a task whose door may
-pub listens_or_not : (task : Task) (input out : Around (Option (List ℕ))) (moments : Option (List ℕ)) (listens : ℕ → Type 0)
+pub listens_or_not : (task : Task) (input out : Around (Option (List ℕ))) (moments : Option (List ℕ)) (listens : ℕ
+    → Type 0)
     → Performed task Memory (record { input = input; out = out; moments = moments; listens = λ port. ⊥ })
     → Performed task Memory (record { input = input; out = out; moments = moments; listens = listens })
 listens_or_not (Serve port passes) input out moments listens (inl p) = absurd p.1

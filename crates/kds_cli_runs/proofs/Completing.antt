@@ -8,7 +8,8 @@ use Rattle.kds_cli_runs.specs.Completed.{EndsBy, ReplaysAs, replay_status}
 use Rattle.kds_cli_runs.specs.Ends.{ReplayTells, ServeTells}
 
 module _ (bytes : List ℕ) (left held now : Option (List ℕ)) where
-  by_bytes : (journal : Bool) (status : Status) → (status ≡ Read → ⊥) → (status ≡ Write → ⊥) → ReplayTells journal status bytes left held now → ReplaysAs bytes status
+  by_bytes : (journal : Bool) (status : Status) → (status ≡ Read → ⊥) → (status ≡ Write → ⊥)
+      → ReplayTells journal status bytes left held now → ReplaysAs bytes status
   by_bytes false Done read write t = inl (sym (ap replay_status t.0))
   by_bytes false (BadLine n) read write t = inl (sym (ap replay_status t.0))
   by_bytes false TooLong read write t = inl (sym (ap replay_status t.0))
@@ -21,18 +22,23 @@ module _ (bytes : List ℕ) (left held now : Option (List ℕ)) where
   by_bytes false _ read write t = absurd t
   by_bytes true _ read write t = absurd t
 
-pub replays : (journal : Bool) (status : Status) (all left held now : Option (List ℕ)) → (status ≡ Read → ⊥) → (status ≡ Write → ⊥)
-    → IfSome all (λ bytes. ReplayTells journal status bytes left held now) → IfSome all (λ bytes. ReplaysAs bytes status)
+pub replays : (journal : Bool) (status : Status) (all left held now : Option (List ℕ)) → (status ≡ Read → ⊥)
+    → (status ≡ Write → ⊥)
+    → IfSome all (λ bytes. ReplayTells journal status bytes left held now)
+    → IfSome all (λ bytes. ReplaysAs bytes status)
 replays journal status None left held now read write t = tt
-replays journal status (Some bytes) left held now read write t = by_bytes bytes left held now journal status read write t
+replays journal status (Some bytes) left held now read write t =
+    by_bytes bytes left held now journal status read write t
 
-pub serves : (status : Status) (held now : Option (List ℕ)) (listens : Type 0) → (status ≡ Write → ⊥) → (status ≡ Door → ⊥) → ServeTells status held now listens → status ≡ Memory
+pub serves : (status : Status) (held now : Option (List ℕ)) (listens : Type 0) → (status ≡ Write → ⊥)
+    → (status ≡ Door → ⊥) → ServeTells status held now listens → status ≡ Memory
 serves Memory held now listens write door t = refl
 serves Write held now listens write door t = absurd (write refl)
 serves Door held now listens write door t = absurd (door refl)
 serves _ held now listens write door t = absurd t
 
-pub drills : (status : Status) (number records : ℕ) (held now : Option (List ℕ)) → (status ≡ Write → ⊥) → DrillTells status number records held now → EndsBy Done status
+pub drills : (status : Status) (number records : ℕ) (held now : Option (List ℕ)) → (status ≡ Write → ⊥)
+    → DrillTells status number records held now → EndsBy Done status
 drills Done number records held now write t = inl refl
 drills Memory number records held now write t = inr refl
 drills Write number records held now write t = absurd (write refl)

@@ -23,8 +23,10 @@ abbrev pub TextOn : Type 0
 TextOn = (xs ys : List EntryLine) → entries_text (xs ++ ys) ≡ entries_text xs ++ entries_text ys
 
 -- a turn more
-turn_more : LinesOn → TextOn → (h : List Turn) (turn : Turn) → entries_of (turn ∷ h) ≡ entries_of h ++ entries_text (added_entries h turn)
-turn_more lines_on text_on h turn = ap entries_text (lines_on h turn) ∙ text_on (history_entries h) (added_entries h turn)
+turn_more : LinesOn → TextOn → (h : List Turn) (turn : Turn)
+    → entries_of (turn ∷ h) ≡ entries_of h ++ entries_text (added_entries h turn)
+turn_more lines_on text_on h turn =
+    ap entries_text (lines_on h turn) ∙ text_on (history_entries h) (added_entries h turn)
 
 pub turn_grows : LinesOn → TextOn → (h : List Turn) (turn : Turn) → GoesOn (entries_of h) (entries_of (turn ∷ h))
 turn_grows lines_on text_on h turn = (entries_text (added_entries h turn), turn_more lines_on text_on h turn)
@@ -36,13 +38,15 @@ turns_grow lines_on text_on (turn ∷ more) h =
     let then = turn_grows lines_on text_on (more ++ h) turn in
     (first.0 ++ then.0, then.1 ∙ ap (λ z. z ++ then.0) first.1 ∙ append_assoc (entries_of h) first.0 then.0)
 
-line_grows : LinesOn → TextOn → FewTurns → (ran : Ran) (l : Line) → GoesOn (entries_of ran.history) (entries_of (with_line ran l).history)
+line_grows : LinesOn → TextOn → FewTurns → (ran : Ran) (l : Line)
+    → GoesOn (entries_of ran.history) (entries_of (with_line ran l).history)
 line_grows lines_on text_on few ran l =
     let g = few ran l in
     let t = turns_grow lines_on text_on g.more ran.history in
     (t.0, ap entries_of g.grows ∙ t.1)
 
-schedule_grows : LinesOn → TextOn → FewTurns → (ran : Ran) (ks : List Line) → GoesOn (entries_of ran.history) (entries_of (with_schedule ran ks).history)
+schedule_grows : LinesOn → TextOn → FewTurns → (ran : Ran) (ks : List Line)
+    → GoesOn (entries_of ran.history) (entries_of (with_schedule ran ks).history)
 schedule_grows lines_on text_on few ran [] = ([], sym (append-nil (entries_of ran.history)))
 schedule_grows lines_on text_on few ran (k ∷ ks) =
     let a = line_grows lines_on text_on few ran k in
@@ -50,7 +54,8 @@ schedule_grows lines_on text_on few ran (k ∷ ks) =
     (a.0 ++ b.0, b.1 ∙ ap (λ z. z ++ b.0) a.1 ∙ append_assoc (entries_of ran.history) a.0 b.0)
 
 -- the journal of more lines goes on
-pub all_grow : LinesOn → TextOn → FewTurns → StatesOn → (ls ks : List Line) → GoesOn (lines_journal ls) (lines_journal (ls ++ ks))
+pub all_grow : LinesOn → TextOn → FewTurns → StatesOn → (ls ks : List Line)
+    → GoesOn (lines_journal ls) (lines_journal (ls ++ ks))
 all_grow lines_on text_on few states ls ks =
     let g = schedule_grows lines_on text_on few (with_schedule fresh ls) ks in
     (g.0, ap (λ (r : Ran). entries_of r.history) (states fresh ls ks) ∙ g.1)

@@ -23,7 +23,8 @@ use Rattle.kds_cli_runs.proofs.Journaling.{nothing_recorded, nothing_written}
 still : SimValue
 still = record { history = []; told = []; workers = []; over = false }
 
-none_ran : (output : List Line → List ℕ) (bytes : List ℕ) (held : Option (List ℕ)) → RanBy output Memory bytes held held still
+none_ran : (output : List Line → List ℕ) (bytes : List ℕ) (held : Option (List ℕ))
+    → RanBy output Memory bytes held held still
 unfolding still
 none_ran output bytes held = record {
   lines = [];
@@ -59,7 +60,8 @@ unserved all left moments held = record {
   };
 }
 
-told_none : (journal : Bool) (bytes : List ℕ) (left held : Option (List ℕ)) → ReplayTells journal Memory bytes left held held
+told_none : (journal : Bool) (bytes : List ℕ) (left held : Option (List ℕ))
+    → ReplayTells journal Memory bytes left held held
 told_none false bytes left held = nothing_written held _
 told_none true bytes left held = nothing_recorded (history bytes) held
 
@@ -74,20 +76,32 @@ not_unsound : Memory ≡ Unsound → ⊥
 not_unsound e = cc
 
 unaudited : (all held : Option (List ℕ)) → Audited Memory all (around held held)
-unaudited all held = record { kind = tt; told = audit_none all held; safe = λ e. absurd (not_done e); legal = λ e. absurd (not_unsound e) }
+unaudited all held = record {
+  kind = tt;
+  told = audit_none all held;
+  safe = λ e. absurd (not_done e);
+  legal = λ e. absurd (not_unsound e);
+}
 
 module _ (laws : Laws) where
-  unreplayed : (journal : Bool) (all left held : Option (List ℕ)) → Replayed journal Memory (around all left) (around held held)
+  unreplayed : (journal : Bool) (all left held : Option (List ℕ))
+      → Replayed journal Memory (around all left) (around held held)
   unreplayed journal None left held = record { kind = tt; told = tt; ran = tt; sound = λ j e. tt }
   unreplayed journal (Some bytes) left held = record {
     kind = tt;
     told = told_none journal bytes left held;
-    ran = run_safely (shown journal Memory) Memory bytes held held still laws (none_ran (shown journal Memory) bytes held);
+    ran = run_safely (shown journal Memory) Memory bytes held held still laws
+        (none_ran (shown journal Memory) bytes held);
     sound = λ j e. absurd (not_done e);
   }
 
   pub wanting : (task : Task) (bytes left moments held : Option (List ℕ)) (listens : ℕ → Type 0)
-      → Performed task Memory (record { input = around bytes left; out = around held held; moments = moments; listens = listens })
+      → Performed task Memory (record {
+        input = around bytes left;
+        out = around held held;
+        moments = moments;
+        listens = listens;
+      })
   wanting (Replay journal) bytes left moments held listens = unreplayed journal bytes left held
   wanting Answer bytes left moments held listens = unserved bytes left moments held
   wanting Audit bytes left moments held listens = unaudited bytes held

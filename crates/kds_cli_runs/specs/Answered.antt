@@ -32,16 +32,18 @@ Remains Memory later back = Unit {0}
 Remains Read later back = back ≡ []
 Remains s later back = (later ≡ []) × (back ≡ [])
 
--- These lines were run, before those that are left: their turns ran, and the workers are theirs. Where memory ran out, the
--- first turns of the next line may have run too.
+-- These lines were run, before those that are left: their turns ran, and the workers are theirs. Where memory ran out,
+-- the first turns of the next line may have run too.
 abbrev pub HasMade : Status → List Line → List Line → SimValue → Type 0
 HasMade Memory lines later s =
-    RunsSo s (with_schedule fresh lines) ⊎ ((line : Line) × (rest : List Line) × (later ≡ line ∷ rest) × HasRunPart s (with_schedule fresh lines) line)
+    RunsSo s (with_schedule fresh lines)
+    ⊎ ((line : Line) × (rest : List Line) × (later ≡ line ∷ rest) × HasRunPart s (with_schedule fresh lines) line)
 HasMade _ lines later s = RunsSo s (with_schedule fresh lines)
 
 -- The first lines of the schedule were run, before the first that decides, and a front of what is written for them was
 -- written.
-pub record RanBy (output : List Line → List ℕ) (status : Status) (bytes : List ℕ) (before after : Option (List ℕ)) (s : SimValue) : Type 0 where
+pub record RanBy (output : List Line → List ℕ) (status : Status) (bytes : List ℕ) (before after : Option (List ℕ))
+    (s : SimValue) : Type 0 where
   pub lines : List Line
   pub later : List Line
   pub parts : (judged bytes).lines ≡ lines ++ later
@@ -56,18 +58,20 @@ pub record RanBy (output : List Line → List ℕ) (status : Status) (bytes : Li
 abbrev pub RanSo : Status → List ℕ → Option (List ℕ) → Option (List ℕ) → SimValue → Type 0
 RanSo status bytes before after s = RanBy (outputs fresh) status bytes before after s
 
--- What was given in a tenure whose hand-off freed its row is marked after these first lines of the schedule, as long as the
--- row is there, and isn't read in a tenure of the key that begins then.
+-- What was given in a tenure whose hand-off freed its row is marked after these first lines of the schedule, as long as
+-- the row is there, and isn't read in a tenure of the key that begins then.
 abbrev pub IsHandedOn : List ℕ → List Line → Type 0
-IsHandedOn bytes lines = AreHandedOff (with_schedule fresh lines) × AreNeverReadAgain (history bytes) (with_schedule fresh lines)
+IsHandedOn bytes lines = AreHandedOff (with_schedule fresh lines)
+    × AreNeverReadAgain (history bytes) (with_schedule fresh lines)
 
 -- so it is after each of its lines
 abbrev pub AreHandedOn : List ℕ → Type 0
 AreHandedOn bytes = (lines later : List Line) → (judged bytes).lines ≡ lines ++ later → IsHandedOn bytes lines
 
--- and the state of these turns is safe, at their clock, the processors of these workers were called for what is given, and
--- what they handed off isn't read again
-pub record RanSafely (output : List Line → List ℕ) (status : Status) (bytes : List ℕ) (before after : Option (List ℕ)) : Type 0 where
+-- and the state of these turns is safe, at their clock, the processors of these workers were called for what is given,
+-- and what they handed off isn't read again
+pub record RanSafely (output : List Line → List ℕ) (status : Status) (bytes : List ℕ) (before after : Option (List ℕ)) :
+    Type 0 where
   pub sim : SimValue
   pub so : RanBy output status bytes before after sim
   pub safe : IsSafe (journal sim.history) (clock sim.history)

@@ -23,8 +23,8 @@ EndsBy decided status = (status ≡ decided) ⊎ (status ≡ Memory)
 abbrev pub ReplaysAs : List ℕ → Status → Type 0
 ReplaysAs bytes status = EndsBy (replay_status (ending bytes)) status
 
--- How a task ends: as the bytes of its input decide, where the source tells them, a drill with Done; or by want of memory, by
--- which alone a door whose faults don't rise stops being served.
+-- How a task ends: as the bytes of its input decide, where the source tells them, a drill with Done; or by want of
+-- memory, by which alone a door whose faults don't rise stops being served.
 abbrev pub Completed : Task → Status → Option (List ℕ) → Type 0
 Completed (Replay journal) status bytes = IfSome bytes (λ bs. ReplaysAs bs status)
 Completed Answer status bytes = IfSome bytes (λ bs. EndsAs bs status)

@@ -31,8 +31,8 @@ abbrev pub ReplayTells : Bool → Status → List ℕ → Option (List ℕ) → 
 ReplayTells false status bytes left held now = Tells status bytes left held now
 ReplayTells true status bytes left held now = JournalTells status bytes left held now
 
--- A replay ended so: its output is told by the bytes, the turns that ran are those of the lines that were answered, and with
--- Memory perhaps the first turns of one more, and an audit finds a journal sound that was written to its end.
+-- A replay ended so: its output is told by the bytes, the turns that ran are those of the lines that were answered, and
+-- with Memory perhaps the first turns of one more, and an audit finds a journal sound that was written to its end.
 pub record Replayed (journal : Bool) (status : Status) (input out : Around (Option (List ℕ))) : Type 0 where
   pub kind : IsReplayStatus status
   pub told : IfSome input.before (λ bs. ReplayTells journal status bs input.after out.before out.after)
@@ -41,8 +41,8 @@ pub record Replayed (journal : Bool) (status : Status) (input out : Around (Opti
 
 -- ---- an audit
 
--- An audit ended so: what it wrote is told by the bytes; a sound text is that of a legal journal, whose state is safe, and
--- an unsound one that of no legal journal.
+-- An audit ended so: what it wrote is told by the bytes; a sound text is that of a legal journal, whose state is safe,
+-- and an unsound one that of no legal journal.
 pub record Audited (status : Status) (bytes : Option (List ℕ)) (out : Around (Option (List ℕ))) : Type 0 where
   pub kind : IsAuditStatus status
   pub told : IfSome bytes (λ bs. TellsAudit status bs out.before out.after)
@@ -61,8 +61,8 @@ pub record Answers (status : Status) (input out : Around (Option (List ℕ))) (m
 abbrev pub SaysThatItListens : Option (List ℕ) → Option (List ℕ) → Type 0 → Type 0
 SaysThatItListens held now listens = (Appends held now listening × listens) ⊎ Appends held now []
 
--- What serving a door writes, where `listens` says that it listens at the port: that it does, or nothing, or a part of it where
--- the sink failed.
+-- What serving a door writes, where `listens` says that it listens at the port: that it does, or nothing, or a part of
+-- it where the sink failed.
 abbrev pub ServeTells : Status → Option (List ℕ) → Option (List ℕ) → Type 0 → Type 0
 ServeTells Door held now listens = SaysThatItListens held now listens
 ServeTells Memory held now listens = SaysThatItListens held now listens
@@ -71,8 +71,9 @@ ServeTells _ held now listens = ⊥
 
 -- ---- all of them
 
--- The ends of a task: the bytes that are left of the input and those that the output has, before the run and after it; the moments
--- that the clock tells; and whether the door then listens at a port. An end that doesn't report its bytes or moments has None.
+-- The ends of a task: the bytes that are left of the input and those that the output has, before the run and after it;
+-- the moments that the clock tells; and whether the door then listens at a port. An end that doesn't report its bytes
+-- or moments has None.
 pub record TaskEnds : Type 1 where
   pub input : Around (Option (List ℕ))
   pub out : Around (Option (List ℕ))

@@ -14,8 +14,8 @@ entries_of h = entries_text (history_entries h)
 abbrev pub lines_journal : List Line → List ℕ
 lines_journal lines = entries_of (with_schedule fresh lines).history
 
--- the scribe noted the turns of the history, and this is the text of the entries that they added to those of an earlier history,
--- unless memory for it ran out
+-- the scribe noted the turns of the history, and this is the text of the entries that they added to those of an earlier
+-- history, unless memory for it ran out
 abbrev pub IsNoted : ScribeValue → Option (List ℕ) → List Turn → List Turn → Type 0
 IsNoted scribe None since h = Unit {0}
 IsNoted scribe (Some text) since h = StandsFor scribe h × (entries_of h ≡ entries_of since ++ text)

@@ -26,8 +26,8 @@ first_line = heading ++ 10 ∷ []
 abbrev pub last_line : ℕ → List ℕ
 last_line clock = end_spelling clock ++ 10 ∷ []
 
--- what is written for lines that were run, where the end is this: the last line where the schedule was read to its end, or
--- where a front of all is
+-- what is written for lines that were run, where the end is this: the last line where the schedule was read to its end,
+-- or where a front of all is
 abbrev pub recorded : Status → List Line → List ℕ
 recorded Done lines = journal_text (with_schedule fresh lines).history
 recorded Write lines = journal_text (with_schedule fresh lines).history
@@ -35,12 +35,13 @@ recorded Memory lines = journal_text (with_schedule fresh lines).history
 recorded _ lines = first_line ++ lines_journal lines
 
 -- Of the bytes of a schedule, those that are left, and what the sink held and holds. With Done the bytes are whole, and
--- their journal was written to its end. With BadLine and TooLong the bytes end so, and the journal of the lines before was
--- written without its last line; with Read that of the whole lines that were read. With Write and Memory a front of the
--- journal was, and not all of it: the last line is there exactly with Done.
+-- their journal was written to its end. With BadLine and TooLong the bytes end so, and the journal of the lines before
+-- was written without its last line; with Read that of the whole lines that were read. With Write and Memory a front of
+-- the journal was, and not all of it: the last line is there exactly with Done.
 abbrev pub JournalTells : Status → List ℕ → Option (List ℕ) → Option (List ℕ) → Option (List ℕ) → Type 0
 JournalTells Done bytes left held now = (ending bytes ≡ whole) × Appends held now (journal_text (history bytes))
-JournalTells (BadLine n) bytes left held now = (ending bytes ≡ bad_line n) × Appends held now (first_line ++ entries bytes)
+JournalTells (BadLine n) bytes left held now =
+    (ending bytes ≡ bad_line n) × Appends held now (first_line ++ entries bytes)
 JournalTells TooLong bytes left held now = (ending bytes ≡ too_long) × Appends held now (first_line ++ entries bytes)
 JournalTells Read bytes left held now = (fed : List ℕ) × (rest : List ℕ) × (bytes ≡ fed ++ rest) × (left ≡ Some rest)
     × Appends held now (first_line ++ entries fed)
@@ -48,12 +49,15 @@ JournalTells Write bytes left held now = AppendsPart held now (journal_text (his
 JournalTells Memory bytes left held now = AppendsPart held now (journal_text (history bytes))
 JournalTells _ bytes left held now = ⊥
 
--- an audit finds the journal of a schedule's turns sound, with all of its entries, unless a line or the whole is too long
+-- an audit finds the journal of a schedule's turns sound, with all of its entries, unless a line or the whole is too
+-- long
 abbrev pub IsAuditedSound : List ℕ → Type 0
 IsAuditedSound bytes =
-    audit_of (journal_text (history bytes)) ≢ over → audit_of (journal_text (history bytes)) ≡ sound (counted 0 (history_entries (history bytes)))
+    audit_of (journal_text (history bytes)) ≢ over
+    → audit_of (journal_text (history bytes)) ≡ sound (counted 0 (history_entries (history bytes)))
 
--- the last line of a journal with this clock was written; or a part of it where the sink failed, and nothing for want of memory
+-- the last line of a journal with this clock was written; or a part of it where the sink failed, and nothing for want
+-- of memory
 abbrev pub EndTells : Status → ℕ → Option (List ℕ) → Option (List ℕ) → Type 0
 EndTells Done clock held now = Appends held now (last_line clock)
 EndTells Write clock held now = AppendsPart held now (last_line clock)

@@ -7,14 +7,15 @@ use Rattle.kds_ends.specs.declared.status.Status.TheVariants.{Done, BadLine, Rea
 use Rattle.kds_ends.specs.Causes.{AppendsFront}
 use Rattle.kcl_sim.specs.Schedule.{whole, too_long, bad_line, ending, text}
 
--- Of the bytes of a schedule, those that are left, and what the sink held and holds, where this is what is written for a
--- schedule's lines. With Done, BadLine and TooLong the bytes end so, and what is for the lines before was written. With
--- Read what is for the whole lines that were read was. With Write and Memory a front of it was.
+-- Of the bytes of a schedule, those that are left, and what the sink held and holds, where this is what is written for
+-- a schedule's lines. With Done, BadLine and TooLong the bytes end so, and what is for the lines before was written.
+-- With Read what is for the whole lines that were read was. With Write and Memory a front of it was.
 abbrev pub TellsBy : (List ℕ → List ℕ) → Status → List ℕ → Option (List ℕ) → Option (List ℕ) → Option (List ℕ) → Type 0
 TellsBy shown Done bytes left held now = (ending bytes ≡ whole) × Appends held now (shown bytes)
 TellsBy shown (BadLine n) bytes left held now = (ending bytes ≡ bad_line n) × Appends held now (shown bytes)
 TellsBy shown TooLong bytes left held now = (ending bytes ≡ too_long) × Appends held now (shown bytes)
-TellsBy shown Read bytes left held now = (fed : List ℕ) × (rest : List ℕ) × (bytes ≡ fed ++ rest) × (left ≡ Some rest) × Appends held now (shown fed)
+TellsBy shown Read bytes left held now = (fed : List ℕ) × (rest : List ℕ) × (bytes ≡ fed ++ rest) × (left ≡ Some rest)
+    × Appends held now (shown fed)
 TellsBy shown Write bytes left held now = AppendsFront held now (shown bytes)
 TellsBy shown Memory bytes left held now = AppendsFront held now (shown bytes)
 TellsBy shown _ bytes left held now = ⊥

@@ -1,13 +1,15 @@
 -- The text of each end on the error output, and of a door that listens.
 use Rattle.std.specs.Prelude.{ℕ, List, [], ◌∷◌, ◌++◌, codes, decimal}
 use Rattle.kds_ends.specs.declared.status.Status.{Status}
-use Rattle.kds_ends.specs.declared.status.Status.TheVariants.{Done, Unsound, Usage, BadLine, Read, Write, Memory, Cut, Door, TooLong, Refused}
+use Rattle.kds_ends.specs.declared.status.Status.TheVariants.{Done, Unsound, Usage, BadLine, Read, Write, Memory, Cut}
+use Rattle.kds_ends.specs.declared.status.Status.TheVariants.{Door, TooLong, Refused}
 
 -- the text of each end, with its line feed; none where all went well or the answer says it
 abbrev pub error_text : Status → List ℕ
 error_text Done = []
 error_text Unsound = []
-error_text Usage = codes "usage: kds replay [--journal] | answer | audit | serve PORT MEMBERS | drill NUMBER WORKERS RECORDS" ++ 10 ∷ []
+error_text Usage = codes
+    "usage: kds replay [--journal] | answer | audit | serve PORT MEMBERS | drill NUMBER WORKERS RECORDS" ++ 10 ∷ []
 error_text (BadLine n) = codes "line " ++ (decimal n ++ (codes ": not a schedule line" ++ 10 ∷ []))
 error_text Read = codes "read fault" ++ 10 ∷ []
 error_text Write = codes "write fault" ++ 10 ∷ []

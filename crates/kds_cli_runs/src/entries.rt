@@ -66,7 +66,8 @@ fn note_turn(
 ) -> Option<Octets>
     requires lawful { IsLawful turn.now }
     requires answered { (h : List Turn) × (StandsFor scribe.old h × (answer.now ≡ answer_after h turn.now)) }
-    ensures { (since h : List Turn) → StandsFor scribe.old h → entries_of h ≡ entries_of since ++ text → answer.now ≡ answer_after h turn.now
+    ensures { (since h : List Turn) → StandsFor scribe.old h → entries_of h ≡ entries_of since ++ text
+        → answer.now ≡ answer_after h turn.now
         → IsNoted scribe.new result since (turn.now ∷ h) }
 {
     turn_by_turn();
@@ -89,7 +90,8 @@ fn note(
     answer: &Answer,
 ) -> Option<Octets>
     requires lawful { IsLawful turn.now }
-    requires answered { (since : List Turn) × ((h : List Turn) × (IsNoted scribe.old text since h × (answer.now ≡ answer_after h turn.now))) }
+    requires answered { (since : List Turn)
+        × ((h : List Turn) × (IsNoted scribe.old text since h × (answer.now ≡ answer_after h turn.now))) }
     ensures { (since h : List Turn) → IsNoted scribe.old text since h → answer.now ≡ answer_after h turn.now
         → IsNoted scribe.new result since (turn.now ∷ h) }
 {

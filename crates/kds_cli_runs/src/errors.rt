@@ -43,7 +43,8 @@ fn write_text<E: Sink>(err: &mut E, status: Status) -> Result<(), Failed>
 /// Writes the message for the status of a run to the error output. The statuses Done and Unsound have no message. If
 /// writing the message fails, the failure is ignored.
 pub fn tell<E: Sink>(err: &mut E, status: Status)
-    ensures { Appends (E.held err.old) (E.held err.new) (error_text status) ⊎ Rose (E.faults err.old) (E.faults err.new) }
+    ensures { Appends (E.held err.old) (E.held err.new) (error_text status)
+        ⊎ Rose (E.faults err.old) (E.faults err.new) }
 {
     let _ = write_text(err, status);
 }

@@ -11,7 +11,8 @@ ghost use Rattle.kcl_sim.specs.Standing.{RunsSo};
 ghost use Rattle.kcl_audit_sound.specs.Bits.{HaveBits};
 ghost use Rattle.kds_cli_runs.specs.Answered.{RanBy};
 ghost use Rattle.kds_cli_runs.specs.Entries.{lines_journal};
-ghost use Rattle.kds_cli_runs.specs.Journal.{EndTells, IsAuditedSound, JournalTells, entries, first_line, is_done, last_line, recorded};
+ghost use Rattle.kds_cli_runs.specs.Journal.{EndTells, IsAuditedSound, JournalTells, entries, first_line, is_done};
+ghost use Rattle.kds_cli_runs.specs.Journal.{last_line, recorded};
 ghost use Rattle.kds_cli_runs.specs.Told.{IsReplayStatus, TellsBy};
 
 use crate::entries::Journal;
@@ -63,7 +64,8 @@ fn write_entries<M: Machine, S: Source, K: Sink>(
     requires { RunsSo sim.old fresh }
     ensures told { IfSome (S.left input.old) (λ bytes.
         TellsBy entries result bytes (S.left input.new) (K.held out.old) (K.held out.new)) }
-    ensures ran { IfSome (S.left input.old) (λ bytes. RanBy lines_journal result bytes (K.held out.old) (K.held out.new) sim.new) }
+    ensures ran { IfSome (S.left input.old)
+        (λ bytes. RanBy lines_journal result bytes (K.held out.old) (K.held out.new) sim.new) }
     ensures read { result ≡ Status.Read → Rose (S.faults input.old) (S.faults input.new) }
     ensures write { result ≡ Status.Write → Rose (K.faults out.old) (K.faults out.new) }
     ensures later { K.faults out.old ≤ K.faults out.new }
@@ -92,9 +94,11 @@ fn write_rest<M: Machine, S: Source, K: Sink>(
     out: &mut K,
 ) -> Status
     requires { RunsSo sim.old fresh }
-    ensures told { (start : Option (List ℕ)) → Appends start (K.held out.old) first_line → IfSome (S.left input.old) (λ bytes.
+    ensures told { (start : Option (List ℕ)) → Appends start (K.held out.old) first_line
+        → IfSome (S.left input.old) (λ bytes.
         JournalTells result bytes (S.left input.new) start (K.held out.new)) }
-    ensures ran { (start : Option (List ℕ)) → Appends start (K.held out.old) first_line → IfSome (S.left input.old) (λ bytes.
+    ensures ran { (start : Option (List ℕ)) → Appends start (K.held out.old) first_line
+        → IfSome (S.left input.old) (λ bytes.
         RanBy (recorded result) result bytes start (K.held out.new) sim.new) }
     ensures bits { result ≡ Status.Done → IfSome (S.left input.old) (λ bytes. HaveBits (history bytes)) }
     ensures read { result ≡ Status.Read → Rose (S.faults input.old) (S.faults input.new) }

@@ -49,10 +49,12 @@ where
     ensures refused { task_of (texts_of words.now.items) ≡ None → (result ≡ Status.Usage) ⊎ (result ≡ Status.Memory) }
     ensures untouched { task_of (texts_of words.now.items) ≡ None → (input.new ≡ input.old) × (out.new ≡ out.old) }
     ensures performed { IfSome (task_of (texts_of words.now.items)) (λ task. Performed task result (task_ends
-        (around (S.left input.old) (S.left input.new)) (around (K.held out.old) (K.held out.new)) (C.moments clock) (D.listens door.new))) }
+        (around (S.left input.old) (S.left input.new)) (around (K.held out.old) (K.held out.new)) (C.moments clock)
+        (D.listens door.new))) }
     ensures door_left { asks_for_door (task_of (texts_of words.now.items)) ≡ false → door.new ≡ door.old }
     ensures input_left { asks_for_input (task_of (texts_of words.now.items)) ≡ false → input.new ≡ input.old }
-    ensures complete { (Rose (S.faults input.old) (S.faults input.new) → ⊥) → (Rose (K.faults out.old) (K.faults out.new) → ⊥)
+    ensures complete { (Rose (S.faults input.old) (S.faults input.new) → ⊥)
+        → (Rose (K.faults out.old) (K.faults out.new) → ⊥)
         → (Rose (D.faults door.old) (D.faults door.new) → ⊥)
         → IfSome (task_of (texts_of words.now.items)) (λ task. Completed task result (S.left input.old)) }
     ensures read { result ≡ Status.Read → Rose (S.faults input.old) (S.faults input.new) }
@@ -112,16 +114,20 @@ where
     ensures door_left { asks_for_door (task_of (texts_of words.now.items)) ≡ false → door.new ≡ door.old }
     ensures input_left { asks_for_input (task_of (texts_of words.now.items)) ≡ false → input.new ≡ input.old }
     ensures ended { EndsSo result words.now.items (task_ends
-        (around (S.left input.old) (S.left input.new)) (around (K.held out.old) (K.held out.new)) (C.moments clock) (D.listens door.new))
+        (around (S.left input.old) (S.left input.new)) (around (K.held out.old) (K.held out.new)) (C.moments clock)
+        (D.listens door.new))
         (around (E.held err.old) (E.held err.new)) (around (E.faults err.old) (E.faults err.new)) }
-    ensures complete { (Rose (S.faults input.old) (S.faults input.new) → ⊥) → (Rose (K.faults out.old) (K.faults out.new) → ⊥)
+    ensures complete { (Rose (S.faults input.old) (S.faults input.new) → ⊥)
+        → (Rose (K.faults out.old) (K.faults out.new) → ⊥)
         → (Rose (D.faults door.old) (D.faults door.new) → ⊥) → CompletesSo result words.now.items (S.left input.old) }
     ensures safe { (journal : Bool) → task_of (texts_of words.now.items) ≡ Some (Replay journal)
         → IfSome (S.left input.old) (λ bytes. IsSafe (journal_of (history bytes)) (clock_of (history bytes))) }
     ensures served { (journal : Bool) → task_of (texts_of words.now.items) ≡ Some (Replay journal)
         → IfSome (S.left input.old) (λ bytes. AreAllServed (ran bytes)) }
-    ensures handed { (journal : Bool) → task_of (texts_of words.now.items) ≡ Some (Replay journal) → IfSome (S.left input.old) AreHandedOn }
-    ensures sound { result ≡ 0 → task_of (texts_of words.now.items) ≡ Some (Replay true) → IfSome (S.left input.old) IsAuditedSound }
+    ensures handed { (journal : Bool) → task_of (texts_of words.now.items) ≡ Some (Replay journal)
+        → IfSome (S.left input.old) AreHandedOn }
+    ensures sound { result ≡ 0 → task_of (texts_of words.now.items) ≡ Some (Replay true)
+        → IfSome (S.left input.old) IsAuditedSound }
     ensures read { result ≡ 4 → Rose (S.faults input.old) (S.faults input.new) }
     ensures write { result ≡ 5 → Rose (K.faults out.old) (K.faults out.new) }
     ensures door { result ≡ 8 → Rose (D.faults door.old) (D.faults door.new) }

@@ -64,7 +64,8 @@ pub fn run_replay<S: Source, K: Sink>(
 
     // If the source and the sink don't fail and memory doesn't run out, the bytes of the input determine the status. If
     // all lines of the schedule are valid and within the limits, the status is Done, so the whole output is written.
-    ensures complete { (Rose (S.faults input.old) (S.faults input.new) → ⊥) → (Rose (K.faults out.old) (K.faults out.new) → ⊥)
+    ensures complete { (Rose (S.faults input.old) (S.faults input.new) → ⊥)
+        → (Rose (K.faults out.old) (K.faults out.new) → ⊥)
         → IfSome (S.left input.old) (λ bytes. ReplaysAs bytes result) }
     ensures read { result ≡ Status.Read → Rose (S.faults input.old) (S.faults input.new) }
     ensures write { result ≡ Status.Write → Rose (K.faults out.old) (K.faults out.new) }
@@ -92,11 +93,13 @@ pub fn run_answer<S: Source, K: Sink, C: Clock>(
 ) -> Status
     // Each command becomes a turn, at the time that the clock returns for the command. If the source's contract exposes
     // the bytes of the input, the commands, the responses and the status are as `Served` states for these bytes.
-    ensures served { Served [] (around (S.left input.old) (S.left input.new)) (around (C.moments clock.old) (C.moments clock.new))
+    ensures served { Served [] (around (S.left input.old) (S.left input.new))
+        (around (C.moments clock.old) (C.moments clock.new))
         (around (K.held out.old) (K.held out.new)) result }
 
     // If the source and the sink don't fail and memory doesn't run out, the bytes of the input determine the status.
-    ensures complete { (Rose (S.faults input.old) (S.faults input.new) → ⊥) → (Rose (K.faults out.old) (K.faults out.new) → ⊥)
+    ensures complete { (Rose (S.faults input.old) (S.faults input.new) → ⊥)
+        → (Rose (K.faults out.old) (K.faults out.new) → ⊥)
         → IfSome (S.left input.old) (λ bytes. EndsAs bytes result) }
     ensures read { result ≡ Status.Read → Rose (S.faults input.old) (S.faults input.new) }
     ensures write { result ≡ Status.Write → Rose (K.faults out.old) (K.faults out.new) }

@@ -50,7 +50,8 @@ pub fn run_schedule<M: Machine + Drop, S: Source, K: Sink>(
     // didn't run out, the lines that were run are those before the first line that is invalid or too long. If there is
     // no such line, all lines were run. If the status is Memory, the first turns of the next line may have been made
     // too. The machine represents (`stands_for`) the history of all turns that were made.
-    ensures ran { IfSome (S.left input.old) (λ bytes. RanSo result.status bytes (K.held out.old) (K.held out.new) result.sim) }
+    ensures ran { IfSome (S.left input.old)
+        (λ bytes. RanSo result.status bytes (K.held out.old) (K.held out.new) result.sim) }
     ensures read { result.status ≡ Status.Read → Rose (S.faults input.old) (S.faults input.new) }
     ensures write { result.status ≡ Status.Write → Rose (K.faults out.old) (K.faults out.new) }
     ensures kinds { IsReplayStatus result.status }

@@ -38,10 +38,12 @@ where
     D::Output: Send,
     requires { IsWithin task }
     ensures performed { Performed task result (task_ends
-        (around (S.left input.old) (S.left input.new)) (around (K.held out.old) (K.held out.new)) (C.moments clock) (D.listens door.new)) }
+        (around (S.left input.old) (S.left input.new)) (around (K.held out.old) (K.held out.new)) (C.moments clock)
+        (D.listens door.new)) }
     ensures door_left { serves_door task ≡ false → door.new ≡ door.old }
     ensures input_left { reads_input task ≡ false → input.new ≡ input.old }
-    ensures complete { (Rose (S.faults input.old) (S.faults input.new) → ⊥) → (Rose (K.faults out.old) (K.faults out.new) → ⊥)
+    ensures complete { (Rose (S.faults input.old) (S.faults input.new) → ⊥)
+        → (Rose (K.faults out.old) (K.faults out.new) → ⊥)
         → (Rose (D.faults door.old) (D.faults door.new) → ⊥) → Completed task result (S.left input.old) }
     ensures usage { result ≡ Status.Usage → ⊥ }
     ensures read { result ≡ Status.Read → Rose (S.faults input.old) (S.faults input.new) }

@@ -1,5 +1,6 @@
 -- What `clap` makes of the words is their task, exactly: the cases are the commands, and what their words are.
-use Rattle.std.proofs.Common.{◌≡◌, ◌≤◌, ◌⊎◌, inl, inr, Bool, true, false, List, [], ◌∷◌, length, Option, Some, None, codes, refl, sym, subst, ◌∙◌, arith}
+use Rattle.std.proofs.Common.{◌≡◌, ◌≤◌, ◌⊎◌, inl, inr, Bool, true, false, List, [], ◌∷◌, length, Option, Some, None}
+use Rattle.std.proofs.Common.{codes, refl, sym, subst, ◌∙◌, arith}
 use Rattle.std.specs.Prelude.{ℕ, map, option_and_then}
 use Rattle.std.specs.Str.{bytes_eq}
 use Rattle.std.proofs.lemmas.Bool.{false_from_ne_true, true≢false}
@@ -40,8 +41,10 @@ abbrev pub Differ : Text → Text → Type 0
 Differ a b = (bytes_eq a b ≡ false) × (bytes_eq b a ≡ false)
 
 pub differ : (a b : Text) → (a ≡ b → ⊥) → Differ a b
-differ a b other =
-    (false_from_ne_true _ (λ same. other ((bytes_eq-Decides a b).0 same)), false_from_ne_true _ (λ same. other (sym ((bytes_eq-Decides b a).0 same))))
+differ a b other = (
+  false_from_ne_true _ (λ same. other ((bytes_eq-Decides a b).0 same)),
+  false_from_ne_true _ (λ same. other (sym ((bytes_eq-Decides b a).0 same))),
+)
 
 -- the word names no command
 pub record IsOther (w : Text) : Type 0 where
@@ -95,15 +98,19 @@ replay_words (value a i ∷ b ∷ c ∷ []) few = rw (i.not_end, i.not_long, i.n
 replay_words (a ∷ b ∷ c ∷ d ∷ more) few = absurd (omega (arith, few))
 
 -- the two that have no words of their own
-bare_words : (more : List Seen) → length more ≤ 3 → Exact (codes "answer" ∷ map text more) × Exact (codes "audit" ∷ map text more)
+bare_words : (more : List Seen) → length more ≤ 3 → Exact (codes "answer" ∷ map text more)
+    × Exact (codes "audit" ∷ map text more)
 unfolding clap_on_literals
 bare_words [] few = (refl, refl)
 bare_words (flag ∷ []) few = (refl, refl)
 bare_words (flag ∷ b ∷ []) few = (refl, refl)
 bare_words (flag ∷ b ∷ c ∷ []) few = (refl, refl)
-bare_words (value a i ∷ []) few = (rw (i.not_end, i.not_long, i.not_short) refl, rw (i.not_end, i.not_long, i.not_short) refl)
-bare_words (value a i ∷ b ∷ []) few = (rw (i.not_end, i.not_long, i.not_short) refl, rw (i.not_end, i.not_long, i.not_short) refl)
-bare_words (value a i ∷ b ∷ c ∷ []) few = (rw (i.not_end, i.not_long, i.not_short) refl, rw (i.not_end, i.not_long, i.not_short) refl)
+bare_words (value a i ∷ []) few =
+    (rw (i.not_end, i.not_long, i.not_short) refl, rw (i.not_end, i.not_long, i.not_short) refl)
+bare_words (value a i ∷ b ∷ []) few =
+    (rw (i.not_end, i.not_long, i.not_short) refl, rw (i.not_end, i.not_long, i.not_short) refl)
+bare_words (value a i ∷ b ∷ c ∷ []) few =
+    (rw (i.not_end, i.not_long, i.not_short) refl, rw (i.not_end, i.not_long, i.not_short) refl)
 bare_words (a ∷ b ∷ c ∷ d ∷ more) few = absurd (omega (arith, few))
 
 serve_words : (more : List Seen) → length more ≤ 3 → Exact (codes "serve" ∷ map text more)
@@ -113,10 +120,13 @@ serve_words (flag ∷ []) few = refl
 serve_words (flag ∷ b ∷ []) few = refl
 serve_words (flag ∷ b ∷ c ∷ []) few = refl
 serve_words (value a i ∷ []) few = rw (i.not_end, i.not_long, i.not_short) refl
-serve_words (value a i ∷ flag ∷ []) few = rw (i.not_end, i.not_long, i.not_short) (serves_nothing a (codes "--journal") (inr (inl refl)))
+serve_words (value a i ∷ flag ∷ []) few =
+    rw (i.not_end, i.not_long, i.not_short) (serves_nothing a (codes "--journal") (inr (inl refl)))
 serve_words (value a i ∷ flag ∷ c ∷ []) few = rw (i.not_end, i.not_long, i.not_short) refl
-serve_words (value a i ∷ value b j ∷ []) few = rw (i.not_end, i.not_long, i.not_short, j.not_end, j.not_long, j.not_short) refl
-serve_words (value a i ∷ value b j ∷ flag ∷ []) few = rw (i.not_end, i.not_long, i.not_short, j.not_end, j.not_long, j.not_short) refl
+serve_words (value a i ∷ value b j ∷ []) few =
+    rw (i.not_end, i.not_long, i.not_short, j.not_end, j.not_long, j.not_short) refl
+serve_words (value a i ∷ value b j ∷ flag ∷ []) few =
+    rw (i.not_end, i.not_long, i.not_short, j.not_end, j.not_long, j.not_short) refl
 serve_words (value a i ∷ value b j ∷ value c k ∷ []) few =
     rw (i.not_end, i.not_long, i.not_short, j.not_end, j.not_long, j.not_short, k.not_end, k.not_long, k.not_short) refl
 serve_words (a ∷ b ∷ c ∷ d ∷ more) few = absurd (omega (arith, few))
@@ -129,10 +139,19 @@ drill_words (flag ∷ b ∷ []) few = refl
 drill_words (flag ∷ b ∷ c ∷ []) few = refl
 drill_words (value a i ∷ []) few = rw (i.not_end, i.not_long, i.not_short) refl
 drill_words (value a i ∷ flag ∷ []) few = rw (i.not_end, i.not_long, i.not_short) refl
-drill_words (value a i ∷ flag ∷ c ∷ []) few = rw (i.not_end, i.not_long, i.not_short) (drills_nothing a (codes "--journal") (text c) (inr (inl refl)))
-drill_words (value a i ∷ value b j ∷ []) few = rw (i.not_end, i.not_long, i.not_short, j.not_end, j.not_long, j.not_short) refl
+drill_words (value a i ∷ flag ∷ c ∷ []) few =
+    rw (i.not_end, i.not_long, i.not_short) (drills_nothing a (codes "--journal") (text c) (inr (inl refl)))
+drill_words (value a i ∷ value b j ∷ []) few =
+    rw (i.not_end, i.not_long, i.not_short, j.not_end, j.not_long, j.not_short) refl
 drill_words (value a i ∷ value b j ∷ flag ∷ []) few =
-    rw (i.not_end, i.not_long, i.not_short, j.not_end, j.not_long, j.not_short) (drills_nothing a b (codes "--journal") (inr (inr (inl refl))))
+    rw (
+      i.not_end,
+      i.not_long,
+      i.not_short,
+      j.not_end,
+      j.not_long,
+      j.not_short,
+    ) (drills_nothing a b (codes "--journal") (inr (inr (inl refl))))
 drill_words (value a i ∷ value b j ∷ value c k ∷ []) few =
     rw (i.not_end, i.not_long, i.not_short, j.not_end, j.not_long, j.not_short, k.not_end, k.not_long, k.not_short) refl
 drill_words (a ∷ b ∷ c ∷ d ∷ more) few = absurd (omega (arith, few))
@@ -157,7 +176,13 @@ unfolding clap_on_literals
 exact [] few = refl
 exact (flag ∷ more) few =
     nameless (codes "--journal") (map text more)
-    (record { replay = (refl, refl); answer = (refl, refl); audit = (refl, refl); serve = (refl, refl); drill = (refl, refl) })
+    (record {
+      replay = (refl, refl);
+      answer = (refl, refl);
+      audit = (refl, refl);
+      serve = (refl, refl);
+      drill = (refl, refl);
+    })
 exact (value w i ∷ more) few =
     let fewer : length more ≤ 3 = omega (arith, few) in
     let bare = bare_words more fewer in

@@ -1,5 +1,6 @@
 -- The task that is read of a parse.
-use Rattle.std.proofs.Common.{◌≡◌, ◌≤◌, ◌⊎◌, ⊎_elim, true, List, [], ◌∷◌, length, Option, Some, None, sym, ap, subst, ◌∙◌, refl, arith}
+use Rattle.std.proofs.Common.{◌≡◌, ◌≤◌, ◌⊎◌, ⊎_elim, true, List, [], ◌∷◌, length, Option, Some, None, sym, ap, subst}
+use Rattle.std.proofs.Common.{◌∙◌, refl, arith}
 use Rattle.std.specs.Prelude.{String, string_bytes}
 use Rattle.std.specs.declared.alloc.Global.{Global}
 use Rattle.std.specs.List.{list_all}
@@ -26,10 +27,12 @@ use Rattle.kds_cli_words.proofs.Seen.{seen}
 -- ---- the name and the values of a parse
 
 -- the same values give the same task
-same_values : (name : Text) (get look : Text → Option Text) → ((id : Text) → get id ≡ look id) → told_with name get ≡ told_with name look
+same_values : (name : Text) (get look : Text → Option Text) → ((id : Text) → get id ≡ look id)
+    → told_with name get ≡ told_with name look
 same_values name get look same = λ i. told_with name (λ id. same id i)
 
-met_by : (o : Option (Text × List Row)) (name : Text) (rows : List Row) → Some name ≡ option_map (λ p. p.0) o → Some rows ≡ option_map (λ p. p.1) o
+met_by : (o : Option (Text × List Row)) (name : Text) (rows : List Row) → Some name ≡ option_map (λ p. p.0) o
+    → Some rows ≡ option_map (λ p. p.1) o
     → told_with name (λ id. first_of id rows) ≡ told o
 met_by None name rows h g = absurd cc
 met_by (Some p) name rows h g =
@@ -37,42 +40,51 @@ met_by (Some p) name rows h g =
     let r : rows ≡ p.1 = cc (g) in
     λ i. told_with (n i) (λ id. first_of id (r i))
 
-twice : {A B C : Type 0} (f : A → B) (g : B → C) (o : Option A) → option_map (λ a. g (f a)) o ≡ option_map g (option_map f o)
+twice : {A B C : Type 0} (f : A → B) (g : B → C) (o : Option A)
+    → option_map (λ a. g (f a)) o ≡ option_map g (option_map f o)
 twice f g None = refl
 twice f g (Some a) = refl
 
 name_met : (m : ArgMatches) → subcommand_name_of m ≡ option_map (λ p. p.0) (subcommand_rows_of m)
 name_met m =
-    twice (λ b. ((out-SubCommand (box_value b)).name.now, rows_of (found_of (out-SubCommand (box_value b)).matches))) (λ p. p.0) (out-ArgMatches m).subcommand
+    twice (λ b. ((out-SubCommand (box_value b)).name.now, rows_of (found_of (out-SubCommand (box_value b)).matches)))
+    (λ p. p.0) (out-ArgMatches m).subcommand
 
 pub told_read : (m : ArgMatches) (name : Text) (f : Found) → Some name ≡ subcommand_name_of m
-    → Some (rows_of f) ≡ option_map (λ p. p.1) (subcommand_rows (out-ArgMatches m).subcommand) → told_with name (first_value f) ≡ told (subcommand_rows_of m)
+    → Some (rows_of f) ≡ option_map (λ p. p.1) (subcommand_rows (out-ArgMatches m).subcommand)
+    → told_with name (first_value f) ≡ told (subcommand_rows_of m)
 told_read m name f h g =
     same_values name (first_value f) (λ id. first_of id (rows_of f)) (first_value-rows f)
     ∙ met_by (subcommand_rows_of m) name (rows_of f) (h ∙ name_met m) g
 
 -- ---- words that `clap` may see
 
-exactly : (words : List (String Global)) → list_all (λ w. is_word (string_bytes w)) words ≡ true → length words ≤ 4 → Exact (texts_of words)
+exactly : (words : List (String Global)) → list_all (λ w. is_word (string_bytes w)) words ≡ true → length words ≤ 4
+    → Exact (texts_of words)
 exactly words are few =
     let s = seen words are in
     let n = s.1 in
     subst Exact s.2 (exact s.0 (omega (arith, few, n)))
 
 -- where no fault is found, the task is read
-pub read_words : (words : List (String Global)) → list_all (λ w. is_word (string_bytes w)) words ≡ true → length words ≤ 4
+pub read_words : (words : List (String Global)) → list_all (λ w. is_word (string_bytes w)) words ≡ true
+    → length words ≤ 4
     → fault_of kds_app (texts_of words) ≡ [] → told (subcommand_of kds_app (texts_of words)) ≡ task_of (texts_of words)
-read_words words are few fine = sym (ap (λ kinds. read kinds (told (subcommand_of kds_app (texts_of words)))) fine) ∙ exactly words are few
+read_words words are few fine = sym (ap (λ kinds. read kinds (told (subcommand_of kds_app (texts_of words)))) fine)
+    ∙ exactly words are few
 
 -- where an error has one of these kinds of fault, and isn't want of memory, they are no task
-pub refused : (words : List (String Global)) (kinds : Kinds) (k found : ErrorKind) → list_all (λ w. is_word (string_bytes w)) words ≡ true → length words ≤ 4
-    → kinds ≡ fault_of kds_app (texts_of words) → k ≡ found → (k ≡ kind.OutOfMemory → ⊥) → (found ≡ kind.OutOfMemory) ⊎ IsAmong found kinds
+pub refused : (words : List (String Global)) (kinds : Kinds) (k found : ErrorKind)
+    → list_all (λ w. is_word (string_bytes w)) words ≡ true → length words ≤ 4
+    → kinds ≡ fault_of kds_app (texts_of words) → k ≡ found → (k ≡ kind.OutOfMemory → ⊥) → (found ≡ kind.OutOfMemory)
+    ⊎ IsAmong found kinds
     → None ≡ task_of (texts_of words)
 refused words kinds k found are few same is other failed =
     by kinds (told (subcommand_of kds_app (texts_of words)))
     (ap (λ ks. read ks (told (subcommand_of kds_app (texts_of words)))) same ∙ exactly words are few) failed
   where
-    by : (ks : Kinds) (task : Option Task) → read ks task ≡ task_of (texts_of words) → (found ≡ kind.OutOfMemory) ⊎ IsAmong found ks
+    by : (ks : Kinds) (task : Option Task) → read ks task ≡ task_of (texts_of words) → (found ≡ kind.OutOfMemory)
+        ⊎ IsAmong found ks
         → None ≡ task_of (texts_of words)
     by [] task e failed = absurd (⊎_elim (λ memory. other (is ∙ memory)) (λ none. none) failed)
     by (x ∷ ks) task e failed = e

@@ -36,7 +36,8 @@ is_value (d ∷ w) other none = record {
   not_short = ap (λ b. option_and_then short_of_rest (if b then Some w else None)) none;
 }
 
-seen_word : (w : Text) (b d : Bool) → bytes_eq w (codes "--journal") ≡ b → has_hyphen w ≡ d → (b || not d) ≡ true → (s : Seen) × (text s ≡ w)
+seen_word : (w : Text) (b d : Bool) → bytes_eq w (codes "--journal") ≡ b → has_hyphen w ≡ d → (b || not d) ≡ true
+    → (s : Seen) × (text s ≡ w)
 seen_word w true d is has h = (flag, sym ((bytes_eq-Decides w (codes "--journal")).0 is))
 seen_word w false true is has h = absurd cc
 seen_word w false false is has h = (value w (is_value w is has), refl)
@@ -48,6 +49,7 @@ seen [] h = ([], refl, refl)
 seen (w ∷ words) h =
     let t = string_bytes w in
     let each = λ (w : String Global). is_word (string_bytes w) in
-    let one = seen_word t (bytes_eq t (codes "--journal")) (has_hyphen t) refl refl (both_left (is_word t) (list_all each words) h) in
+    let one = seen_word t (bytes_eq t (codes "--journal")) (has_hyphen t) refl refl
+    (both_left (is_word t) (list_all each words) h) in
     let more = seen words (both_right (is_word t) (list_all each words) h) in
     (one.0 ∷ more.0, ap suc more.1, ap₂ (λ (x : Text) (xs : List Text). x ∷ xs) one.1 more.2)

@@ -1,5 +1,6 @@
 -- Words that `clap` isn't given are no task: one that it may not see, or more of them than any command has.
-use Rattle.std.proofs.Common.{◌≡◌, ◌<◌, inl, inr, ⊎_elim, Bool, true, false, List, [], ◌∷◌, length, Option, Some, None, codes, refl, sym, ap, subst, ◌∙◌, arith}
+use Rattle.std.proofs.Common.{◌≡◌, ◌<◌, inl, inr, ⊎_elim, Bool, true, false, List, [], ◌∷◌, length, Option, Some, None}
+use Rattle.std.proofs.Common.{codes, refl, sym, ap, subst, ◌∙◌, arith}
 use Rattle.std.specs.Prelude.{◌==◌, ◌^◌, ◌&&◌, ◌||◌, not, nat_lt, String, string_bytes, if◌then◌else◌}
 use Rattle.std.specs.declared.alloc.Global.{Global}
 use Rattle.std.specs.Char.{is_ascii_digit}
@@ -24,7 +25,8 @@ no_name w name bad good = differ w name (λ same. apart (is_word w) (ap is_word 
 hyphen_first : (w : Text) → number_of 64 (45 ∷ w) ≡ None
 hyphen_first w =
     ap (λ b. if b && nat_lt (digits_value 10 (45 ∷ w)) (2 ^ 64) then Some (digits_value 10 (45 ∷ w)) else None)
-    (and_right (nat_lt 0 (length (45 ∷ w)) && (length (45 ∷ w) == 1 || not (45 == 48))) (list_all is_ascii_digit (45 ∷ w)) refl)
+    (and_right (nat_lt 0 (length (45 ∷ w)) && (length (45 ∷ w) == 1 || not (45 == 48)))
+    (list_all is_ascii_digit (45 ∷ w)) refl)
 
 no_number : (w : Text) → is_word w ≡ false → number_of 64 w ≡ None
 no_number [] bad = absurd cc
@@ -35,7 +37,8 @@ no_number (d ∷ w) bad =
 no_numbers : (words : List Text) → list_all is_word words ≡ false → HasNoNumber words
 no_numbers [] bad = absurd cc
 no_numbers (w ∷ words) bad =
-    ⊎_elim (λ this. inl (no_number w this)) (λ rest. inr (no_numbers words rest)) (and_cases (is_word w) (list_all is_word words) bad)
+    ⊎_elim (λ this. inl (no_number w this)) (λ rest. inr (no_numbers words rest))
+    (and_cases (is_word w) (list_all is_word words) bad)
 
 -- ---- words with such a one
 
@@ -50,9 +53,11 @@ no_flag false c none = refl
 after_first : (w : Text) (more : List Text) → list_all is_word more ≡ false → None ≡ task_of (w ∷ more)
 after_first w [] bad = absurd cc
 after_first w (a ∷ []) bad =
-    ⊎_elim (λ this. no_flag (bytes_eq w (codes "replay")) (bytes_eq a (codes "--journal")) (no_name a (codes "--journal") this refl).0)
+    ⊎_elim (λ this. no_flag (bytes_eq w (codes "replay")) (bytes_eq a (codes "--journal"))
+    (no_name a (codes "--journal") this refl).0)
     (λ (none : true ≡ false). absurd cc) (and_cases (is_word a) true bad)
-after_first w (a ∷ b ∷ []) bad = unless (bytes_eq w (codes "serve")) (serve_of a b) (serves_nothing a b (no_numbers (a ∷ b ∷ []) bad))
+after_first w (a ∷ b ∷ []) bad =
+    unless (bytes_eq w (codes "serve")) (serve_of a b) (serves_nothing a b (no_numbers (a ∷ b ∷ []) bad))
 after_first w (a ∷ b ∷ c ∷ []) bad =
     unless (bytes_eq w (codes "drill")) (drill_of a b c) (drills_nothing a b c (no_numbers (a ∷ b ∷ c ∷ []) bad))
 after_first w (a ∷ b ∷ c ∷ d ∷ more) bad = refl
@@ -69,11 +74,13 @@ no_task (w ∷ more) bad =
     }))
     (λ rest. after_first w more rest) (and_cases (is_word w) (list_all is_word more) bad)
 
-all_texts : (words : List (String Global)) → list_all (λ w. is_word (string_bytes w)) words ≡ list_all is_word (texts_of words)
+all_texts : (words : List (String Global)) → list_all (λ w. is_word (string_bytes w)) words
+    ≡ list_all is_word (texts_of words)
 all_texts [] = refl
 all_texts (w ∷ words) = ap (λ b. is_word (string_bytes w) && b) (all_texts words)
 
-pub unseen : (words : List (String Global)) → list_all (λ w. is_word (string_bytes w)) words ≡ false → None ≡ task_of (texts_of words)
+pub unseen : (words : List (String Global)) → list_all (λ w. is_word (string_bytes w)) words ≡ false
+    → None ≡ task_of (texts_of words)
 unseen words bad = no_task (texts_of words) (sym (all_texts words) ∙ bad)
 
 pub too_many : (words : List (String Global)) → 4 < length words → None ≡ task_of (texts_of words)

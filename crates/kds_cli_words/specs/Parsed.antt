@@ -1,5 +1,6 @@
 -- What `clap` read of the words, and the words that it sees.
-use Rattle.std.specs.Prelude.{ℕ, Bool, false, ◌==◌, ◌||◌, not, List, slice_get, codes, Option, Some, None, if◌then◌else◌}
+use Rattle.std.specs.Prelude.{ℕ, Bool, false, ◌==◌, ◌||◌, not, List, slice_get, codes, Option, Some, None}
+use Rattle.std.specs.Prelude.{if◌then◌else◌}
 use Rattle.std.specs.Str.{bytes_eq}
 use Rattle.clap.specs.Words.{Row, Text, first_of}
 use Rattle.kds_cli_words.specs.Words.{drill_of, serve_of}
@@ -27,7 +28,8 @@ told_with name get =
     else if bytes_eq name (codes "answer") then Some Answer
     else if bytes_eq name (codes "audit") then Some Audit
     else if bytes_eq name (codes "serve") then serve_told (get (codes "port")) (get (codes "members"))
-    else if bytes_eq name (codes "drill") then drill_told (get (codes "number")) (get (codes "workers")) (get (codes "records"))
+    else if bytes_eq name (codes "drill") then drill_told (get (codes "number")) (get (codes "workers"))
+    (get (codes "records"))
     else None
 
 -- the task of what a parse met

@@ -1,5 +1,6 @@
 -- The words of the command line, and the task that they ask for.
-use Rattle.std.specs.Prelude.{ℕ, ◌≤◌, true, false, ◌&&◌, nat_le, List, [], ◌∷◌, map, String, string_bytes, codes, Option, Some, None, option_and_then, if◌then◌else◌}
+use Rattle.std.specs.Prelude.{ℕ, ◌≤◌, true, false, ◌&&◌, nat_le, List, [], ◌∷◌, map, String, string_bytes, codes}
+use Rattle.std.specs.Prelude.{Option, Some, None, option_and_then, if◌then◌else◌}
 use Rattle.std.specs.Str.{bytes_eq}
 use Rattle.std.specs.declared.alloc.Global.{Global}
 use Rattle.kds_base.specs.NumberText.{number_of}
@@ -28,11 +29,13 @@ abbrev pub records_of : List ℕ → Option ℕ
 records_of text = number_in 0 MOST_RECORDS text
 
 abbrev pub serve_of : List ℕ → List ℕ → Option Task
-serve_of port members = option_and_then (λ p. option_and_then (λ m. Some (Serve p m)) (members_of members)) (port_of port)
+serve_of port members =
+    option_and_then (λ p. option_and_then (λ m. Some (Serve p m)) (members_of members)) (port_of port)
 
 abbrev pub drill_of : List ℕ → List ℕ → List ℕ → Option Task
 drill_of number workers records =
-    option_and_then (λ n. option_and_then (λ w. option_and_then (λ r. Some (Drill n w r)) (records_of records)) (members_of workers)) (number_of 64 number)
+    option_and_then (λ n. option_and_then (λ w. option_and_then (λ r. Some (Drill n w r)) (records_of records))
+    (members_of workers)) (number_of 64 number)
 
 -- the words, exactly
 abbrev pub task_of : List (List ℕ) → Option Task
@@ -42,7 +45,8 @@ task_of (word ∷ []) =
     else if bytes_eq word (codes "answer") then Some Answer
     else if bytes_eq word (codes "audit") then Some Audit
     else None
-task_of (word ∷ a ∷ []) = if bytes_eq word (codes "replay") && bytes_eq a (codes "--journal") then Some (Replay true) else None
+task_of (word ∷ a ∷ []) =
+    if bytes_eq word (codes "replay") && bytes_eq a (codes "--journal") then Some (Replay true) else None
 task_of (word ∷ a ∷ b ∷ []) = if bytes_eq word (codes "serve") then serve_of a b else None
 task_of (word ∷ a ∷ b ∷ c ∷ []) = if bytes_eq word (codes "drill") then drill_of a b c else None
 task_of (word ∷ a ∷ b ∷ c ∷ d ∷ more) = None

@@ -1,6 +1,7 @@
 //! Describes the program's subcommands and their arguments for `clap`.
 ghost use Rattle.std.specs.Prelude.{IfOk};
-ghost use Rattle.kds_cli_words.specs.Apps.{HasApp, answer_kds, audit_kds, bare_app, drill_app, kds_app, replay_app, replay_kds, serve_app, serve_kds};
+ghost use Rattle.kds_cli_words.specs.Apps.{HasApp, answer_kds, audit_kds, bare_app, drill_app, kds_app, replay_app};
+ghost use Rattle.kds_cli_words.specs.Apps.{replay_kds, serve_app, serve_kds};
 
 use clap::{Arg, ArgAction, Command};
 use std::alloc::{AllocError, Global};

@@ -16,12 +16,15 @@ length_uniform width start zero = refl
 length_uniform width start (suc zero) = refl
 length_uniform width start (suc (suc n)) = ap suc (length_uniform width (start + width) (suc n))
 
-pub length_split : (sh at start : ℕ) (closing : Closing) (xs : List ShardState) → length (split_shards sh at closing start xs) ≡ length xs + 2
+pub length_split : (sh at start : ℕ) (closing : Closing) (xs : List ShardState)
+    → length (split_shards sh at closing start xs) ≡ length xs + 2
 length_split sh at start closing xs = length-append _ _ ∙ ap (λ n. n + 2) (length-closed sh closing xs)
 
-pub length_merged : (sh other start : ℕ) (closing : Closing) (xs : List ShardState) → length (merged_shards sh other closing start xs) ≡ length xs + 1
+pub length_merged : (sh other start : ℕ) (closing : Closing) (xs : List ShardState)
+    → length (merged_shards sh other closing start xs) ≡ length xs + 1
 length_merged sh other start closing xs =
-    length-append _ _ ∙ ap (λ n. n + 1) (length-closed other closing (with_closed sh closing xs) ∙ length-closed sh closing xs)
+    length-append _ _ ∙ ap (λ n. n + 1) (length-closed other closing (with_closed sh closing xs)
+    ∙ length-closed sh closing xs)
 
 pub numbers_stored : (xs : List Logged) → map (λ (r : Stored). r.seq) (map stored xs) ≡ numbers_of xs
 numbers_stored [] = refl

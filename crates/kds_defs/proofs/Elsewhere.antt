@@ -1,5 +1,5 @@
--- A line of another stream, or of a lease, leaves each reading of a stream as it was, and a line of a stream leaves rows
--- and tenures. Of each reading only the entries that change it are named here.
+-- A line of another stream, or of a lease, leaves each reading of a stream as it was, and a line of a stream leaves
+-- rows and tenures. Of each reading only the entries that change it are named here.
 use Rattle.std.proofs.Common.{◌≡◌, ◌≢◌, ℕ, ◌+◌, ◌*◌, ◌≤◌, max, Bool, true, false, List, [], ◌∷◌, Option, Some, None}
 use Rattle.std.proofs.Common.{refl, sym, ap, ◌∙◌, arith}
 use Rattle.std.specs.Prelude.{◌==◌, is_some, if◌then◌else◌}
@@ -16,7 +16,8 @@ use Rattle.kds_defs.specs.PutCommands.{enforced_after, is_enforced}
 use Rattle.kds_defs.specs.Rates.{SizedPut, puts, puts_after}
 use Rattle.kds_defs.specs.Records.{Logged, draws, next_number, records, records_after}
 use Rattle.kds_defs.specs.Shards.{ShardState, shards, shards_after}
-use Rattle.kds_defs.specs.Streams.{floor_after, floor_at, floor_of_lines, hours, hours_after, is_live, is_live_after, made_at, made_at_after}
+use Rattle.kds_defs.specs.Streams.{floor_after, floor_at, floor_of_lines, hours, hours_after, is_live, is_live_after}
+use Rattle.kds_defs.specs.Streams.{made_at, made_at_after}
 use Rattle.kds_defs.specs.Streams.{made_count_after, name_of, name_of_after, trim_floor, was_made, was_made_after}
 use Rattle.kds_defs.specs.Subjects.{IsFresh, stream_of}
 
@@ -50,11 +51,13 @@ pub made_same : (what : Entry) (s : ℕ) (before : Bool) → stream_of what ≢ 
 made_same (entry.Made a name count) s before h = rw (differ a s h) refl
 made_same _ s before h = refl
 
-pub name_same : (what : Entry) (s : ℕ) (before : List ℕ) → stream_of what ≢ Some s → name_of_after what s before ≡ before
+pub name_same : (what : Entry) (s : ℕ) (before : List ℕ) → stream_of what ≢ Some s
+    → name_of_after what s before ≡ before
 name_same (entry.Made a name count) s before h = rw (differ a s h) refl
 name_same _ s before h = refl
 
-pub made_at_same : (line : Line) (what : Entry) (s before : ℕ) → stream_of what ≢ Some s → made_at_after line what s before ≡ before
+pub made_at_same : (line : Line) (what : Entry) (s before : ℕ) → stream_of what ≢ Some s
+    → made_at_after line what s before ≡ before
 made_at_same line (entry.Made a name count) s before h = rw (differ a s h) refl
 made_at_same line _ s before h = refl
 
@@ -89,7 +92,8 @@ pub puts_same : (line : Line) (what : Entry) (s sh : ℕ) (before : List SizedPu
 puts_same line (entry.Put a shard number hash bytes key_bytes) s sh before h = rw (differ a s h) refl
 puts_same line _ s sh before h = refl
 
-pub enforced_same : (what : Entry) (s : ℕ) (before : Bool) → stream_of what ≢ Some s → enforced_after what s before ≡ before
+pub enforced_same : (what : Entry) (s : ℕ) (before : Bool) → stream_of what ≢ Some s
+    → enforced_after what s before ≡ before
 enforced_same (entry.Enforced a on) s before h = rw (differ a s h) refl
 enforced_same _ s before h = refl
 
@@ -135,7 +139,8 @@ same_again log s = record {
   enforced_is = refl;
 }
 
-pub same_along : (log log' log'' : Journal) (s : ℕ) → SameStream log log' s → SameStream log' log'' s → SameStream log log'' s
+pub same_along : (log log' log'' : Journal) (s : ℕ) → SameStream log log' s → SameStream log' log'' s
+    → SameStream log log'' s
 same_along log log' log'' s a b = record {
   live = a.live ∙ b.live;
   was = a.was ∙ b.was;
@@ -164,11 +169,14 @@ floor_by made before c d hours hours_before low =
     max (floor_at c (hours * HOUR)) (max (if made then max now earlier else 0) low)
 
 floor_is : (log : Journal) (line : Line) (s c : ℕ)
-    → trim_floor (line ∷ log) c s ≡ floor_by (was_made (line ∷ log) s) (was_made log s) c line.clock (hours (line ∷ log) s) (hours log s) (floor_of_lines log s)
+    → trim_floor (line ∷ log) c s
+    ≡ floor_by (was_made (line ∷ log) s) (was_made log s) c line.clock (hours (line ∷ log) s) (hours log s)
+    (floor_of_lines log s)
 unfolding floor_by
 floor_is log line s c = refl
 
-no_higher : (made before : Bool) (c d h low : ℕ) → d ≤ c → floor_by made before c d h h low ≡ max (floor_at c (h * HOUR)) low
+no_higher : (made before : Bool) (c d h low : ℕ) → d ≤ c
+    → floor_by made before c d h h low ≡ max (floor_at c (h * HOUR)) low
 unfolding floor_by
 no_higher true true c d h low later = omega (arith)
 no_higher true false c d h low later = omega (arith)
@@ -178,7 +186,8 @@ pub floor_same : (log : Journal) (line : Line) (s c : ℕ) → line.clock ≤ c 
     → trim_floor (line ∷ log) c s ≡ trim_floor log c s
 floor_same log line s c later same =
     floor_is log line s c
-    ∙ ap (λ h. floor_by (was_made (line ∷ log) s) (was_made log s) c line.clock h (hours log s) (floor_of_lines log s)) same
+    ∙ ap (λ h. floor_by (was_made (line ∷ log) s) (was_made log s) c line.clock h (hours log s) (floor_of_lines log s))
+    same
     ∙ no_higher (was_made (line ∷ log) s) (was_made log s) c line.clock (hours log s) (floor_of_lines log s) later
 
 -- ---- a stream that no line speaks of
@@ -198,7 +207,8 @@ fresh_empty s = record {
 no_floor_by : (log : Journal) (line : Line) (s : ℕ) → was_made (line ∷ log) s ≡ false → floor_after log line s ≡ 0
 no_floor_by log line s h = cond-false (was_made (line ∷ log) s) _ 0 h
 
-pub fresh_other : (log : Journal) (line : Line) (s : ℕ) → IsFresh log s → stream_of line.what ≢ Some s → IsFresh (line ∷ log) s
+pub fresh_other : (log : Journal) (line : Line) (s : ℕ) → IsFresh log s → stream_of line.what ≢ Some s
+    → IsFresh (line ∷ log) s
 fresh_other log line s fresh other =
     let same = same_stream log line s other in
     let none = no_floor_by log line s (same.was ∙ fresh.unmade) in
@@ -215,7 +225,8 @@ fresh_other log line s fresh other =
 
 -- ---- rows and tenures after an entry of a stream
 
-pub row_same : (log : Journal) (line : Line) (what : Entry) (key : ShardRef) (before : Option Row) → stream_of what ≢ None
+pub row_same : (log : Journal) (line : Line) (what : Entry) (key : ShardRef) (before : Option Row)
+    → stream_of what ≢ None
     → row_after log line what key before ≡ before
 row_same log line (entry.LeaseMade k from) key before h = absurd (h refl)
 row_same log line (entry.LeaseCut k counter) key before h = absurd (h refl)
@@ -234,7 +245,8 @@ pub taken_same : (what : Entry) (before : ℕ) → stream_of what ≢ None → t
 taken_same (entry.Taken key t counter owner) before h = absurd (h refl)
 taken_same _ before h = refl
 
-pub tenure_same : (log : Journal) (line : Line) (what : Entry) (t : ℕ) (before : Option TenureState) → stream_of what ≢ None
+pub tenure_same : (log : Journal) (line : Line) (what : Entry) (t : ℕ) (before : Option TenureState)
+    → stream_of what ≢ None
     → tenure_after log line what t before ≡ before
 tenure_same log line (entry.Taken key u counter owner) t before h = absurd (h refl)
 tenure_same log line (entry.Opened u) t before h = absurd (h refl)

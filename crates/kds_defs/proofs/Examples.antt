@@ -82,7 +82,8 @@ retention : answers [] (
     ∷ turn 86401000 (command.Records (record { stream = 1; shard = 0; position = 0; issued = 86400999 }) 10)
     ∷ turn 1000 (command.Records (record { stream = 1; shard = 0; position = 0; issued = 86400999 }) 10) ∷ [])
     ≡ (Ok reply.Done ∷ Ok (reply.Put (record { shard = 0; seq = 1 }))
-    ∷ Ok (reply.Records (kept 1 1000 ∷ []) (Some (record { stream = 1; shard = 0; position = 2; issued = 86400999 })) 0 [])
+    ∷ Ok (reply.Records (kept 1 1000 ∷ []) (Some (record { stream = 1; shard = 0; position = 2; issued = 86400999 }))
+    0 [])
     ∷ Ok (reply.Records [] (Some (record { stream = 1; shard = 0; position = 0; issued = 86401000 })) 0 [])
     ∷ Ok (reply.Records [] (Some (record { stream = 1; shard = 0; position = 0; issued = 86401000 })) 0 []) ∷ [])
 unfolding refuse◌if◌else◌ with◌or◌then◌ turn name item kept
@@ -98,10 +99,36 @@ ended : answers [] (
     ∷ turn 304001 (command.More (record { stream = 1; after = 0; issued = 4000 }) 1) ∷ [])
     ≡ (Ok reply.Done ∷ Ok reply.Done
     ∷ Ok (reply.Records [] None 0 (
-    record { no = 1; range = record { start = 0; end = 170141183460469231731687303715884105727 }; parent = Some 0; adjacent = None; start = 2; end = None }
-    ∷ record { no = 2; range = record { start = 170141183460469231731687303715884105728; end = 340282366920938463463374607431768211455 }; parent = Some 0; adjacent = None; start = 2; end = None } ∷ []))
+    record {
+      no = 1;
+      range = record { start = 0; end = 170141183460469231731687303715884105727 };
+      parent = Some 0;
+      adjacent = None;
+      start = 2;
+      end = None;
+    }
+    ∷ record {
+      no = 2;
+      range = record {
+        start = 170141183460469231731687303715884105728;
+        end = 340282366920938463463374607431768211455;
+      };
+      parent = Some 0;
+      adjacent = None;
+      start = 2;
+      end = None;
+    }
+    ∷ []))
     ∷ Ok (reply.Records [] (Some (record { stream = 1; shard = 1; position = 0; issued = 4000 })) 0 [])
-    ∷ Ok (reply.Shards (record { no = 0; range = record { start = 0; end = 340282366920938463463374607431768211455 }; parent = None; adjacent = None; start = 1; end = Some 1 } ∷ []) (Some (record { stream = 1; after = 0; issued = 4000 })))
+    ∷ Ok (reply.Shards (record {
+      no = 0;
+      range = record { start = 0; end = 340282366920938463463374607431768211455 };
+      parent = None;
+      adjacent = None;
+      start = 1;
+      end = Some 1;
+    } ∷ [])
+    (Some (record { stream = 1; after = 0; issued = 4000 })))
     ∷ Err refusal.PageExpired ∷ [])
 unfolding refuse◌if◌else◌ with◌or◌then◌ turn name
 ended = refl
@@ -125,7 +152,8 @@ starts : answers [] (
     ∷ Err refusal.BadNumber
     ∷ Ok (reply.Iterator (record { stream = 1; shard = 0; position = 3; issued = 2000 }))
     ∷ Err refusal.BadNumber
-    ∷ Ok (reply.Records (kept 1 1000 ∷ []) (Some (record { stream = 1; shard = 0; position = 2; issued = 2000 })) 999 []) ∷ [])
+    ∷ Ok (reply.Records (kept 1 1000 ∷ []) (Some (record { stream = 1; shard = 0; position = 2; issued = 2000 }))
+    999 []) ∷ [])
 unfolding refuse◌if◌else◌ with◌or◌then◌ turn name item kept
 starts = refl
 
@@ -133,7 +161,11 @@ starts = refl
 service : answers [] (
     turn 1000 (command.Create name 2)
     ∷ turn 1000 (command.Create other 1)
-    ∷ turn 1000 (command.PutMany name (item ∷ record { key = 98 ∷ []; hash = 0x92eb5ffee6ae2fec3ad71c777531578f; payload = [] } ∷ []))
+    ∷ turn 1000 (command.PutMany name (item ∷ record {
+      key = 98 ∷ [];
+      hash = 0x92eb5ffee6ae2fec3ad71c777531578f;
+      payload = [];
+    } ∷ []))
     ∷ turn 1000 (command.Streams None 1)
     ∷ turn 1000 (command.Streams (Some name) 1)
     ∷ turn 1000 (command.Summary name)
@@ -144,7 +176,8 @@ service : answers [] (
     ∷ turn 2000 (command.GetIterator name 0 start.Latest)
     ∷ turn 2000 (command.Records (record { stream = 1; shard = 0; position = 0; issued = 2000 }) 1) ∷ [])
     ≡ (Ok reply.Done ∷ Ok reply.Done
-    ∷ Ok (reply.PutMany (outcome.Stored (record { shard = 0; seq = 1 }) ∷ outcome.Stored (record { shard = 1; seq = 2 }) ∷ []))
+    ∷ Ok (reply.PutMany (outcome.Stored (record { shard = 0; seq = 1 }) ∷ outcome.Stored (record { shard = 1; seq = 2 })
+    ∷ []))
     ∷ Ok (reply.Streams (name ∷ []) true)
     ∷ Ok (reply.Streams (other ∷ []) false)
     ∷ Ok (reply.Summary (record { name = name; made = 1000; hours = 24 }) 2)
@@ -173,7 +206,8 @@ kept_hours : answers [] (
     ∷ Ok (reply.Iterator (record { stream = 1; shard = 0; position = 2; issued = 2000 }))
     ∷ Ok (reply.Iterator (record { stream = 1; shard = 0; position = 3; issued = 2000 }))
     ∷ Err refusal.BadRetention ∷ Err refusal.BadRetention ∷ Ok reply.Done
-    ∷ Ok (reply.Records (kept 2 2000 ∷ []) (Some (record { stream = 1; shard = 0; position = 3; issued = 86401000 })) 0 [])
+    ∷ Ok (reply.Records (kept 2 2000 ∷ []) (Some (record { stream = 1; shard = 0; position = 3; issued = 86401000 }))
+    0 [])
     ∷ Ok (reply.Iterator (record { stream = 1; shard = 0; position = 2; issued = 86401000 })) ∷ [])
 unfolding refuse◌if◌else◌ with◌or◌then◌ turn name item kept
 kept_hours = refl
@@ -207,7 +241,17 @@ latest : answers [] (
     ∷ Ok (reply.Put (record { shard = 0; seq = 1 }))
     ∷ Ok (reply.Put (record { shard = 0; seq = 2 }))
     ∷ Ok (reply.Leased origin.Latest)
-    ∷ Ok (reply.Survey (shard 0 ∷ []) (record { key = shard 0; owner = None; counter = 0; checkpoint = checkpoint.At 2; switches = 0; tenure = 0; floor = 3; parent = None; adjacent = None } ∷ []))
+    ∷ Ok (reply.Survey (shard 0 ∷ []) (record {
+      key = shard 0;
+      owner = None;
+      counter = 0;
+      checkpoint = checkpoint.At 2;
+      switches = 0;
+      tenure = 0;
+      floor = 3;
+      parent = None;
+      adjacent = None;
+    } ∷ []))
     ∷ Ok (reply.Taken 1 1 (checkpoint.At 2))
     ∷ Ok reply.Done
     ∷ Ok (reply.Read [] 3 false)

@@ -1,5 +1,6 @@
 -- The home of a key: the open shard that is found stands at its number and contains the key.
-use Rattle.std.proofs.Common.{◌≡◌, ℕ, suc, ◌+◌, ◌-◌, ◌<◌, ◌≤◌, Bool, true, false, List, [], ◌∷◌, Some, refl, sym, ap, subst, ◌∙◌, arith}
+use Rattle.std.proofs.Common.{◌≡◌, ℕ, suc, ◌+◌, ◌-◌, ◌<◌, ◌≤◌, Bool, true, false, List, [], ◌∷◌, Some, refl, sym, ap}
+use Rattle.std.proofs.Common.{subst, ◌∙◌, arith}
 use Rattle.std.specs.Prelude.{cond, slice_get, if◌then◌else◌}
 use Rattle.std.specs.List.{filter}
 use Rattle.std.proofs.lemmas.Bool.Decides.{nat_tests}
@@ -21,22 +22,42 @@ covers_so r k h = (grind (arith), grind (arith))
 pub later : (x : ShardState) (xs : List ShardState) (n k sh : ℕ) → Found xs (n + 1) k sh → Found (x ∷ xs) n k sh
 later x xs n k sh f =
     let e : suc (sh - (n + 1)) ≡ sh - n = omega (arith) in
-    record { state = f.state; from = omega (arith); stands = ap (slice_get (x ∷ xs)) (sym e) ∙ f.stands; is_open_now = f.is_open_now; contains = f.contains }
+    record {
+      state = f.state;
+      from = omega (arith);
+      stands = ap (slice_get (x ∷ xs)) (sym e) ∙ f.stands;
+      is_open_now = f.is_open_now;
+      contains = f.contains;
+    }
 
-pub here : (x : ShardState) (xs : List ShardState) (n k sh : ℕ) → sh ≡ n → is_open x ≡ true → Covers x.range k → Found (x ∷ xs) n k sh
+pub here : (x : ShardState) (xs : List ShardState) (n k sh : ℕ) → sh ≡ n → is_open x ≡ true → Covers x.range k
+    → Found (x ∷ xs) n k sh
 here x xs n k sh is open_now inside =
     let e : sh - n ≡ 0 = omega (arith) in
-    record { state = x; from = omega (arith); stands = ap (slice_get (x ∷ xs)) e; is_open_now = open_now; contains = inside }
+    record {
+      state = x;
+      from = omega (arith);
+      stands = ap (slice_get (x ∷ xs)) e;
+      is_open_now = open_now;
+      contains = inside;
+    }
 
-pub found_home : (b d : Bool) (x : ShardState) (xs : List ShardState) (n k : ℕ) → is_open x ≡ b → covers x.range k ≡ d → x.no ≡ n → 0 < count_if b (if d then 1 else 0) + open_times xs k → (0 < open_times xs k → Found xs (n + 1) k (home_among (filter is_open xs) k)) → Found (x ∷ xs) n k (home_among (cond b (x ∷ filter is_open xs) (filter is_open xs)) k)
+pub found_home : (b d : Bool) (x : ShardState) (xs : List ShardState) (n k : ℕ) → is_open x ≡ b → covers x.range k ≡ d
+    → x.no ≡ n → 0 < count_if b (if d then 1 else 0) + open_times xs k
+    → (0 < open_times xs k → Found xs (n + 1) k (home_among (filter is_open xs) k))
+    → Found (x ∷ xs) n k (home_among (cond b (x ∷ filter is_open xs) (filter is_open xs)) k)
 found_home false d x xs n k isb isd is some rest = later x xs n k _ (rest (omega (arith)))
 found_home true true x xs n k isb isd is some rest =
-    let e : (if covers x.range k then x.no else home_among (filter is_open xs) k) ≡ x.no = ap (λ b. if b then x.no else home_among (filter is_open xs) k) isd in
+    let e : (if covers x.range k then x.no else home_among (filter is_open xs) k) ≡ x.no =
+    ap (λ b. if b then x.no else home_among (filter is_open xs) k) isd in
     subst (λ sh. Found (x ∷ xs) n k sh) (sym e) (here x xs n k x.no is isb (covers_so x.range k isd))
 found_home true false x xs n k isb isd is some rest =
-    let e : (if covers x.range k then x.no else home_among (filter is_open xs) k) ≡ home_among (filter is_open xs) k = ap (λ b. if b then x.no else home_among (filter is_open xs) k) isd in
+    let e : (if covers x.range k then x.no else home_among (filter is_open xs) k) ≡ home_among (filter is_open xs) k =
+    ap (λ b. if b then x.no else home_among (filter is_open xs) k) isd in
     subst (λ sh. Found (x ∷ xs) n k sh) (sym e) (later x xs n k _ (rest (omega (arith))))
 
-pub home_found : (xs : List ShardState) (n k : ℕ) → AreNumbered n xs → 0 < open_times xs k → Found xs n k (home_among (filter is_open xs) k)
+pub home_found : (xs : List ShardState) (n k : ℕ) → AreNumbered n xs → 0 < open_times xs k
+    → Found xs n k (home_among (filter is_open xs) k)
 home_found [] n k numbers some = absurd (omega arith)
-home_found (x ∷ xs) n k numbers some = found_home (is_open x) (covers x.range k) x xs n k refl refl numbers.0 some (home_found xs (n + 1) k numbers.1)
+home_found (x ∷ xs) n k numbers some =
+    found_home (is_open x) (covers x.range k) x xs n k refl refl numbers.0 some (home_found xs (n + 1) k numbers.1)

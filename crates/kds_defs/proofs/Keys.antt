@@ -14,4 +14,5 @@ same_ref a b h =
     λ i. record { stream = s i; shard = t i }
 
 pub key_itself : (key : ShardRef) → same_key key key ≡ true
-key_itself key = and_from (key.stream == key.stream) (key.shard == key.shard) (is_itself key.stream) (is_itself key.shard)
+key_itself key = and_from (key.stream == key.stream) (key.shard == key.shard) (is_itself key.stream)
+    (is_itself key.shard)

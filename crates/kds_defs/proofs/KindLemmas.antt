@@ -18,9 +18,11 @@ IsOwn d = is_service_answer (answer_of d) ≡ true
 abbrev IsLeases : Decision → Type 0
 IsLeases d = is_lease_answer (answer_of d) ≡ true
 
-own : (log : Journal) (c by : ℕ) (what : Command) (lines : List Line) (answer : Result Reply Refusal) → Outcome log c by what lines answer
+own : (log : Journal) (c by : ℕ) (what : Command) (lines : List Line) (answer : Result Reply Refusal)
+    → Outcome log c by what lines answer
     → is_service what ≡ true → is_service_answer answer ≡ true
-own log c by _ _ _ (Refuses what r may) is = subst (λ b. (if b then is_service_refusal r else is_lease_refusal r) ≡ true) is may
+own log c by _ _ _ (Refuses what r may) is =
+    subst (λ b. (if b then is_service_refusal r else is_lease_refusal r) ≡ true) is may
 own log c by _ _ _ (Answers _ _ (Surveys keys rows)) is = is
 own log c by _ _ _ (Adds _ _ _ (Creates name count fits)) is = refl
 own log c by _ _ _ _ is = cc
@@ -28,13 +30,16 @@ own log c by _ _ _ _ is = cc
 pub own_answers : (log : Journal) (c by : ℕ) (what : Command) → is_service what ≡ true → IsOwn (decide log c by what)
 own_answers log c by what is = own log c by what _ _ (walk log c by what) is
 
-of_leases : (log : Journal) (c by : ℕ) (what : Command) (lines : List Line) (answer : Result Reply Refusal) → Outcome log c by what lines answer
+of_leases : (log : Journal) (c by : ℕ) (what : Command) (lines : List Line) (answer : Result Reply Refusal)
+    → Outcome log c by what lines answer
     → is_service what ≡ false → is_lease_answer answer ≡ true
-of_leases log c by _ _ _ (Refuses what r may) is = subst (λ b. (if b then is_service_refusal r else is_lease_refusal r) ≡ true) is may
+of_leases log c by _ _ _ (Refuses what r may) is =
+    subst (λ b. (if b then is_service_refusal r else is_lease_refusal r) ≡ true) is may
 of_leases log c by _ _ _ (Answers _ _ (Surveys keys rows)) is = refl
 of_leases log c by _ _ _ (Answers _ _ _) is = absurd cc
 of_leases log c by _ _ _ (Adds _ _ _ (Creates name count fits)) is = refl
 of_leases log c by _ _ _ _ is = cc
 
-pub lease_answers : (log : Journal) (c by : ℕ) (what : Command) → is_service what ≡ false → IsLeases (decide log c by what)
+pub lease_answers : (log : Journal) (c by : ℕ) (what : Command) → is_service what ≡ false
+    → IsLeases (decide log c by what)
 lease_answers log c by what is = of_leases log c by what _ _ (walk log c by what) is

@@ -7,12 +7,16 @@ use Rattle.kds_defs.specs.Records.{place_after}
 one_less : (n : ℕ) → suc (suc n) - 1 ≡ suc (suc n - 1)
 one_less n = omega arith
 
-pub last_number : (place : ℕ) (ns : List ℕ) (n : ℕ) → slice_get ns (length ns - 1) ≡ Some n → place_after place ns ≡ n + 1
+pub last_number : (place : ℕ) (ns : List ℕ) (n : ℕ) → slice_get ns (length ns - 1) ≡ Some n
+    → place_after place ns ≡ n + 1
 last_number place [] n is = absurd cc
 last_number place (x ∷ []) n is = let e : x ≡ n = cc in ap (λ m. m + 1) e
-last_number place (x ∷ y ∷ ns) n is = last_number (x + 1) (y ∷ ns) n (ap (slice_get (x ∷ y ∷ ns)) (sym (one_less (length ns))) ∙ is)
+last_number place (x ∷ y ∷ ns) n is =
+    last_number (x + 1) (y ∷ ns) n (ap (slice_get (x ∷ y ∷ ns)) (sym (one_less (length ns))) ∙ is)
 
-pub last_record : (place : ℕ) (items : List Stored) (item : Stored) → slice_get items (length items - 1) ≡ Some item → place_after place (map (λ (r : Stored). r.seq) items) ≡ item.seq + 1
+pub last_record : (place : ℕ) (items : List Stored) (item : Stored) → slice_get items (length items - 1) ≡ Some item
+    → place_after place (map (λ (r : Stored). r.seq) items) ≡ item.seq + 1
 last_record place [] item is = absurd cc
 last_record place (x ∷ []) item is = let e : x ≡ item = cc in ap (λ (r : Stored). r.seq + 1) e
-last_record place (x ∷ y ∷ items) item is = last_record (x.seq + 1) (y ∷ items) item (ap (slice_get (x ∷ y ∷ items)) (sym (one_less (length items))) ∙ is)
+last_record place (x ∷ y ∷ items) item is =
+    last_record (x.seq + 1) (y ∷ items) item (ap (slice_get (x ∷ y ∷ items)) (sym (one_less (length items))) ∙ is)

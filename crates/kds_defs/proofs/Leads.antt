@@ -28,7 +28,8 @@ unfolding refuse◌if◌else◌
 if_refused P r true d h g = h
 if_refused P r false d h g = g refl
 
-pub if_none : {A : Type 0} (P : List Line → Result Reply Refusal → Type 0) (r : Refusal) (o : Option A) (d : A → Decision)
+pub if_none : {A : Type 0} (P : List Line → Result Reply Refusal → Type 0) (r : Refusal) (o : Option A) (d : A
+    → Decision)
     → P [] (Err r) → ((x : A) → o ≡ Some x → Leads P (d x)) → Leads P (with o or r then d)
 unfolding with◌or◌then◌
 if_none P r None d h g = h
@@ -36,27 +37,34 @@ if_none P r (Some x) d h g = g x refl
 
 -- ---- of a P that holds of each refusal
 
-pub past_test : (P : List Line → Result Reply Refusal → Type 0) → ((r : Refusal) → P [] (Err r)) → (r : Refusal) (b : Bool) (d : Decision)
+pub past_test : (P : List Line → Result Reply Refusal → Type 0) → ((r : Refusal) → P [] (Err r))
+    → (r : Refusal) (b : Bool) (d : Decision)
     → (b ≡ false → Leads P d) → Leads P (refuse r if b else d)
 past_test P all r b d next = if_refused P r b d (all r) next
 
-pub past_none : {A : Type 0} (P : List Line → Result Reply Refusal → Type 0) → ((r : Refusal) → P [] (Err r)) → (r : Refusal) (o : Option A)
+pub past_none : {A : Type 0} (P : List Line → Result Reply Refusal → Type 0) → ((r : Refusal) → P [] (Err r))
+    → (r : Refusal) (o : Option A)
     (d : A → Decision) → ((x : A) → o ≡ Some x → Leads P (d x)) → Leads P (with o or r then d)
 past_none P all r o d next = if_none P r o d (all r) next
 
 -- ---- of a P that holds of each refusal of a command for leases
 
-module _ (P : List Line → Result Reply Refusal → Type 0) (each : (r : Refusal) → is_lease_refusal r ≡ true → P [] (Err r)) where
-  pub past_a_parent : (log : Journal) (c s : ℕ) (o : Option ℕ) (d : Decision) → Leads P d → Leads P (past_parent log c s o d)
+module _ (P : List Line → Result Reply Refusal → Type 0) (each : (r : Refusal) → is_lease_refusal r ≡ true
+    → P [] (Err r)) where
+  pub past_a_parent : (log : Journal) (c s : ℕ) (o : Option ℕ) (d : Decision) → Leads P d
+      → Leads P (past_parent log c s o d)
   past_a_parent log c s None d next = next
   past_a_parent log c s (Some parent) d next = if_refused P _ _ _ (each _ refl) (λ e. next)
 
-  pub past_the_parents : (log : Journal) (c s : ℕ) (o : Option ShardState) (d : Decision) → Leads P d → Leads P (past_parents log c s o d)
+  pub past_the_parents : (log : Journal) (c s : ℕ) (o : Option ShardState) (d : Decision) → Leads P d
+      → Leads P (past_parents log c s o d)
   past_the_parents log c s None d next = next
   past_the_parents log c s (Some x) d next =
       past_a_parent log c s x.parent (past_parent log c s x.adjacent d) (past_a_parent log c s x.adjacent d next)
 
-  pub past_the_target : (log : Journal) (T : TenureState) (to : Target) (d : Decision) → Leads P d → Leads P (past_target log T to d)
+  pub past_the_target : (log : Journal) (T : TenureState) (to : Target) (d : Decision) → Leads P d
+      → Leads P (past_target log T to d)
   past_the_target log T (target.At q) d next =
-      if_refused P _ _ _ (each _ refl) (λ a. if_refused P _ _ _ (each _ refl) (λ b. if_refused P _ _ _ (each _ refl) (λ e. next)))
+      if_refused P _ _ _ (each _ refl)
+      (λ a. if_refused P _ _ _ (each _ refl) (λ b. if_refused P _ _ _ (each _ refl) (λ e. next)))
   past_the_target log T target.End d next = if_refused P _ _ _ (each _ refl) (λ a. next)

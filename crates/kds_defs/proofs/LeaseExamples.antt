@@ -102,7 +102,17 @@ order_of_marks : answers [] (
     ∷ Ok (reply.Counter 4)
     ∷ Err refusal.NotAtEnd
     ∷ Ok (reply.Survey (key 0 ∷ []) (
-    record { key = key 0; owner = Some 2; counter = 4; checkpoint = checkpoint.At 2; switches = 0; tenure = 2; floor = 1; parent = None; adjacent = None } ∷ []))
+    record {
+      key = key 0;
+      owner = Some 2;
+      counter = 4;
+      checkpoint = checkpoint.At 2;
+      switches = 0;
+      tenure = 2;
+      floor = 1;
+      parent = None;
+      adjacent = None;
+    } ∷ []))
     ∷ Ok (reply.Counter 5)
     ∷ Err (refusal.Lost 0) ∷ []
 unfolding refuse◌if◌else◌ with◌or◌then◌ turn name item kept key begun begun_so robbed robbed_so
@@ -129,7 +139,8 @@ two_parents : answers [] (
     ∷ turn 1 4000 (command.Give 3)
     ∷ turn 1 4000 (command.Mark 3 1 target.End)
     ∷ turn 3 4000 (command.OpenShard 1) ∷ [])
-    ≡ (Ok reply.Done ∷ Ok reply.Done ∷ Ok (reply.Leased origin.TrimHorizon) ∷ Ok (reply.Leased origin.TrimHorizon) ∷ Ok (reply.Leased origin.TrimHorizon)
+    ≡ (Ok reply.Done ∷ Ok reply.Done ∷ Ok (reply.Leased origin.TrimHorizon) ∷ Ok (reply.Leased origin.TrimHorizon)
+    ∷ Ok (reply.Leased origin.TrimHorizon)
     ∷ Ok (reply.Taken 1 1 checkpoint.TrimHorizon)
     ∷ Err (refusal.ParentsOpen (key 0))
     ∷ Ok (reply.Taken 2 1 checkpoint.TrimHorizon)

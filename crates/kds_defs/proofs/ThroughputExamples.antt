@@ -31,7 +31,8 @@ scaled : answers [] (
     ∷ turn 1000 (command.Scale name 3)
     ∷ turn 1000 (command.Scale name 501) ∷ [])
     ≡ (Ok reply.Done
-    ∷ Ok (reply.Scaled name 2 3 (entry.Merged 1 0 1 1 2 ∷ entry.Split 1 2 113427455640312821154458202477256070485 2 3 4 ∷ entry.Split 1 4 226854911280625642308916404954512140970 3 5 6 ∷ []))
+    ∷ Ok (reply.Scaled name 2 3 (entry.Merged 1 0 1 1 2 ∷ entry.Split 1 2 113427455640312821154458202477256070485 2 3 4
+    ∷ entry.Split 1 4 226854911280625642308916404954512140970 3 5 6 ∷ []))
     ∷ Ok (reply.Put (record { shard = 3; seq = 4 }))
     ∷ Ok (reply.Scaled name 3 3 [])
     ∷ Err refusal.Full ∷ [])
@@ -41,7 +42,13 @@ scaled = refl
 -- a stream with limits, whose shard has a record of 1,048,575 payload bytes and a key of one
 filled : Journal
 filled =
-    record { clock = 5000; by = 0; what = entry.Put 1 0 1 0x0cc175b9c0f1b6a831c399e269772661 1048575 1; key = 97 ∷ []; payload = [] }
+    record {
+      clock = 5000;
+      by = 0;
+      what = entry.Put 1 0 1 0x0cc175b9c0f1b6a831c399e269772661 1048575 1;
+      key = 97 ∷ [];
+      payload = [];
+    }
     ∷ plain_line 5000 0 (entry.Enforced 1 true)
     ∷ plain_line 1000 0 (entry.Made 1 (115 ∷ []) 1)
     ∷ []
@@ -64,7 +71,8 @@ enforced : answers [] (
     ∷ turn 5000 (command.Enforce (116 ∷ []) true) ∷ [])
     ≡ (Ok reply.Done
     ∷ Ok reply.Done
-    ∷ Ok (reply.PutMany (outcome.Stored (record { shard = 0; seq = 1 }) ∷ outcome.Stored (record { shard = 0; seq = 2 }) ∷ []))
+    ∷ Ok (reply.PutMany (outcome.Stored (record { shard = 0; seq = 1 }) ∷ outcome.Stored (record { shard = 0; seq = 2 })
+    ∷ []))
     ∷ Err refusal.NoStream ∷ [])
 unfolding refuse◌if◌else◌ with◌or◌then◌ turn name item
 enforced = refl

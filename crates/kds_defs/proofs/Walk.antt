@@ -1,6 +1,7 @@
 -- The walk through the commands, once: what each leads to is a refusal, a reply without lines, one line, the lines of
 -- puts, or those of a scaling. What is shown of every command is shown of these.
-use Rattle.std.proofs.Common.{◌≡◌, ◌⊎◌, inl, inr, ℕ, Bool, true, false, List, [], ◌∷◌, map, length, Option, Some, None, refl, subst}
+use Rattle.std.proofs.Common.{◌≡◌, ◌⊎◌, inl, inr, ℕ, Bool, true, false, List, [], ◌∷◌, map, length, Option, Some, None}
+use Rattle.std.proofs.Common.{refl, subst}
 use Rattle.std.specs.Prelude.{◌+◌, ◌==◌, ◌&&◌, ◌||◌, not, nat_lt, Result, Ok, Err, if◌then◌else◌}
 use Rattle.std.specs.List.{AllByRecursion}
 use Rattle.kds_base.specs.declared.lease_key.ShardRef.{ShardRef}
@@ -59,8 +60,10 @@ pub data Shows (log : Journal) : Command → Reply → Type 0 where
   Sums_up : (name : List ℕ) (about : About) (count : ℕ) → Shows log (command.Summary name) (reply.Summary about count)
   Lists_shards : (name : List ℕ) (after : Option ℕ) (limit : ℕ) (xs : List Shard) (next : Option Page)
       → Shows log (command.Shards name after limit) (reply.Shards xs next)
-  Goes_on : (page : Page) (limit : ℕ) (xs : List Shard) (next : Option Page) → Shows log (command.More page limit) (reply.Shards xs next)
-  Begins : (name : List ℕ) (sh : ℕ) (from : Start) (iter : Iter) → Shows log (command.GetIterator name sh from) (reply.Iterator iter)
+  Goes_on : (page : Page) (limit : ℕ) (xs : List Shard) (next : Option Page)
+      → Shows log (command.More page limit) (reply.Shards xs next)
+  Begins : (name : List ℕ) (sh : ℕ) (from : Start) (iter : Iter)
+      → Shows log (command.GetIterator name sh from) (reply.Iterator iter)
   Gets : (iter : Iter) (limit : ℕ) (rs : List Stored) (next : Option Iter) (late : ℕ) (xs : List Shard) → AreRead log rs
       → Shows log (command.Records iter limit) (reply.Records rs next late xs)
   Surveys : (keys : List ShardRef) (rows : List Row) → Shows log command.Survey (reply.Survey keys rows)
@@ -68,47 +71,63 @@ pub data Shows (log : Journal) : Command → Reply → Type 0 where
 -- a command that adds one line, this line, and its reply; with what it passed so far as proofs cite it
 pub data Tells (log : Journal) (c by : ℕ) : Command → Line → Reply → Type 0 where
   Creates : (name : List ℕ) (count : ℕ) → (made_count log == last_number) ≡ false
-      → Tells log c by (command.Create name count) (plain_line c by (entry.Made (made_count log + 1) name count)) reply.Done
+      → Tells log c by (command.Create name count) (plain_line c by (entry.Made (made_count log + 1) name count))
+      reply.Done
   Deletes : (name : List ℕ) (s : ℕ) → stream_named log name ≡ Some s
       → Tells log c by (command.Delete name) (plain_line c by (entry.Gone s)) reply.Done
-  Puts : (name : List ℕ) (item : NewItem) (s : ℕ) → stream_named log name ≡ Some s → (next_number log s == last_number) ≡ false
-      → Tells log c by (command.Put name item) (put_line log c by s (next_number log s) item) (reply.Put (put_place log s (next_number log s) item))
+  Puts : (name : List ℕ) (item : NewItem) (s : ℕ) → stream_named log name ≡ Some s
+      → (next_number log s == last_number) ≡ false
+      → Tells log c by (command.Put name item) (put_line log c by s (next_number log s) item)
+      (reply.Put (put_place log s (next_number log s) item))
   Splits : (name : List ℕ) (sh at s : ℕ) → stream_named log name ≡ Some s → not (is_listed log c s sh) ≡ false
       → (nat_lt last_number (length (shards log s) + 1) || next_number log s == last_number) ≡ false
       → Tells log c by (command.Split name sh at)
-      (plain_line c by (entry.Split s sh at (next_number log s) (length (shards log s)) (length (shards log s) + 1))) reply.Done
-  Merges : (name : List ℕ) (sh other s : ℕ) → stream_named log name ≡ Some s → not (is_listed log c s sh && is_listed log c s other) ≡ false
+      (plain_line c by (entry.Split s sh at (next_number log s) (length (shards log s)) (length (shards log s) + 1)))
+      reply.Done
+  Merges : (name : List ℕ) (sh other s : ℕ) → stream_named log name ≡ Some s
+      → not (is_listed log c s sh && is_listed log c s other) ≡ false
       → (nat_lt last_number (length (shards log s)) || next_number log s == last_number) ≡ false
-      → Tells log c by (command.Merge name sh other) (plain_line c by (entry.Merged s sh other (next_number log s) (length (shards log s)))) reply.Done
+      → Tells log c by (command.Merge name sh other)
+      (plain_line c by (entry.Merged s sh other (next_number log s) (length (shards log s)))) reply.Done
   Keeps : (name : List ℕ) (wanted : ℕ) (raise : Bool) (s : ℕ) → stream_named log name ≡ Some s
       → (if raise then nat_lt wanted (hours log s) else nat_lt (hours log s) wanted) ≡ false
       → Tells log c by (command.Keep name wanted raise) (plain_line c by (entry.Kept s wanted)) reply.Done
   Enforces : (name : List ℕ) (on : Bool) (s : ℕ) → stream_named log name ≡ Some s
       → Tells log c by (command.Enforce name on) (plain_line c by (entry.Enforced s on)) reply.Done
   Makes : (key : ShardRef) (from : Origin)
-      → Tells log c by (command.MakeLease key from) (plain_line c by (entry.LeaseMade key (counting_origin log key from)))
+      → Tells log c by (command.MakeLease key from)
+      (plain_line c by (entry.LeaseMade key (counting_origin log key from)))
       (reply.Leased (counting_origin log key from))
   Takes : (key : ShardRef) (counter owner : ℕ) (r : Row) → row log key ≡ Some r → not (r.counter == counter) ≡ false
       → (r.counter == last_number || taken_count log == last_number) ≡ false
-      → Tells log c by (command.Take key counter owner) (plain_line c by (entry.Taken key (taken_count log + 1) (r.counter + 1) owner))
+      → Tells log c by (command.Take key counter owner)
+      (plain_line c by (entry.Taken key (taken_count log + 1) (r.counter + 1) owner))
       (reply.Taken (taken_count log + 1) (r.counter + 1) r.checkpoint)
-  Renews : (t counter : ℕ) (T : TenureState) → tenure log t ≡ Some T → not (counter_in (row log T.key) == counter) ≡ false
+  Renews : (t counter : ℕ) (T : TenureState) → tenure log t ≡ Some T
+      → not (counter_in (row log T.key) == counter) ≡ false
       → (counter_in (row log T.key) == last_number) ≡ false
-      → Tells log c by (command.Renew t counter) (plain_line c by (entry.Renewed t (counter + 1))) (reply.Counter (counter + 1))
-  Frees : (t counter : ℕ) (T : TenureState) → tenure log t ≡ Some T → not (counter_in (row log T.key) == counter) ≡ false
+      → Tells log c by (command.Renew t counter) (plain_line c by (entry.Renewed t (counter + 1)))
+      (reply.Counter (counter + 1))
+  Frees : (t counter : ℕ) (T : TenureState) → tenure log t ≡ Some T
+      → not (counter_in (row log T.key) == counter) ≡ false
       → (counter_in (row log T.key) == last_number) ≡ false
-      → Tells log c by (command.Free t counter) (plain_line c by (entry.Freed t (counter + 1))) (reply.Counter (counter + 1))
+      → Tells log c by (command.Free t counter) (plain_line c by (entry.Freed t (counter + 1)))
+      (reply.Counter (counter + 1))
   Opens : (t : ℕ) → Tells log c by (command.OpenShard t) (plain_line c by (entry.Opened t)) reply.Done
-  Reads : (t position limit : ℕ) (T : TenureState) (place : ℕ) (ended : Bool) → tenure log t ≡ Some T → not (position == reach T) ≡ false
+  Reads : (t position limit : ℕ) (T : TenureState) (place : ℕ) (ended : Bool) → tenure log t ≡ Some T
+      → not (position == reach T) ≡ false
       → Tells log c by (command.Read t position limit)
       (plain_line c by (entry.Read t limit ended (numbers_of (batch log c T.key.stream T.key.shard (reach T) limit))))
       (reply.Read (map stored (batch log c T.key.stream T.key.shard (reach T) limit)) place ended)
   Gives : (t : ℕ) (T : TenureState) → tenure log t ≡ Some T
       → Tells log c by (command.Give t) (plain_line c by (entry.Given t)) (reply.Given (delivered (with_given T)))
-  Marks : (t counter : ℕ) (to : Target) (T : TenureState) → tenure log t ≡ Some T → not (counter_in (row log T.key) == counter) ≡ false
+  Marks : (t counter : ℕ) (to : Target) (T : TenureState) → tenure log t ≡ Some T
+      → not (counter_in (row log T.key) == counter) ≡ false
       → (counter_in (row log T.key) == last_number) ≡ false
-      → Tells log c by (command.Mark t counter to) (plain_line c by (entry.Marked t (counter + 1) to)) (reply.Counter (counter + 1))
-  Cuts : (key : ShardRef) (counter : ℕ) → Tells log c by (command.CutLease key counter) (plain_line c by (entry.LeaseCut key counter)) reply.Done
+      → Tells log c by (command.Mark t counter to) (plain_line c by (entry.Marked t (counter + 1) to))
+      (reply.Counter (counter + 1))
+  Cuts : (key : ShardRef) (counter : ℕ)
+      → Tells log c by (command.CutLease key counter) (plain_line c by (entry.LeaseCut key counter)) reply.Done
 
 -- a refusal of the service's to a command that asks it, one of the leases' to any other
 abbrev pub may_refuse : Command → Refusal → Bool
@@ -118,15 +137,19 @@ may_refuse what r = if is_service what then is_service_refusal r else is_lease_r
 pub data Outcome (log : Journal) (c by : ℕ) : Command → List Line → Result Reply Refusal → Type 0 where
   Refuses : (what : Command) (r : Refusal) → may_refuse what r ≡ true → Outcome log c by what [] (Err r)
   Answers : (what : Command) (r : Reply) → Shows log what r → Outcome log c by what [] (Ok r)
-  Adds : (what : Command) (line : Line) (r : Reply) → Tells log c by what line r → Outcome log c by what (line ∷ []) (Ok r)
+  Adds : (what : Command) (line : Line) (r : Reply) → Tells log c by what line r
+      → Outcome log c by what (line ∷ []) (Ok r)
   Stores : (name : List ℕ) (items : List NewItem) (s : ℕ) → stream_named log name ≡ Some s
       → nat_lt last_number (next_number log s + length (put_lines log c by s items)) ≡ false
-      → Outcome log c by (command.PutMany name items) (put_lines log c by s items) (Ok (reply.PutMany (put_outcomes log c by s items)))
-  Scales : (name : List ℕ) (goal s : ℕ) → stream_named log name ≡ Some s → nat_lt OPEN_SHARDS (open_elsewhere log s + goal) ≡ false
+      → Outcome log c by (command.PutMany name items) (put_lines log c by s items)
+      (Ok (reply.PutMany (put_outcomes log c by s items)))
+  Scales : (name : List ℕ) (goal s : ℕ) → stream_named log name ≡ Some s
+      → nat_lt OPEN_SHARDS (open_elsewhere log s + goal) ≡ false
       → (nat_lt last_number (next_number log s + length (steps_to log s goal))
       || nat_lt last_number (length (shards log s) + made_by (steps_to log s goal))) ≡ false
       → Outcome log c by (command.Scale name goal) (step_lines log c by s (steps_to log s goal))
-      (Ok (reply.Scaled name (length (open_shards log s)) goal (map (λ line. line.what) (step_lines log c by s (steps_to log s goal)))))
+      (Ok (reply.Scaled name (length (open_shards log s)) goal
+      (map (λ line. line.what) (step_lines log c by s (steps_to log s goal)))))
 
 -- ---- the walk
 
@@ -134,7 +157,8 @@ module _ (log : Journal) (c by : ℕ) where
   Is : Command → List Line → Result Reply Refusal → Type 0
   Is what = Outcome log c by what
 
-  no : (what : Command) (r : Refusal) (b : Bool) (d : Decision) → may_refuse what r ≡ true → (b ≡ false → Leads (Is what) d)
+  no : (what : Command) (r : Refusal) (b : Bool) (d : Decision) → may_refuse what r ≡ true
+      → (b ≡ false → Leads (Is what) d)
       → Leads (Is what) (refuse r if b else d)
   unfolding Is
   no what r b d may next = if_refused (Is what) r b d (Refuses what r may) next
@@ -148,11 +172,13 @@ module _ (log : Journal) (c by : ℕ) where
   unfolding Is
   answer what r is = Answers what r is
 
-  one : (what : Command) (line : Line) (r : Reply) → Tells log c by what line r → Leads (Is what) (Accepted (line ∷ []) r)
+  one : (what : Command) (line : Line) (r : Reply) → Tells log c by what line r
+      → Leads (Is what) (Accepted (line ∷ []) r)
   unfolding Is
   one what line r tells = Adds what line r tells
 
-  either : (what : Command) (b : Bool) (x y : Reply) → Shows log what x → Shows log what y → Leads (Is what) (Accepted [] (if b then x else y))
+  either : (what : Command) (b : Bool) (x y : Reply) → Shows log what x → Shows log what y
+      → Leads (Is what) (Accepted [] (if b then x else y))
   either what true x y is other = answer what x is
   either what false x y is other = answer what y other
 
@@ -160,18 +186,21 @@ module _ (log : Journal) (c by : ℕ) where
   are_read s sh place limit = record { clock = c; stream = s; shard = sh; place = place; limit = limit; are = refl }
 
   records : (iter : Iter) (limit place : ℕ)
-      → Leads (Is (command.Records iter limit)) (records_reply log c iter.stream iter.shard (batch log c iter.stream iter.shard iter.position limit) place)
+      → Leads (Is (command.Records iter limit))
+      (records_reply log c iter.stream iter.shard (batch log c iter.stream iter.shard iter.position limit) place)
   records iter limit place =
       let rs : List Stored = map stored (batch log c iter.stream iter.shard iter.position limit) in
       let late = behind c (left_from log c iter.stream iter.shard place) in
       let are = are_read iter.stream iter.shard iter.position limit in
       either (command.Records iter limit) (ends_at log c iter.stream iter.shard place)
       (reply.Records rs None late (map shown (children log iter.stream iter.shard)))
-      (reply.Records rs (Some (iterator_at c iter.stream iter.shard place)) late []) (Gets iter limit rs _ _ _ are) (Gets iter limit rs _ _ _ are)
+      (reply.Records rs (Some (iterator_at c iter.stream iter.shard place)) late []) (Gets iter limit rs _ _ _ are)
+      (Gets iter limit rs _ _ _ are)
 
   led : (what : Command) → Leads (Is what) (decide log c by what)
   unfolding Is
-  led (command.Create name count) = no _ _ _ _ refl (λ a. no _ _ _ _ refl (λ b. no _ _ _ _ refl (λ fits. one _ _ _ (Creates name count fits))))
+  led (command.Create name count) =
+      no _ _ _ _ refl (λ a. no _ _ _ _ refl (λ b. no _ _ _ _ refl (λ fits. one _ _ _ (Creates name count fits))))
   led (command.Delete name) = on _ _ _ _ refl (λ s named. one _ _ _ (Deletes name s named))
   led (command.Streams after limit) = answer _ _ (Lists_streams after limit _ _)
   led (command.Describe name after limit) = on _ _ _ _ refl (λ s named. answer _ _ (Describes name after limit _ _ _))
@@ -179,18 +208,28 @@ module _ (log : Journal) (c by : ℕ) where
   led (command.Shards name after limit) = on _ _ _ _ refl (λ s named. answer _ _ (Lists_shards name after limit _ _))
   led (command.More page limit) = no _ _ _ _ refl (λ a. no _ _ _ _ refl (λ b. answer _ _ (Goes_on page limit _ _)))
   led (command.GetIterator name sh from) =
-      on _ _ _ _ refl (λ s named. no _ _ _ _ refl (λ a. on _ _ _ _ refl (λ x at. no _ _ _ _ refl (λ b. answer _ _ (Begins name sh from _)))))
-  led (command.Records iter limit) = no _ _ _ _ refl (λ a. no _ _ _ _ refl (λ b. no _ _ _ _ refl (λ d. records iter limit _)))
-  led (command.Put name item) = on _ _ _ _ refl (λ s named. no _ _ _ _ refl (λ a. no _ _ _ _ refl (λ fits. one _ _ _ (Puts name item s named fits))))
-  led (command.PutMany name items) = on _ _ _ _ refl (λ s named. no _ _ _ _ refl (λ fits. Stores name items s named fits))
+      on _ _ _ _ refl (λ s named.
+      no _ _ _ _ refl (λ a. on _ _ _ _ refl (λ x at. no _ _ _ _ refl (λ b. answer _ _ (Begins name sh from _)))))
+  led (command.Records iter limit) =
+      no _ _ _ _ refl (λ a. no _ _ _ _ refl (λ b. no _ _ _ _ refl (λ d. records iter limit _)))
+  led (command.Put name item) =
+      on _ _ _ _ refl (λ s named.
+      no _ _ _ _ refl (λ a. no _ _ _ _ refl (λ fits. one _ _ _ (Puts name item s named fits))))
+  led (command.PutMany name items) =
+      on _ _ _ _ refl (λ s named. no _ _ _ _ refl (λ fits. Stores name items s named fits))
   led (command.Split name sh at) =
-      on _ _ _ _ refl (λ s named. no _ _ _ _ refl (λ listed. no _ _ _ _ refl (λ a. no _ _ _ _ refl (λ b. no _ _ _ _ refl (λ d. no _ _ _ _ refl (λ fits.
+      on _ _ _ _ refl (λ s named.
+      no _ _ _ _ refl (λ listed.
+      no _ _ _ _ refl (λ a. no _ _ _ _ refl (λ b. no _ _ _ _ refl (λ d. no _ _ _ _ refl (λ fits.
       one _ _ _ (Splits name sh at s named listed fits)))))))
   led (command.Merge name sh other) =
-      on _ _ _ _ refl (λ s named. no _ _ _ _ refl (λ listed. no _ _ _ _ refl (λ a. no _ _ _ _ refl (λ b. no _ _ _ _ refl (λ fits.
+      on _ _ _ _ refl (λ s named.
+      no _ _ _ _ refl (λ listed. no _ _ _ _ refl (λ a. no _ _ _ _ refl (λ b. no _ _ _ _ refl (λ fits.
       one _ _ _ (Merges name sh other s named listed fits))))))
-  led (command.Keep name wanted raise) = on _ _ _ _ refl (λ s named. no _ _ _ _ refl (λ fits. one _ _ _ (Keeps name wanted raise s named fits)))
-  led (command.Scale name goal) = on _ _ _ _ refl (λ s named. no _ _ _ _ refl (λ few. no _ _ _ _ refl (λ fits. Scales name goal s named few fits)))
+  led (command.Keep name wanted raise) =
+      on _ _ _ _ refl (λ s named. no _ _ _ _ refl (λ fits. one _ _ _ (Keeps name wanted raise s named fits)))
+  led (command.Scale name goal) =
+      on _ _ _ _ refl (λ s named. no _ _ _ _ refl (λ few. no _ _ _ _ refl (λ fits. Scales name goal s named few fits)))
   led (command.Enforce name is) = on _ _ _ _ refl (λ s named. one _ _ _ (Enforces name is s named))
   led command.Survey = answer _ _ (Surveys _ _)
   led (command.MakeLease key from) = no _ _ _ _ refl (λ a. no _ _ _ _ refl (λ b. one _ _ _ (Makes key from)))
@@ -198,32 +237,44 @@ module _ (log : Journal) (c by : ℕ) where
       on _ _ _ _ refl (λ r there. no _ _ _ _ refl (λ same. no _ _ _ _ refl (λ a. no _ _ _ _ refl (λ fits.
       one _ _ _ (Takes key counter owner r there same fits)))))
   led (command.Renew t counter) =
-      on _ _ _ _ refl (λ T begun. no _ _ _ _ refl (λ a. no _ _ _ _ refl (λ b. no _ _ _ _ refl (λ same. no _ _ _ _ refl (λ fits.
+      on _ _ _ _ refl (λ T begun.
+      no _ _ _ _ refl (λ a. no _ _ _ _ refl (λ b. no _ _ _ _ refl (λ same. no _ _ _ _ refl (λ fits.
       one _ _ _ (Renews t counter T begun same fits))))))
   led (command.Free t counter) =
-      on _ _ _ _ refl (λ T begun. no _ _ _ _ refl (λ a. no _ _ _ _ refl (λ b. no _ _ _ _ refl (λ same. no _ _ _ _ refl (λ fits.
+      on _ _ _ _ refl (λ T begun.
+      no _ _ _ _ refl (λ a. no _ _ _ _ refl (λ b. no _ _ _ _ refl (λ same. no _ _ _ _ refl (λ fits.
       one _ _ _ (Frees t counter T begun same fits))))))
   led (command.OpenShard t) =
-      let opened : Leads (Is (command.OpenShard t)) (Accepted (plain_line c by (entry.Opened t) ∷ []) reply.Done) = one _ _ _ (Opens t) in
-      on _ _ _ _ refl (λ T begun. no _ _ _ _ refl (λ a. no _ _ _ _ refl (λ b. no _ _ _ _ refl (λ d. no _ _ _ _ refl (λ e.
-      past_the_parents (Is (command.OpenShard t)) (Refuses (command.OpenShard t)) log c T.key.stream (shard_at log T.key.stream T.key.shard)
+      let opened : Leads (Is (command.OpenShard t)) (Accepted (plain_line c by (entry.Opened t) ∷ []) reply.Done) =
+      one _ _ _ (Opens t) in
+      on _ _ _ _ refl (λ T begun.
+      no _ _ _ _ refl (λ a. no _ _ _ _ refl (λ b. no _ _ _ _ refl (λ d. no _ _ _ _ refl (λ e.
+      past_the_parents (Is (command.OpenShard t)) (Refuses (command.OpenShard t)) log c T.key.stream
+      (shard_at log T.key.stream T.key.shard)
       (Accepted (plain_line c by (entry.Opened t) ∷ []) reply.Done) opened)))))
   led (command.Read t position limit) =
-      on _ _ _ _ refl (λ T begun. no _ _ _ _ refl (λ a. no _ _ _ _ refl (λ b. no _ _ _ _ refl (λ d. no _ _ _ _ refl (λ e. no _ _ _ _ refl (λ same.
+      on _ _ _ _ refl (λ T begun.
+      no _ _ _ _ refl (λ a.
+      no _ _ _ _ refl (λ b. no _ _ _ _ refl (λ d. no _ _ _ _ refl (λ e. no _ _ _ _ refl (λ same.
       one _ _ _ (Reads t position limit T _ _ begun same)))))))
-  led (command.Give t) = on _ _ _ _ refl (λ T begun. no _ _ _ _ refl (λ a. no _ _ _ _ refl (λ b. one _ _ _ (Gives t T begun))))
+  led (command.Give t) =
+      on _ _ _ _ refl (λ T begun. no _ _ _ _ refl (λ a. no _ _ _ _ refl (λ b. one _ _ _ (Gives t T begun))))
   led (command.Mark t counter to) =
       on _ _ _ _ refl (λ T begun. no _ _ _ _ refl (λ a. no _ _ _ _ refl (λ b. no _ _ _ _ refl (λ same.
-      past_the_target (Is (command.Mark t counter to)) (Refuses (command.Mark t counter to)) log T to _ (no _ _ _ _ refl (λ fits.
+      past_the_target (Is (command.Mark t counter to)) (Refuses (command.Mark t counter to)) log T to _
+      (no _ _ _ _ refl (λ fits.
       one _ _ _ (Marks t counter to T begun same fits)))))))
-  led (command.CutLease key counter) = on _ _ _ _ refl (λ r there. no _ _ _ _ refl (λ a. no _ _ _ _ refl (λ b. one _ _ _ (Cuts key counter))))
+  led (command.CutLease key counter) =
+      on _ _ _ _ refl (λ r there. no _ _ _ _ refl (λ a. no _ _ _ _ refl (λ b. one _ _ _ (Cuts key counter))))
 
-  pub walk : (what : Command) → Outcome log c by what (lines_of (decide log c by what)) (answer_of (decide log c by what))
+  pub walk : (what : Command)
+      → Outcome log c by what (lines_of (decide log c by what)) (answer_of (decide log c by what))
   unfolding Is
   walk what = leads_so (Is what) (decide log c by what) (led what)
 
   -- the same of a command that was accepted
-  pub accepted : (what : Command) (lines : List Line) (r : Reply) → decide log c by what ≡ Accepted lines r → Outcome log c by what lines (Ok r)
+  pub accepted : (what : Command) (lines : List Line) (r : Reply) → decide log c by what ≡ Accepted lines r
+      → Outcome log c by what lines (Ok r)
   unfolding Is
   accepted what lines r is = subst (Leads (Is what)) is (led what)
 
@@ -234,7 +285,8 @@ abbrev pub IsAmong : List NewItem → NewItem → Type 0
 IsAmong [] item = ⊥
 IsAmong (x ∷ items) item = (x ≡ item) ⊎ IsAmong items item
 
-pub of_all : (P : NewItem → Type 0) (items : List NewItem) (item : NewItem) → IsAmong items item → AllByRecursion P items → P item
+pub of_all : (P : NewItem → Type 0) (items : List NewItem) (item : NewItem) → IsAmong items item
+    → AllByRecursion P items → P item
 of_all P [] item among all = absurd among
 of_all P (x ∷ items) item (inl same) all = subst P same all.0
 of_all P (x ∷ items) item (inr among) all = of_all P items item among all.1
@@ -242,7 +294,8 @@ of_all P (x ∷ items) item (inr among) all = of_all P items item among all.1
 -- a line that a command adds: the one that it tells, the line of an item of many, a merge or a split of a scaling
 pub data IsAdded (log : Journal) (c by : ℕ) : Command → Line → Type 0 where
   Alone : (what : Command) (line : Line) (r : Reply) → Tells log c by what line r → IsAdded log c by what line
-  Stored_one : (name : List ℕ) (items : List NewItem) (before : Journal) (s number : ℕ) (item : NewItem) → IsAmong items item
+  Stored_one : (name : List ℕ) (items : List NewItem) (before : Journal) (s number : ℕ) (item : NewItem)
+      → IsAmong items item
       → IsAdded log c by (command.PutMany name items) (put_line before c by s number item)
   Joined : (name : List ℕ) (goal s sh other number child : ℕ)
       → IsAdded log c by (command.Scale name goal) (plain_line c by (entry.Merged s sh other number child))
@@ -250,27 +303,34 @@ pub data IsAdded (log : Journal) (c by : ℕ) : Command → Line → Type 0 wher
       → IsAdded log c by (command.Scale name goal) (plain_line c by (entry.Split s sh at number low high))
 
 module _ (P : Line → Type 0) (c by s : ℕ) where
-  pub each_put : (items : List NewItem) (log : Journal) → ((before : Journal) (n : ℕ) (item : NewItem) → IsAmong items item → P (put_line before c by s n item))
+  pub each_put : (items : List NewItem) (log : Journal)
+      → ((before : Journal) (n : ℕ) (item : NewItem) → IsAmong items item → P (put_line before c by s n item))
       → AllByRecursion P (put_lines log c by s items)
   each_put [] log each = tt
   each_put (item ∷ items) log each =
       let line : Line = put_line log c by s (next_number log s) item in
-      let rest : (before : Journal) → AllByRecursion P (put_lines before c by s items) = λ before. each_put items before (λ b n x is. each b n x (inr is)) in
-      kept (is_held_back log c s item) line _ _ (each log (next_number log s) item (inl refl)) (rest log) (rest (line ∷ log))
+      let rest : (before : Journal) → AllByRecursion P (put_lines before c by s items) =
+      λ before. each_put items before (λ b n x is. each b n x (inr is)) in
+      kept (is_held_back log c s item) line _ _ (each log (next_number log s) item (inl refl)) (rest log)
+      (rest (line ∷ log))
     where
       kept : (back : Bool) (line : Line) (xs ys : List Line) → P line → AllByRecursion P xs → AllByRecursion P ys
           → AllByRecursion P (if back then xs else line ∷ ys)
       kept true line xs ys is skip take = skip
       kept false line xs ys is skip take = (is, take)
 
-  pub each_step : (steps : List ScaleStep) (log : Journal) → ((sh other n child : ℕ) → P (plain_line c by (entry.Merged s sh other n child)))
-      → ((sh at n low high : ℕ) → P (plain_line c by (entry.Split s sh at n low high))) → AllByRecursion P (step_lines log c by s steps)
+  pub each_step : (steps : List ScaleStep) (log : Journal)
+      → ((sh other n child : ℕ) → P (plain_line c by (entry.Merged s sh other n child)))
+      → ((sh at n low high : ℕ) → P (plain_line c by (entry.Split s sh at n low high)))
+      → AllByRecursion P (step_lines log c by s steps)
   each_step [] log joined divided = tt
   each_step (Join b ∷ steps) log joined divided = (joined _ _ _ _, each_step steps _ joined divided)
   each_step (Cut b ∷ steps) log joined divided = (divided _ _ _ _ _, each_step steps _ joined divided)
 
-each_of : (P : Line → Type 0) (log : Journal) (c by : ℕ) (what : Command) (lines : List Line) (answer : Result Reply Refusal)
-    → Outcome log c by what lines answer → ((line : Line) → IsAdded log c by what line → P line) → AllByRecursion P lines
+each_of : (P : Line → Type 0) (log : Journal) (c by : ℕ) (what : Command) (lines : List Line)
+    (answer : Result Reply Refusal)
+    → Outcome log c by what lines answer → ((line : Line) → IsAdded log c by what line → P line)
+    → AllByRecursion P lines
 each_of P log c by _ _ _ (Refuses what r may) each = tt
 each_of P log c by _ _ _ (Answers what r is) each = tt
 each_of P log c by _ _ _ (Adds what line r tells) each = (each line (Alone what line r tells), tt)
@@ -281,24 +341,28 @@ each_of P log c by _ _ _ (Scales name goal s named few fits) each =
     (λ sh at n low high. each _ (Divided name goal s sh at n low high))
 
 -- a command that asks adds no line
-idle : (log : Journal) (c by : ℕ) (what : Command) (lines : List Line) (answer : Result Reply Refusal) → Outcome log c by what lines answer
+idle : (log : Journal) (c by : ℕ) (what : Command) (lines : List Line) (answer : Result Reply Refusal)
+    → Outcome log c by what lines answer
     → is_query what ≡ true → lines ≡ []
 idle log c by _ _ _ (Refuses what r may) query = refl
 idle log c by _ _ _ (Answers what r shows) query = refl
 idle log c by _ _ _ (Adds _ _ _ (Creates name count fits)) query = absurd cc
 idle log c by _ _ _ _ query = absurd cc
 
-pub query_idle : (log : Journal) (c by : ℕ) (what : Command) → is_query what ≡ true → lines_of (decide log c by what) ≡ []
+pub query_idle : (log : Journal) (c by : ℕ) (what : Command) → is_query what ≡ true
+    → lines_of (decide log c by what) ≡ []
 query_idle log c by what = idle log c by what _ _ (walk log c by what)
 
 -- what holds of each line that a command may add holds of the lines that it adds
-pub each_line : (P : Line → Type 0) (log : Journal) (c by : ℕ) (what : Command) → ((line : Line) → IsAdded log c by what line → P line)
+pub each_line : (P : Line → Type 0) (log : Journal) (c by : ℕ) (what : Command)
+    → ((line : Line) → IsAdded log c by what line → P line)
     → AllByRecursion P (lines_of (decide log c by what))
 each_line P log c by what each = each_of P log c by what _ _ (walk log c by what) each
 
 -- ---- the lines of a journal
 
-pub all_with : (P : Line → Type 0) (lines : List Line) (log : Journal) → AllByRecursion P lines → AllByRecursion P log → AllByRecursion P (with_lines lines log)
+pub all_with : (P : Line → Type 0) (lines : List Line) (log : Journal) → AllByRecursion P lines → AllByRecursion P log
+    → AllByRecursion P (with_lines lines log)
 all_with P [] log new old = old
 all_with P (line ∷ lines) log new old = all_with P lines (line ∷ log) new.1 (new.0, old)
 
@@ -309,5 +373,6 @@ pub each_journal : (P : Line → Type 0) (Q : Turn → Type 0)
 each_journal P Q each [] are = tt
 each_journal P Q each (turn ∷ h) are =
     let d = decision (journal h) (clock (turn ∷ h)) turn in
-    all_with P (lines_of d) (journal h) (each_line P (journal h) (clock (turn ∷ h)) turn.by turn.what (each (journal h) (clock (turn ∷ h)) turn are.0))
+    all_with P (lines_of d) (journal h)
+    (each_line P (journal h) (clock (turn ∷ h)) turn.by turn.what (each (journal h) (clock (turn ∷ h)) turn are.0))
     (each_journal P Q each h are.1)

@@ -8,7 +8,8 @@ use Rattle.kds_defs.specs.declared.reply.Refusal.TheVariants as refusal
 use Rattle.kds_defs.specs.declared.reply.Reply.{Reply}
 use Rattle.kds_defs.specs.Decision.{Decision, Refused, Accepted, with◌or◌then◌}
 use Rattle.kds_defs.specs.Journal.{Line, Journal, with_lines}
-use Rattle.kds_defs.specs.LeaseCommands.{survey, make_lease, take_lease, renew, free, open_shard, read, give, mark, cut_lease}
+use Rattle.kds_defs.specs.LeaseCommands.{survey, make_lease, take_lease, renew, free, open_shard, read, give, mark}
+use Rattle.kds_defs.specs.LeaseCommands.{cut_lease}
 use Rattle.kds_defs.specs.Listings.{streams, describe, summary, list_shards, more, get_iterator, get_records}
 use Rattle.kds_defs.specs.StreamCommands.{create, delete, split, merge, keep}
 use Rattle.kds_defs.specs.PutCommands.{enforce, put, put_many}

@@ -31,10 +31,12 @@ reach_in (Some T) = reach T
 abbrev pub told : Journal → Line → Entry → Decision
 told log line (entry.Made s name count) = create log line.clock line.by name count
 told log line (entry.Gone s) = in_stream log s (delete log line.clock line.by s)
-told log line (entry.Put s sh number hash bytes key_bytes) = in_stream log s (put log line.clock line.by s (item_of line hash))
+told log line (entry.Put s sh number hash bytes key_bytes) =
+    in_stream log s (put log line.clock line.by s (item_of line hash))
 told log line (entry.Split s sh at number low high) = in_stream log s (split log line.clock line.by s sh at)
 told log line (entry.Merged s sh other number child) = in_stream log s (merge log line.clock line.by s sh other)
-told log line (entry.Kept s wanted) = in_stream log s (keep log line.clock line.by s wanted (not (nat_lt wanted (hours log s))))
+told log line (entry.Kept s wanted) =
+    in_stream log s (keep log line.clock line.by s wanted (not (nat_lt wanted (hours log s))))
 told log line (entry.Enforced s on) = in_stream log s (enforce log line.clock line.by s on)
 told log line (entry.LeaseMade key from) = make_lease log line.clock line.by key from
 told log line (entry.Taken key t counter owner) = take_lease log line.clock line.by key (counter - 1) owner

@@ -1,5 +1,6 @@
 -- The commands that read streams: their refusals in order, and their replies.
-use Rattle.std.specs.Prelude.{ℕ, ◌+◌, ◌-◌, Bool, true, false, ◌&&◌, not, is_none, nat_le, nat_lt, if◌then◌else◌, List, [], ◌∷◌, ◌++◌, length, map, take, Option, Some, None}
+use Rattle.std.specs.Prelude.{ℕ, ◌+◌, ◌-◌, Bool, true, false, ◌&&◌, not, is_none, nat_le, nat_lt, if◌then◌else◌, List}
+use Rattle.std.specs.Prelude.{[], ◌∷◌, ◌++◌, length, map, take, Option, Some, None}
 use Rattle.std.specs.List.{filter}
 use Rattle.std.specs.Cmp.Lexicographic.{slice_cmp}
 use Rattle.std.specs.Ordering.{nat_cmp}
@@ -72,7 +73,8 @@ shards_from log c s after = map shown (filter (is_after_shard after) (listed_sha
 
 abbrev pub describe : Journal → ℕ → ℕ → Option ℕ → ℕ → Decision
 describe log c s after limit =
-    Accepted [] (reply.Described (about log s) (take limit (shards_from log c s after)) (are_more limit (shards_from log c s after)))
+    Accepted [] (reply.Described (about log s) (take limit (shards_from log c s after))
+    (are_more limit (shards_from log c s after)))
 
 abbrev pub summary : Journal → ℕ → Decision
 summary log s = Accepted [] (reply.Summary (about log s) (length (open_shards log s)))

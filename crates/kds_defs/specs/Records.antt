@@ -1,5 +1,6 @@
 -- The sequence numbers of a stream, and the records of its shards.
-use Rattle.std.specs.Prelude.{ℕ, zero, suc, ◌+◌, ◌-◌, ◌==◌, ◌&&◌, not, nat_le, nat_lt, if◌then◌else◌, Bool, List, [], ◌∷◌, ◌++◌, length, map}
+use Rattle.std.specs.Prelude.{ℕ, zero, suc, ◌+◌, ◌-◌, ◌==◌, ◌&&◌, not, nat_le, nat_lt, if◌then◌else◌, Bool, List, []}
+use Rattle.std.specs.Prelude.{◌∷◌, ◌++◌, length, map}
 use Rattle.std.specs.List.{filter}
 use Rattle.kds_defs.specs.declared.entry.Entry.{Entry}
 use Rattle.kds_defs.specs.declared.entry.Entry.TheVariants as entry
@@ -34,13 +35,25 @@ stored r = record { seq = r.seq; arrival = r.arrival; key = r.key; payload = r.p
 
 -- a stored record, with the bytes of its payload and key counted
 abbrev pub logged : Stored → Logged
-logged r = record { seq = r.seq; arrival = r.arrival; bytes = length r.payload + length r.key; key = r.key; payload = r.payload }
+logged r = record {
+  seq = r.seq;
+  arrival = r.arrival;
+  bytes = length r.payload + length r.key;
+  key = r.key;
+  payload = r.payload;
+}
 
 -- the records of a shard in order (Kinesis API Reference, Record)
 abbrev pub records_after : Line → Entry → ℕ → ℕ → List Logged → List Logged
 records_after line (entry.Put stream shard seq hash bytes key_bytes) s sh before =
     if (stream == s) && (shard == sh)
-    then before ++ (record { seq = seq; arrival = line.clock; bytes = bytes + key_bytes; key = line.key; payload = line.payload } ∷ [])
+    then before ++ (record {
+      seq = seq;
+      arrival = line.clock;
+      bytes = bytes + key_bytes;
+      key = line.key;
+      payload = line.payload;
+    } ∷ [])
     else before
 records_after line _ s sh before = before
 

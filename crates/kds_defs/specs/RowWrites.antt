@@ -18,7 +18,10 @@ pub record Refusing (A : Type 0) : Type 0 where
   pub without : Refusal → Option Row → (Row → A) → A
 
 abbrev pub decisions : Refusing Decision
-decisions = record { when = λ refused b next. refuse refused if b else next; without = λ refused o next. with o or refused then next }
+decisions = record {
+  when = λ refused b next. refuse refused if b else next;
+  without = λ refused o next. with o or refused then next;
+}
 
 abbrev pub of_row : {A : Type 0} → Refusal → Option Row → (Row → Result A Refusal) → Result A Refusal
 of_row refused None next = Err refused

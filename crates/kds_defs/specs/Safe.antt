@@ -1,5 +1,6 @@
 -- What is true of every journal that a machine can leave.
-use Rattle.std.specs.Prelude.{ℕ, ◌+◌, ◌^◌, ◌<◌, ◌≤◌, ◌≡◌, ◌⊎◌, true, if◌then◌else◌, List, [], ◌∷◌, ◌++◌, map, Option, Some, None}
+use Rattle.std.specs.Prelude.{ℕ, ◌+◌, ◌^◌, ◌<◌, ◌≤◌, ◌≡◌, ◌⊎◌, true, if◌then◌else◌, List, [], ◌∷◌, ◌++◌, map, Option}
+use Rattle.std.specs.Prelude.{Some, None}
 use Rattle.std.specs.List.{AllByRecursion}
 use Rattle.kds_base.specs.Span.{Span, covers, Covers}
 use Rattle.kds_base.specs.declared.lease_key.Checkpoint.{Checkpoint}
@@ -9,7 +10,8 @@ use Rattle.kds_defs.specs.declared.entry.Entry.{Entry}
 use Rattle.kds_defs.specs.declared.entry.Entry.TheVariants as entry
 use Rattle.kds_defs.specs.declared.reply.Row.{Row}
 use Rattle.kds_defs.specs.Journal.{Journal}
-use Rattle.kds_defs.specs.Leases.{row, counter_in, tenure_in, reads_end, tenure, TenureState, ReadDone, given_reads, key_of}
+use Rattle.kds_defs.specs.Leases.{row, counter_in, tenure_in, reads_end, tenure, TenureState, ReadDone, given_reads}
+use Rattle.kds_defs.specs.Leases.{key_of}
 use Rattle.kds_defs.specs.Records.{Logged, records, next_number}
 use Rattle.kds_defs.specs.Shards.{ShardState, shard_at, is_open, open_shards, is_expired}
 use Rattle.kds_defs.specs.Keys.{ref}
@@ -88,7 +90,8 @@ IsExpiredState log c s (Some x) = is_expired log c s x ≡ true
 
 abbrev pub IsPast : Journal → ℕ → ℕ → Option ℕ → Type 0
 IsPast log c s None = Unit {0}
-IsPast log c s (Some parent) = (reads_end (row log (ref s parent)) ≡ true) ⊎ IsExpiredState log c s (shard_at log s parent)
+IsPast log c s (Some parent) = (reads_end (row log (ref s parent)) ≡ true)
+    ⊎ IsExpiredState log c s (shard_at log s parent)
 
 -- both parents of the shard are past
 abbrev pub ArePastState : Journal → ℕ → ℕ → Option ShardState → Type 0

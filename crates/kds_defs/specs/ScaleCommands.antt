@@ -38,8 +38,10 @@ open_elsewhere log s = open_in log (filter (λ t. not (t == s)) (live_streams lo
 -- the entry of one step: a merge of the shard that ends before the key with the one that starts at it, or a split of
 -- the shard that contains it
 abbrev pub step_entry : Journal → ℕ → ScaleStep → Entry
-step_entry log s (Join b) = entry.Merged s (home log s (b - 1)) (home log s b) (next_number log s) (length (shards log s))
-step_entry log s (Cut b) = entry.Split s (home log s b) b (next_number log s) (length (shards log s)) (length (shards log s) + 1)
+step_entry log s (Join b) =
+    entry.Merged s (home log s (b - 1)) (home log s b) (next_number log s) (length (shards log s))
+step_entry log s (Cut b) =
+    entry.Split s (home log s b) b (next_number log s) (length (shards log s)) (length (shards log s) + 1)
 
 -- a line for each step, in turn
 abbrev pub step_lines : Journal → ℕ → ℕ → ℕ → List ScaleStep → List Line
@@ -55,4 +57,5 @@ scale_stream log c by name s target =
     refuse refusal.Spent if nat_lt last_number (next_number log s + length (steps_to log s target))
     || nat_lt last_number (length (shards log s) + made_by (steps_to log s target)) else
     Accepted (step_lines log c by s (steps_to log s target))
-    (reply.Scaled name (length (open_shards log s)) target (map (λ line. line.what) (step_lines log c by s (steps_to log s target))))
+    (reply.Scaled name (length (open_shards log s)) target
+    (map (λ line. line.what) (step_lines log c by s (steps_to log s target))))

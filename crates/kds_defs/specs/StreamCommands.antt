@@ -1,5 +1,6 @@
 -- The commands that change streams: their refusals in order, and what they lead to.
-use Rattle.std.specs.Prelude.{ℕ, ◌+◌, ◌-◌, ◌^◌, Bool, false, ◌==◌, ◌&&◌, ◌||◌, not, is_some, nat_le, nat_lt, if◌then◌else◌, List, [], ◌∷◌, length, Option, Some, None}
+use Rattle.std.specs.Prelude.{ℕ, ◌+◌, ◌-◌, ◌^◌, Bool, false, ◌==◌, ◌&&◌, ◌||◌, not, is_some, nat_le, nat_lt}
+use Rattle.std.specs.Prelude.{if◌then◌else◌, List, [], ◌∷◌, length, Option, Some, None}
 use Rattle.kds_base.specs.Span.{is_inside, are_adjacent}
 use Rattle.kds_defs.specs.declared.command.NewItem.{NewItem}
 use Rattle.kds_defs.specs.declared.entry.Entry.TheVariants as entry
@@ -26,7 +27,8 @@ is_open_at (Some x) = is_open x
 abbrev pub create : Journal → ℕ → ℕ → List ℕ → ℕ → Decision
 create log c by name count =
     refuse refusal.StreamThere if is_some (stream_named log name) else
-    refuse refusal.Full if nat_le LIVE_STREAMS (length (live_streams log)) || nat_lt OPEN_SHARDS (open_count log + count) else
+    refuse refusal.Full if nat_le LIVE_STREAMS (length (live_streams log))
+    || nat_lt OPEN_SHARDS (open_count log + count) else
     refuse refusal.Spent if made_count log == last_number else
     Accepted (plain_line c by (entry.Made (made_count log + 1) name count) ∷ []) reply.Done
 
@@ -57,7 +59,8 @@ split_where full log c by s sh at =
     refuse refusal.BadSplit if not (is_inside (range_of (shard_at log s sh)) at) else
     refuse refusal.Full if full else
     refuse refusal.Spent if nat_lt last_number (length (shards log s) + 1) || next_number log s == last_number else
-    Accepted (plain_line c by (entry.Split s sh at (next_number log s) (length (shards log s)) (length (shards log s) + 1)) ∷ []) reply.Done
+    Accepted (plain_line c by
+    (entry.Split s sh at (next_number log s) (length (shards log s)) (length (shards log s) + 1)) ∷ []) reply.Done
 
 -- SplitShard, in a live stream
 abbrev pub split : Journal → ℕ → ℕ → ℕ → ℕ → ℕ → Decision
@@ -68,7 +71,8 @@ abbrev pub merge : Journal → ℕ → ℕ → ℕ → ℕ → ℕ → Decision
 merge log c by s sh other =
     refuse refusal.NoShard if not (is_listed log c s sh && is_listed log c s other) else
     refuse refusal.ShardClosed if not (is_open_at (shard_at log s sh) && is_open_at (shard_at log s other)) else
-    refuse refusal.NotAdjacent if not (are_adjacent (range_of (shard_at log s sh)) (range_of (shard_at log s other))) else
+    refuse refusal.NotAdjacent if not
+    (are_adjacent (range_of (shard_at log s sh)) (range_of (shard_at log s other))) else
     refuse refusal.Spent if nat_lt last_number (length (shards log s)) || next_number log s == last_number else
     Accepted (plain_line c by (entry.Merged s sh other (next_number log s) (length (shards log s))) ∷ []) reply.Done
 

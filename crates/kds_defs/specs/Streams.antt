@@ -1,5 +1,6 @@
 -- The streams of a journal: which are live, their names, their retention, and what is trimmed.
-use Rattle.std.specs.Prelude.{ℕ, zero, suc, ◌+◌, ◌-◌, ◌*◌, max, Bool, false, ◌==◌, ◌&&◌, ◌||◌, not, nat_lt, if◌then◌else◌, nat_eq, List, [], ◌∷◌, Option, Some, None}
+use Rattle.std.specs.Prelude.{ℕ, zero, suc, ◌+◌, ◌-◌, ◌*◌, max, Bool, false, ◌==◌, ◌&&◌, ◌||◌, not, nat_lt}
+use Rattle.std.specs.Prelude.{if◌then◌else◌, nat_eq, List, [], ◌∷◌, Option, Some, None}
 use Rattle.std.specs.List.{filter, find}
 use Rattle.std.specs.Cmp.Lexicographic.{pointwise}
 use Rattle.kds_defs.specs.declared.entry.Entry.{Entry}
@@ -97,7 +98,8 @@ floor_at clock retention = clock + 1 - retention
 abbrev pub floor_after : Journal → Line → ℕ → ℕ
 floor_after log line s =
     if was_made (line ∷ log) s
-    then max (floor_at line.clock (retention (line ∷ log) s)) (if was_made log s then floor_at line.clock (retention log s) else 0)
+    then max (floor_at line.clock (retention (line ∷ log) s))
+    (if was_made log s then floor_at line.clock (retention log s) else 0)
     else 0
 
 abbrev pub floor_of_lines : Journal → ℕ → ℕ

@@ -1,6 +1,7 @@
 -- What holds of the shards of a stream in every state: their open ranges partition the keys, and they are
 -- numbered in their order.
-use Rattle.std.specs.Prelude.{ℕ, ◌≡◌, ◌+◌, ◌^◌, ◌<◌, ◌≤◌, Bool, true, false, if◌then◌else◌, List, [], ◌∷◌, Some, slice_get}
+use Rattle.std.specs.Prelude.{ℕ, ◌≡◌, ◌+◌, ◌^◌, ◌<◌, ◌≤◌, Bool, true, false, if◌then◌else◌, List, [], ◌∷◌, Some}
+use Rattle.std.specs.Prelude.{slice_get}
 use Rattle.std.specs.List.{AllByRecursion}
 use Rattle.kds_base.specs.Span.{Span, are_adjacent, covers, is_inside}
 use Rattle.kds_defs.specs.Shards.{ShardState, is_open}

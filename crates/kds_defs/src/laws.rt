@@ -25,7 +25,8 @@ pub fn lease_answers()
 pub fn refusal_chain()
     ensures refused { (r : Refusal) (b : Bool) (d : Decision) → b ≡ true → (refuse r if b else d) ≡ Refused r }
     ensures passed { (r : Refusal) (b : Bool) (d : Decision) → b ≡ false → (refuse r if b else d) ≡ d }
-    ensures fails { (r : Refusal) (b : Bool) (d : Decision) (lines : List Line) (reply : Reply) → (refuse r if b else d) ≡ Accepted lines reply → b ≡ false }
+    ensures fails { (r : Refusal) (b : Bool) (d : Decision) (lines : List Line) (reply : Reply)
+        → (refuse r if b else d) ≡ Accepted lines reply → b ≡ false }
     ensures rest { (r : Refusal) (b : Bool) (d : Decision) (lines : List Line) (reply : Reply)
         → (refuse r if b else d) ≡ Accepted lines reply → d ≡ Accepted lines reply }
     ensures lines { (xs ys : List Line) (reply other : Reply) → Accepted xs reply ≡ Accepted ys other → xs ≡ ys }

@@ -3,11 +3,15 @@
 //! definitions don't show a limit's value. The laws state the values, so a changed constant contradicts a law in this
 //! file.
 ghost use Rattle.std.specs.Prelude.{◌≡◌};
-ghost use Rattle.kds_defs.specs.declared.limits.TheConstants.{LIVE_STREAMS, OPEN_SHARDS, LEAST_SHARDS, MOST_SHARDS, KEY_CHARACTERS, RECORD_BYTES, MANY_ITEMS, MANY_BYTES};
-ghost use Rattle.kds_defs.specs.declared.limits.TheConstants.{TOKEN_LIFE, FIRST_HOURS, LEAST_HOURS, MOST_HOURS, HOUR, BATCH_BYTES, MOST, PENDING_READS};
+ghost use Rattle.kds_defs.specs.declared.limits.TheConstants.{LIVE_STREAMS, OPEN_SHARDS, LEAST_SHARDS, MOST_SHARDS};
+ghost use Rattle.kds_defs.specs.declared.limits.TheConstants.{KEY_CHARACTERS, RECORD_BYTES, MANY_ITEMS, MANY_BYTES};
+ghost use Rattle.kds_defs.specs.declared.limits.TheConstants.{TOKEN_LIFE, FIRST_HOURS, LEAST_HOURS, MOST_HOURS, HOUR};
+ghost use Rattle.kds_defs.specs.declared.limits.TheConstants.{BATCH_BYTES, MOST, PENDING_READS};
 ghost use Rattle.kds_defs.specs.declared.limits.TheConstants.{SECOND, SECOND_RECORDS, SECOND_BYTES};
-ghost use Rattle.kds_defs.specs.declared.limits.TheConstants.{RECORDS_LIMIT, SHARDS_LIMIT, DESCRIBED_LIMIT, NAMES_LIMIT, MOST_SECONDS};
-ghost use Rattle.kds_defs.specs.declared.limits.TheConstants.{API_ACTOR, MOST_ACTOR, OPERATION_BYTES, LINE_BYTES, INPUT_BYTES};
+ghost use Rattle.kds_defs.specs.declared.limits.TheConstants.{RECORDS_LIMIT, SHARDS_LIMIT, DESCRIBED_LIMIT};
+ghost use Rattle.kds_defs.specs.declared.limits.TheConstants.{NAMES_LIMIT, MOST_SECONDS};
+ghost use Rattle.kds_defs.specs.declared.limits.TheConstants.{API_ACTOR, MOST_ACTOR, OPERATION_BYTES, LINE_BYTES};
+ghost use Rattle.kds_defs.specs.declared.limits.TheConstants.{INPUT_BYTES};
 
 /// States the limits on streams, shards, records, batches, tokens and retention (Kinesis API Reference, the operations;
 /// Service quotas).

@@ -29,7 +29,8 @@ pub trait Machine {
 
         // If the machine represented a history before the call, the answer is the one that the definition `answer`
         // gives for the turn after this history. The machine then represents the history with the turn added.
-        ensures answered { (h : List Turn) → stands_for self.old h → IfOk result (λ a. (a ≡ answer h turn) × stands_for self.new (turn ∷ h)) }
+        ensures answered { (h : List Turn) → stands_for self.old h
+            → IfOk result (λ a. (a ≡ answer h turn) × stands_for self.new (turn ∷ h)) }
 
         // If memory runs out, the machine represents the same history as before.
         ensures kept { (h : List Turn) → stands_for self.old h → OnErr result (stands_for self.new h) }

@@ -73,9 +73,23 @@ impl Model for Shard {
 
     ghost Value = { ShardValue };
 
-    ghost view = { λ x. record { no = x.no; range = x.range; parent = x.parent; adjacent = x.adjacent; start = x.start; end = x.end } };
+    ghost view = { λ x. record {
+      no = x.no;
+      range = x.range;
+      parent = x.parent;
+      adjacent = x.adjacent;
+      start = x.start;
+      end = x.end;
+    } };
 
-    ghost inverse = { λ x. record { no = x.no; range = x.range; parent = x.parent; adjacent = x.adjacent; start = x.start; end = x.end } };
+    ghost inverse = { λ x. record {
+      no = x.no;
+      range = x.range;
+      parent = x.parent;
+      adjacent = x.adjacent;
+      start = x.start;
+      end = x.end;
+    } };
 }
 
 /// A row of the lease table (Kinesis Client Library, lease). In contracts, a row is represented by a value with the

@@ -3,7 +3,8 @@ ghost use Rattle.std.specs.Prelude.{◌≡◌, ◌≢◌, ◌≤◌, ◌+◌, �
 ghost use Rattle.std.specs.List.{filter};
 ghost use Rattle.kds_base.specs.Span.{Span, uniform};
 ghost use Rattle.kds_defs.specs.Safe.{times_covered};
-ghost use Rattle.kds_defs.specs.Shards.{Closing, ShardState, first_shards, is_open, merged_shards, split_shards, with_closed};
+ghost use Rattle.kds_defs.specs.Shards.{Closing, ShardState, first_shards, is_open, merged_shards, split_shards};
+ghost use Rattle.kds_defs.specs.Shards.{with_closed};
 ghost use Rattle.kds_defs.specs.Tiled.{AreMergeable, AreNumbered, IsSplittable, IsTiled, open_times};
 
 /// States which lists of shards have consecutive numbers, in the order of the list. The list of a stream's first shards
@@ -11,9 +12,12 @@ ghost use Rattle.kds_defs.specs.Tiled.{AreMergeable, AreNumbered, IsSplittable, 
 /// end. Closing a shard changes neither the length of the list nor any other shard.
 pub fn numbered_shards()
     ensures first { (n start : ℕ) (ranges : List Span) → AreNumbered n (first_shards n start ranges) }
-    ensures closed { (n shard : ℕ) (closing : Closing) (xs : List ShardState) → AreNumbered n xs → AreNumbered n (with_closed shard closing xs) }
-    ensures added { (n : ℕ) (xs ys : List ShardState) → AreNumbered n xs → AreNumbered (n + length xs) ys → AreNumbered n (xs ++ ys) }
-    ensures as_many { (shard : ℕ) (closing : Closing) (xs : List ShardState) → length (with_closed shard closing xs) ≡ length xs }
+    ensures closed { (n shard : ℕ) (closing : Closing) (xs : List ShardState) → AreNumbered n xs
+        → AreNumbered n (with_closed shard closing xs) }
+    ensures added { (n : ℕ) (xs ys : List ShardState) → AreNumbered n xs → AreNumbered (n + length xs) ys
+        → AreNumbered n (xs ++ ys) }
+    ensures as_many { (shard : ℕ) (closing : Closing) (xs : List ShardState)
+        → length (with_closed shard closing xs) ≡ length xs }
     ensures others { (xs : List ShardState) (shard other : ℕ) (closing : Closing) → shard ≢ other
         → slice_get (with_closed shard closing xs) other ≡ slice_get xs other }
 {}
@@ -24,9 +28,12 @@ pub fn numbered_shards()
 /// number of open shards whose ranges contain the key.
 pub fn tiled_shards()
     ensures first { (count start : ℕ) → 1 ≤ count → count ≤ 500 → IsTiled (first_shards 0 start (uniform count)) }
-    ensures split { (xs : List ShardState) (shard at start : ℕ) (closing : Closing) → IsSplittable xs shard at → IsTiled xs
+    ensures split { (xs : List ShardState) (shard at start : ℕ) (closing : Closing) → IsSplittable xs shard at
+        → IsTiled xs
         → IsTiled (split_shards shard at closing start xs) }
-    ensures merged { (xs : List ShardState) (shard other start : ℕ) (closing : Closing) → AreMergeable xs shard other → IsTiled xs
+    ensures merged { (xs : List ShardState) (shard other start : ℕ) (closing : Closing) → AreMergeable xs shard other
+        → IsTiled xs
         → IsTiled (merged_shards shard other closing start xs) }
-    ensures times { (xs : List ShardState) (k : ℕ) → times_covered (map (λ x. x.range) (filter is_open xs)) k ≡ open_times xs k }
+    ensures times { (xs : List ShardState) (k : ℕ) → times_covered (map (λ x. x.range) (filter is_open xs)) k
+        ≡ open_times xs k }
 {}

@@ -26,4 +26,5 @@ moments_after (suc count) told = moments_after count (later told)
 -- A clock that tells its moments gave these, one after another. One that tells none gave any.
 abbrev pub Gives : Option (List ℕ) → List ℕ → Option (List ℕ) → Type 0
 Gives None given new = Unit {0}
-Gives (Some told) given new = (given ≡ moments_of (length given) told) × (new ≡ Some (moments_after (length given) told))
+Gives (Some told) given new = (given ≡ moments_of (length given) told)
+    × (new ≡ Some (moments_after (length given) told))

@@ -11,11 +11,16 @@ ghost use Rattle.kds_ends.specs.Causes.{AppendsFront, AppendsPart};
 /// after it, this prefix is shorter than the whole text.
 pub fn appends()
     ensures nothing { (held : Option (List ℕ)) → Appends held held [] }
-    ensures more { (a b c : Option (List ℕ)) (xs ys : List ℕ) → Appends a b xs → Appends b c ys → Appends a c (xs ++ ys) }
-    ensures front_later { (a b c : Option (List ℕ)) (xs ys : List ℕ) → Appends a b xs → AppendsFront b c ys → AppendsFront a c (xs ++ ys) }
-    ensures front_longer { (a b : Option (List ℕ)) (xs ys : List ℕ) → AppendsFront a b xs → AppendsFront a b (xs ++ ys) }
+    ensures more { (a b c : Option (List ℕ)) (xs ys : List ℕ) → Appends a b xs → Appends b c ys
+        → Appends a c (xs ++ ys) }
+    ensures front_later { (a b c : Option (List ℕ)) (xs ys : List ℕ) → Appends a b xs → AppendsFront b c ys
+        → AppendsFront a c (xs ++ ys) }
+    ensures front_longer { (a b : Option (List ℕ)) (xs ys : List ℕ) → AppendsFront a b xs
+        → AppendsFront a b (xs ++ ys) }
     ensures part_front { (a b : Option (List ℕ)) (xs : List ℕ) → AppendsPart a b xs → AppendsFront a b xs }
-    ensures part_later { (a b c : Option (List ℕ)) (xs ys : List ℕ) → Appends a b xs → AppendsPart b c ys → AppendsPart a c (xs ++ ys) }
+    ensures part_later { (a b c : Option (List ℕ)) (xs ys : List ℕ) → Appends a b xs → AppendsPart b c ys
+        → AppendsPart a c (xs ++ ys) }
     ensures part_longer { (a b : Option (List ℕ)) (xs ys : List ℕ) → AppendsPart a b xs → AppendsPart a b (xs ++ ys) }
-    ensures front_part { (a b : Option (List ℕ)) (xs ys : List ℕ) → AppendsFront a b xs → 0 < length ys → AppendsPart a b (xs ++ ys) }
+    ensures front_part { (a b : Option (List ℕ)) (xs ys : List ℕ) → AppendsFront a b xs → 0 < length ys
+        → AppendsPart a b (xs ++ ys) }
 {}

@@ -1,5 +1,6 @@
 //! A sink that keeps a bounded number of bytes in memory.
-ghost use Rattle.std.specs.Prelude.{◌≡◌, [], ◌≤◌, ◌<◌, ◌↔◌, ◌⊎◌, ◌+◌, ◌^◌, List, ℕ, length, drop, Some, Contains, IsErr, IfOk, min};
+ghost use Rattle.std.specs.Prelude.{◌≡◌, [], ◌≤◌, ◌<◌, ◌↔◌, ◌⊎◌, ◌+◌, ◌^◌, List, ℕ, length, drop, Some, Contains};
+ghost use Rattle.std.specs.Prelude.{IsErr, IfOk, min};
 ghost use Rattle.std.specs.Io.{WritesAtMost};
 ghost use Rattle.std.specs.Io.KnownBytes.{WriteAppends};
 ghost use Rattle.kds_ends.specs.Causes.{HasCause};
@@ -29,7 +30,14 @@ impl Model for MemSink {
 
     ghost Value = { SinkState };
 
-    ghost view = { λ s. record { held = s.held.items; room = s.room; step = s.step; failing = s.failing; calls = s.calls; faults = s.faults } };
+    ghost view = { λ s. record {
+      held = s.held.items;
+      room = s.room;
+      step = s.step;
+      failing = s.failing;
+      calls = s.calls;
+      faults = s.faults;
+    } };
 
     ghost invariant = { λ s. (vec_len s.held ≤ s.room) × (s.room ≤ vec_capacity s.held) × (0 < s.step) };
 }
@@ -45,7 +53,14 @@ impl MemSink {
         failing: Items<u64>,
     ) -> Result<MemSink, Memory>
         requires { 0 < step }
-        ensures { IfOk result (λ s. s ≡ record { held = []; room = room; step = step; failing = failing; calls = 0; faults = 0 }) }
+        ensures { IfOk result (λ s. s ≡ record {
+          held = [];
+          room = room;
+          step = step;
+          failing = failing;
+          calls = 0;
+          faults = 0;
+        }) }
     {
         Ok(MemSink {
             held: Vec::with_capacity(alloc, room)?,

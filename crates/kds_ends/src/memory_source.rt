@@ -1,5 +1,6 @@
 //! A source that reads bytes in memory.
-ghost use Rattle.std.specs.Prelude.{◌≡◌, ◌≤◌, ◌<◌, ◌↔◌, ◌+◌, ◌^◌, List, ℕ, length, take, drop, Some, Contains, IsErr, IfOk, min};
+ghost use Rattle.std.specs.Prelude.{◌≡◌, ◌≤◌, ◌<◌, ◌↔◌, ◌+◌, ◌^◌, List, ℕ, length, take, drop, Some, Contains, IsErr};
+ghost use Rattle.std.specs.Prelude.{IfOk, min};
 ghost use Rattle.std.specs.Io.{ReadsAtMost};
 ghost use Rattle.std.specs.Io.KnownBytes.{ReadConsumes};
 ghost use Rattle.kds_ends.specs.Causes.{HasCause};
@@ -26,7 +27,13 @@ impl Model for MemSource {
 
     ghost Value = { SourceState };
 
-    ghost view = { λ s. record { left = drop s.next s.bytes; step = s.step; failing = s.failing; calls = s.calls; faults = s.faults } };
+    ghost view = { λ s. record {
+      left = drop s.next s.bytes;
+      step = s.step;
+      failing = s.failing;
+      calls = s.calls;
+      faults = s.faults;
+    } };
 
     ghost invariant = { λ s. (s.next ≤ length s.bytes) × (0 < s.step) };
 }

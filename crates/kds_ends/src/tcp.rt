@@ -21,9 +21,9 @@ const IDLE_SLICE: u64 = 370;
 /// After this many slices without a byte, a read fails. The failure ends the connection of an idle client.
 const IDLE_SLICES: u32 = 27;
 
-/// After this many slices without a byte, a read fails if each of the last `LOOKS` looks found no free place. So an idle
-/// client gives its place up while another client may be waiting for one. Clients that connect all at once and keep their
-/// connections are served in waves of this length.
+/// After this many slices without a byte, a read fails if each of the last `LOOKS` looks found no free place. So an
+/// idle client gives its place up while another client may be waiting for one. Clients that connect all at once and
+/// keep their connections are served in waves of this length.
 const CROWDED_SLICES: u32 = 6;
 
 /// How many looks in a row must find no free place. One look isn't enough, since after each connection that it accepts
@@ -31,8 +31,8 @@ const CROWDED_SLICES: u32 = 6;
 const LOOKS: u32 = 4;
 
 /// A client that calls every second is never idle for `CROWDED_SLICES` slices, but in all it is idle for nearly all of
-/// its time. If this many looks in a row found no free place, a read fails after `SHORT_SLICES` slices without a byte. So
-/// such clients take turns if they are more than the places.
+/// its time. If this many looks in a row found no free place, a read fails after `SHORT_SLICES` slices without a byte.
+/// So such clients take turns if they are more than the places.
 const LONG_LOOKS: u32 = 20;
 
 const SHORT_SLICES: u32 = 2;
@@ -97,8 +97,8 @@ fn drop_pieces<S: Read + OpenStream>(stream: &mut S, count: u32, wait: u64) -> b
 }
 
 /// Shuts down the writing side of the connection. Then reads and drops what the client still sends, up to the limits
-/// above. Not inlined, since the buffer makes the frame large, and every page of a frame is touched, also by a connection
-/// that the client has ended.
+/// above. Not inlined, since the buffer makes the frame large, and every page of a frame is touched, also by a
+/// connection that the client has ended.
 #[inline(never)]
 fn end<S: Read + OpenStream>(stream: &mut S) {
     if stream.shutdown(Shutdown::Write).is_ok() && drop_pieces(stream, FIRST_PIECES, FIRST_WAIT) {

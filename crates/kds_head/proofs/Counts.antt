@@ -1,5 +1,6 @@
 -- A text of 1 to 19 digits is a number below 2 ^ 64.
-use Rattle.std.proofs.Common.{sym, Some, None, ◌≡◌, ℕ, ◌^◌, ◌<◌, ◌≤◌, List, length, Bool, true, false, arith, refl, rules}
+use Rattle.std.proofs.Common.{sym, Some, None, ◌≡◌, ℕ, ◌^◌, ◌<◌, ◌≤◌, List, length, Bool, true, false, arith, refl}
+use Rattle.std.proofs.Common.{rules}
 use Rattle.std.proofs.lemmas.Grind.{common_steps}
 use Rattle.std.proofs.lemmas.Str.Parse.{IsNumeralModel, numerals_by_value, digits_value_short}
 use Rattle.std.specs.Char.{is_ascii_digit}

@@ -1,5 +1,6 @@
 -- One pass over the headers finds what the definitions say of each name.
-use Rattle.std.proofs.Common.{◌≡◌, ◌∙◌, ℕ, ◌+◌, List, [], ◌∷◌, Bool, true, false, map, Option, Some, None, refl, sym, ap, subst, arith, codes, inl, inr}
+use Rattle.std.proofs.Common.{◌≡◌, ◌∙◌, ℕ, ◌+◌, List, [], ◌∷◌, Bool, true, false, map, Option, Some, None, refl, sym}
+use Rattle.std.proofs.Common.{ap, subst, arith, codes, inl, inr}
 use Rattle.std.proofs.lemmas.Bool.{cases_Bool}
 use Rattle.std.proofs.lemmas.Bool.Decides.{nat_tests}
 use Rattle.std.proofs.lemmas.List.Sums.{sum_by-cons}
@@ -13,12 +14,14 @@ use Rattle.kds_head.specs.declared.findings.Seen.{Seen}
 use Rattle.kds_head.specs.declared.findings.Seen.TheVariants.{Nowhere, Once, Often}
 use Rattle.kds_head.specs.declared.findings.Findings.{Findings}
 use Rattle.kds_head.specs.Headers.{Headers, has_name, has_name_and_value, count_named, only_value, any_has}
-use Rattle.kds_head.specs.Findings.{is_somewhere, value_in, IsSeen, AreFindings, seen_after, findings_after, no_findings}
+use Rattle.kds_head.specs.Findings.{is_somewhere, value_in, IsSeen, AreFindings, seen_after, findings_after}
+use Rattle.kds_head.specs.Findings.{no_findings}
 use Rattle.kds_head.specs.Values.{byte_count, body_length, named_operation, operation, is_json, says_json}
 
 -- ---- one name
 
-count_cons : (name : List ℕ) (h : List ℕ × List ℕ) (hs : Headers) → count_named name (h ∷ hs) ≡ cond (has_name name h) 1 0 + count_named name hs
+count_cons : (name : List ℕ) (h : List ℕ × List ℕ) (hs : Headers)
+    → count_named name (h ∷ hs) ≡ cond (has_name name h) 1 0 + count_named name hs
 unfolding count_named
 count_cons name h hs = sum_by-cons (λ x. cond (has_name name x) 1 0) h hs
 
@@ -30,11 +33,14 @@ no_value : (name : List ℕ) → only_value name [] ≡ None
 unfolding only_value
 no_value name = rw (no_count name) refl
 
-count_yes : (name : List ℕ) (h : List ℕ × List ℕ) (hs : Headers) → has_name name h ≡ true → count_named name (h ∷ hs) ≡ 1 + count_named name hs
+count_yes : (name : List ℕ) (h : List ℕ × List ℕ) (hs : Headers) → has_name name h ≡ true
+    → count_named name (h ∷ hs) ≡ 1 + count_named name hs
 count_yes name h hs e = count_cons name h hs ∙ ap (λ t. cond t 1 0 + count_named name hs) e
 
-count_other : (name : List ℕ) (h : List ℕ × List ℕ) (hs : Headers) → has_name name h ≡ false → count_named name (h ∷ hs) ≡ count_named name hs
-count_other name h hs e = count_cons name h hs ∙ ap (λ t. cond t 1 0 + count_named name hs) e ∙ nothing (count_named name hs)
+count_other : (name : List ℕ) (h : List ℕ × List ℕ) (hs : Headers) → has_name name h ≡ false
+    → count_named name (h ∷ hs) ≡ count_named name hs
+count_other name h hs e = count_cons name h hs ∙ ap (λ t. cond t 1 0 + count_named name hs) e
+    ∙ nothing (count_named name hs)
   where
     nothing : (n : ℕ) → 0 + n ≡ n
     nothing n = omega arith
@@ -51,7 +57,8 @@ more_one c n e = elim (cases_Bool (c == 0)) [
   | inr some_left ↦ let more : (n == 1) ≡ false = grind (arith, nat_tests) in more ∙ sym some_left
 ]
 
-only_other : (name : List ℕ) (h : List ℕ × List ℕ) (hs : Headers) → has_name name h ≡ false → only_value name (h ∷ hs) ≡ only_value name hs
+only_other : (name : List ℕ) (h : List ℕ × List ℕ) (hs : Headers) → has_name name h ≡ false
+    → only_value name (h ∷ hs) ≡ only_value name hs
 unfolding only_value
 only_other name h hs e = rw (count_other name h hs e, e) refl
 
@@ -72,10 +79,14 @@ after_often false v = refl
 
 often_stays : (name front : List ℕ) (hs : List HeaderSpan) → pass name front Often hs ≡ Often
 often_stays name front [] = refl
-often_stays name front (h ∷ hs) = ap (λ s. pass name front s hs) (after_often (has_name name (header_bytes front h)) h.value) ∙ often_stays name front hs
+often_stays name front (h ∷ hs) =
+    ap (λ s. pass name front s hs) (after_often (has_name name (header_bytes front h)) h.value)
+    ∙ often_stays name front hs
 
-once_step : (name front : List ℕ) (hs : List HeaderSpan) (b : Bool) (v w : Span) (c n : ℕ) → (b ≡ true → n ≡ 1 + c) → (b ≡ false → n ≡ c)
-    → pass name front (Once v) hs ≡ (if c == 0 then Once v else Often) → pass name front (seen_after (Once v) b w) hs ≡ (if n == 0 then Once v else Often)
+once_step : (name front : List ℕ) (hs : List HeaderSpan) (b : Bool) (v w : Span) (c n : ℕ) → (b ≡ true → n ≡ 1 + c)
+    → (b ≡ false → n ≡ c)
+    → pass name front (Once v) hs ≡ (if c == 0 then Once v else Often)
+    → pass name front (seen_after (Once v) b w) hs ≡ (if n == 0 then Once v else Often)
 once_step name front hs true v w c n e d ih = often_stays name front hs ∙ rw (more_none c n (e refl)) refl
 once_step name front hs false v w c n e d ih = rw (d refl) ih
 
@@ -84,17 +95,24 @@ after_once : (name front : List ℕ) (v : Span) (hs : List HeaderSpan)
 after_once name front v [] = rw (no_count name) refl
 after_once name front v (h ∷ hs) =
     once_step name front hs (has_name name (header_bytes front h)) v h.value _ _
-    (count_yes name (header_bytes front h) (map (header_bytes front) hs)) (count_other name (header_bytes front h) (map (header_bytes front) hs))
+    (count_yes name (header_bytes front h) (map (header_bytes front) hs))
+    (count_other name (header_bytes front h) (map (header_bytes front) hs))
     (after_once name front v hs)
 
-seen_once : (name front : List ℕ) (headers : Headers) (v : Span) (alone : Bool) (s : Seen) → s ≡ (if alone then Once v else Often)
-    → nat_lt 0 (count_named name headers) ≡ true → only_value name headers ≡ (if alone then Some (span_bytes front v) else None) → IsSeen name front headers s
-seen_once name front headers v true s e n o = record { some = ap is_somewhere e ∙ sym n; value = ap (value_in front) e ∙ sym o }
-seen_once name front headers v false s e n o = record { some = ap is_somewhere e ∙ sym n; value = ap (value_in front) e ∙ sym o }
+seen_once : (name front : List ℕ) (headers : Headers) (v : Span) (alone : Bool) (s : Seen)
+    → s ≡ (if alone then Once v else Often)
+    → nat_lt 0 (count_named name headers) ≡ true
+    → only_value name headers ≡ (if alone then Some (span_bytes front v) else None) → IsSeen name front headers s
+seen_once name front headers v true s e n o =
+    record { some = ap is_somewhere e ∙ sym n; value = ap (value_in front) e ∙ sym o }
+seen_once name front headers v false s e n o =
+    record { some = ap is_somewhere e ∙ sym n; value = ap (value_in front) e ∙ sym o }
 
-seen_step : (name front : List ℕ) (h : HeaderSpan) (hs : List HeaderSpan) (b : Bool) → has_name name (header_bytes front h) ≡ b
+seen_step : (name front : List ℕ) (h : HeaderSpan) (hs : List HeaderSpan) (b : Bool)
+    → has_name name (header_bytes front h) ≡ b
     → IsSeen name front (map (header_bytes front) hs) (pass name front Nowhere hs)
-    → IsSeen name front (header_bytes front h ∷ map (header_bytes front) hs) (pass name front (seen_after Nowhere b h.value) hs)
+    → IsSeen name front (header_bytes front h ∷ map (header_bytes front) hs)
+    (pass name front (seen_after Nowhere b h.value) hs)
 seen_step name front h hs true e ih =
     let own = header_bytes front h in
     let others = map (header_bytes front) hs in
@@ -105,28 +123,34 @@ seen_step name front h hs false e ih = record {
   value = ih.value ∙ sym (only_other name (header_bytes front h) (map (header_bytes front) hs) e);
 }
 
-seen_all : (name front : List ℕ) (hs : List HeaderSpan) → IsSeen name front (map (header_bytes front) hs) (pass name front Nowhere hs)
+seen_all : (name front : List ℕ) (hs : List HeaderSpan)
+    → IsSeen name front (map (header_bytes front) hs) (pass name front Nowhere hs)
 seen_all name front [] = record { some = sym (ap (λ k. nat_lt 0 k) (no_count name)); value = sym (no_value name) }
-seen_all name front (h ∷ hs) = seen_step name front h hs (has_name name (header_bytes front h)) refl (seen_all name front hs)
+seen_all name front (h ∷ hs) =
+    seen_step name front h hs (has_name name (header_bytes front h)) refl (seen_all name front hs)
 
 -- ---- the names apart
 
 abbrev read : List ℕ → Findings → List HeaderSpan → Findings
 read front found hs = fold (findings_after front) found hs
 
-encodings : (front : List ℕ) (f : Findings) (hs : List HeaderSpan) → (read front f hs).encoding ≡ pass (codes "Transfer-Encoding") front f.encoding hs
+encodings : (front : List ℕ) (f : Findings) (hs : List HeaderSpan)
+    → (read front f hs).encoding ≡ pass (codes "Transfer-Encoding") front f.encoding hs
 encodings front f [] = refl
 encodings front f (h ∷ hs) = encodings front (findings_after front f h) hs
 
-lengths : (front : List ℕ) (f : Findings) (hs : List HeaderSpan) → (read front f hs).length ≡ pass (codes "Content-Length") front f.length hs
+lengths : (front : List ℕ) (f : Findings) (hs : List HeaderSpan)
+    → (read front f hs).length ≡ pass (codes "Content-Length") front f.length hs
 lengths front f [] = refl
 lengths front f (h ∷ hs) = lengths front (findings_after front f h) hs
 
-targets : (front : List ℕ) (f : Findings) (hs : List HeaderSpan) → (read front f hs).target ≡ pass (codes "X-Amz-Target") front f.target hs
+targets : (front : List ℕ) (f : Findings) (hs : List HeaderSpan)
+    → (read front f hs).target ≡ pass (codes "X-Amz-Target") front f.target hs
 targets front f [] = refl
 targets front f (h ∷ hs) = targets front (findings_after front f h) hs
 
-media_types : (front : List ℕ) (f : Findings) (hs : List HeaderSpan) → (read front f hs).media_type ≡ pass (codes "Content-Type") front f.media_type hs
+media_types : (front : List ℕ) (f : Findings) (hs : List HeaderSpan)
+    → (read front f hs).media_type ≡ pass (codes "Content-Type") front f.media_type hs
 media_types front f [] = refl
 media_types front f (h ∷ hs) = media_types front (findings_after front f h) hs
 
@@ -141,7 +165,8 @@ or_apart false b c = refl
 abbrev says : List ℕ × List ℕ → Bool
 says = has_name_and_value (codes "Connection") (codes "close")
 
-closing : (front : List ℕ) (f : Findings) (hs : List HeaderSpan) → (read front f hs).close ≡ (f.close || list_any says (map (header_bytes front) hs))
+closing : (front : List ℕ) (f : Findings) (hs : List HeaderSpan)
+    → (read front f hs).close ≡ (f.close || list_any says (map (header_bytes front) hs))
 closing front f [] = or_none f.close
 closing front f (h ∷ hs) =
     closing front (findings_after front f h) hs
@@ -154,12 +179,15 @@ all_found front hs found e = record {
   encoding = seen (codes "Transfer-Encoding") found.encoding (ap (λ f. f.encoding) e ∙ encodings front no_findings hs);
   length = seen (codes "Content-Length") found.length (ap (λ f. f.length) e ∙ lengths front no_findings hs);
   target = seen (codes "X-Amz-Target") found.target (ap (λ f. f.target) e ∙ targets front no_findings hs);
-  media_type = seen (codes "Content-Type") found.media_type (ap (λ f. f.media_type) e ∙ media_types front no_findings hs);
+  media_type = seen (codes "Content-Type") found.media_type (ap (λ f. f.media_type) e
+      ∙ media_types front no_findings hs);
   close = ap (λ f. f.close) e ∙ closing front no_findings hs;
 }
   where
-    seen : (name : List ℕ) (s : Seen) → s ≡ pass name front Nowhere hs → IsSeen name front (map (header_bytes front) hs) s
-    seen name s is = subst (λ (z : Seen). IsSeen name front (map (header_bytes front) hs) z) (sym is) (seen_all name front hs)
+    seen : (name : List ℕ) (s : Seen) → s ≡ pass name front Nowhere hs
+        → IsSeen name front (map (header_bytes front) hs) s
+    seen name s is = subst (λ (z : Seen). IsSeen name front (map (header_bytes front) hs) z) (sym is)
+        (seen_all name front hs)
 
 -- ---- what the table asks
 
@@ -169,21 +197,25 @@ none_is n e = grind (arith, nat_tests)
 pub some_is : (n : ℕ) → nat_lt 0 n ≡ true → (n == 0) ≡ false
 some_is n e = grind (arith, nat_tests)
 
-pub body_is : (v : Option (List ℕ)) (n : Option ℕ) (hs : Headers) → n ≡ option_and_then byte_count v → v ≡ only_value (codes "Content-Length") hs
+pub body_is : (v : Option (List ℕ)) (n : Option ℕ) (hs : Headers) → n ≡ option_and_then byte_count v
+    → v ≡ only_value (codes "Content-Length") hs
     → n ≡ body_length hs
 unfolding body_length
 body_is v n hs e s = e ∙ ap (option_and_then byte_count) s
 
-pub operation_is : (v : Option (List ℕ)) (o : List ℕ) (hs : Headers) → o ≡ option_map_or named_operation v [] → v ≡ only_value (codes "X-Amz-Target") hs
+pub operation_is : (v : Option (List ℕ)) (o : List ℕ) (hs : Headers) → o ≡ option_map_or named_operation v []
+    → v ≡ only_value (codes "X-Amz-Target") hs
     → o ≡ operation hs
 unfolding operation
 operation_is v o hs e s = e ∙ ap (λ z. option_map_or named_operation z []) s
 
-pub json_is : (v : Option (List ℕ)) (j : Bool) (hs : Headers) → j ≡ option_map_or is_json v false → v ≡ only_value (codes "Content-Type") hs
+pub json_is : (v : Option (List ℕ)) (j : Bool) (hs : Headers) → j ≡ option_map_or is_json v false
+    → v ≡ only_value (codes "Content-Type") hs
     → j ≡ says_json hs
 unfolding says_json
 json_is v j hs e s = e ∙ ap (λ z. option_map_or is_json z false) s
 
-pub close_is : (minor : ℕ) (said c : Bool) (hs : Headers) → c ≡ (minor == 0 || said) → said ≡ any_has (codes "Connection") (codes "close") hs
+pub close_is : (minor : ℕ) (said c : Bool) (hs : Headers) → c ≡ (minor == 0 || said)
+    → said ≡ any_has (codes "Connection") (codes "close") hs
     → c ≡ (minor == 0 || any_has (codes "Connection") (codes "close") hs)
 close_is minor said c hs e s = e ∙ ap (λ z. minor == 0 || z) s

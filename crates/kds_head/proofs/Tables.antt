@@ -21,5 +21,6 @@ pub not_above : (n m k : ℕ) → n ≡ m → n ≤ k → nat_lt k m ≡ false
 not_above n m k e h = let h' : m ≤ k = rw e at h in grind (arith, nat_tests)
 
 pub whole_same : (len b b' : ℕ) (o o' : List ℕ) (j j' c c' : Bool) → b ≡ b' → o ≡ o' → j ≡ j' → c ≡ c'
-    → Whole (record { length = len; body = b; operation = o; json = j; close = c }) ≡ Whole (record { length = len; body = b'; operation = o'; json = j'; close = c' })
+    → Whole (record { length = len; body = b; operation = o; json = j; close = c })
+    ≡ Whole (record { length = len; body = b'; operation = o'; json = j'; close = c' })
 whole_same len b b' o o' j j' c c' eb eo ej ec = rw (eb, eo, ej, ec) refl

@@ -4,7 +4,8 @@ use Rattle.std.proofs.lemmas.Bool.{cases_Bool, eqb-true}
 use Rattle.std.proofs.lemmas.List.{append_assoc}
 use Rattle.std.proofs.lemmas.List.Elements.{All-nil, All-cons, All-head, All-tail}
 use Rattle.std.specs.Prelude.{◌==◌, fold, IsTrue}
-use Rattle.httparse.specs.Grammar.{is_token_byte, is_uri_byte, AllPass, IsToken, LineEnd, crlf, lf, print_end, print_blank, EndsInTarget}
+use Rattle.httparse.specs.Grammar.{is_token_byte, is_uri_byte, AllPass, IsToken, LineEnd, crlf, lf, print_end}
+use Rattle.httparse.specs.Grammar.{print_blank, EndsInTarget}
 use Rattle.kds_head.specs.declared.target.Reached.{Reached}
 use Rattle.kds_head.specs.declared.target.Reached.TheVariants.{Blank, CarriageReturn, Method, Target, Other}
 use Rattle.kds_head.specs.Target.{after_byte}
@@ -39,22 +40,34 @@ in_method (b ∷ bs) h = elim (cases_Bool (b == 32)) [
       ([], bs, All-nil (λ c. IsTrue (is_token_byte c)), in_target bs (rw space at h), ap (λ z. z ∷ bs) same)
   | inr other ↦ elim (cases_Bool (is_token_byte b)) [
     | inl token ↦
-        let rest = in_method bs (rw (other, token) at h) in
-        (b ∷ rest.0, rest.1, All-cons (λ c. IsTrue (is_token_byte c)) b rest.0 token rest.2, rest.3, ap (λ z. b ∷ z) rest.4)
+        let rest = in_method bs (rw (other, token) at h) in (
+          b ∷ rest.0,
+          rest.1,
+          All-cons (λ c. IsTrue (is_token_byte c)) b rest.0 token rest.2,
+          rest.3,
+          ap (λ z. b ∷ z) rest.4,
+        )
     | inr none ↦ absurd (no_way bs (rw (other, none) at h))
   ]
 ]
 
 first_token : (b : ℕ) (bs : List ℕ) → is_token_byte b ≡ true → run Method bs ≡ Target → EndsInTarget (b ∷ bs)
 first_token b bs token h =
-    let rest = in_method bs h in
-    ([], b ∷ rest.0, rest.1, (omega arith, All-cons (λ c. IsTrue (is_token_byte c)) b rest.0 token rest.2), rest.3, ap (λ z. b ∷ z) rest.4)
+    let rest = in_method bs h in (
+      [],
+      b ∷ rest.0,
+      rest.1,
+      (omega arith, All-cons (λ c. IsTrue (is_token_byte c)) b rest.0 token rest.2),
+      rest.3,
+      ap (λ z. b ∷ z) rest.4,
+    )
 
 with_end : (e : LineEnd) (bs : List ℕ) → EndsInTarget bs → EndsInTarget (print_end e ++ bs)
 with_end crlf bs h = (crlf ∷ h.0, h.1, h.2, h.3, h.4, ap (λ z. 13 ∷ 10 ∷ z) h.5)
 with_end lf bs h = (lf ∷ h.0, h.1, h.2, h.3, h.4, ap (λ z. 10 ∷ z) h.5)
 
-other_first : (b : ℕ) (bs : List ℕ) → (b == 10) ≡ false → (b == 13) ≡ false → run Blank (b ∷ bs) ≡ Target → EndsInTarget (b ∷ bs)
+other_first : (b : ℕ) (bs : List ℕ) → (b == 10) ≡ false → (b == 13) ≡ false → run Blank (b ∷ bs) ≡ Target
+    → EndsInTarget (b ∷ bs)
 other_first b bs no_feed no_return h = elim (cases_Bool (is_token_byte b)) [
   | inl token ↦ first_token b bs token (rw (no_feed, no_return, token) at h)
   | inr none ↦ absurd (no_way bs (rw (no_feed, no_return, none) at h))
@@ -80,7 +93,8 @@ in_blank (b ∷ c ∷ cs) h = elim (cases_Bool (b == 10)) [
           let rest = in_blank cs (rw (no_feed, ret, feed) at h) in
           let first : b ≡ 13 = eqb-true b 13 ret in
           let second : c ≡ 10 = eqb-true c 10 feed in
-          subst (λ (z : ℕ). EndsInTarget (z ∷ c ∷ cs)) (sym first) (subst (λ (z : ℕ). EndsInTarget (13 ∷ z ∷ cs)) (sym second) (with_end crlf cs rest))
+          subst (λ (z : ℕ). EndsInTarget (z ∷ c ∷ cs)) (sym first)
+          (subst (λ (z : ℕ). EndsInTarget (13 ∷ z ∷ cs)) (sym second) (with_end crlf cs rest))
       | inr none ↦ absurd (no_way cs (rw (no_feed, ret, none) at h))
     ]
     | inr no_return ↦ other_first b (c ∷ cs) no_feed no_return h
@@ -91,7 +105,8 @@ in_blank (b ∷ c ∷ cs) h = elim (cases_Bool (b == 10)) [
 
 no_token : (b n : ℕ) → is_token_byte b ≡ true → is_token_byte n ≡ false → (b == n) ≡ false
 no_token b n token none = elim (cases_Bool (b == n)) [
-  | inl same ↦ let bad : is_token_byte n ≡ true = subst (λ (z : ℕ). is_token_byte z ≡ true) (eqb-true b n same) token in let no : true ≡ false = sym bad ∙ none in cc no
+  | inl same ↦ let bad : is_token_byte n ≡ true = subst (λ (z : ℕ). is_token_byte z ≡ true) (eqb-true b n same) token in
+      let no : true ≡ false = sym bad ∙ none in cc no
   | inr other ↦ other
 ]
 
@@ -116,20 +131,23 @@ target_run (b ∷ t) all =
 method_step : (b : ℕ) (bs : List ℕ) → (b == 32) ≡ false → is_token_byte b ≡ true → run Method (b ∷ bs) ≡ run Method bs
 method_step b bs other token = rw (other, token) refl
 
-start_step : (b : ℕ) (bs : List ℕ) → (b == 10) ≡ false → (b == 13) ≡ false → is_token_byte b ≡ true → run Blank (b ∷ bs) ≡ run Method bs
+start_step : (b : ℕ) (bs : List ℕ) → (b == 10) ≡ false → (b == 13) ≡ false → is_token_byte b ≡ true
+    → run Blank (b ∷ bs) ≡ run Method bs
 start_step b bs no_feed no_return token = rw (no_feed, no_return, token) refl
 
 method_run : (m t : List ℕ) → AllPass is_token_byte m → AllPass is_uri_byte t → run Method (m ++ 32 ∷ t) ≡ Target
 method_run [] t all uris = target_run t uris
 method_run (b ∷ m) t all uris =
     let token : is_token_byte b ≡ true = All-head (λ c. IsTrue (is_token_byte c)) b m all in
-    method_step b (m ++ 32 ∷ t) (no_token b 32 token space_none) token ∙ method_run m t (All-tail (λ c. IsTrue (is_token_byte c)) b m all) uris
+    method_step b (m ++ 32 ∷ t) (no_token b 32 token space_none) token
+    ∙ method_run m t (All-tail (λ c. IsTrue (is_token_byte c)) b m all) uris
 
 start_run : (m t : List ℕ) → IsToken m → AllPass is_uri_byte t → run Blank (m ++ 32 ∷ t) ≡ Target
 start_run [] t tok uris = absurd (omega (arith, tok.0))
 start_run (b ∷ m) t tok uris =
     let token : is_token_byte b ≡ true = All-head (λ c. IsTrue (is_token_byte c)) b m tok.1 in
-    start_step b (m ++ 32 ∷ t) (no_token b 10 token feed_none) (no_token b 13 token return_none) token ∙ method_run m t (All-tail (λ c. IsTrue (is_token_byte c)) b m tok.1) uris
+    start_step b (m ++ 32 ∷ t) (no_token b 10 token feed_none) (no_token b 13 token return_none) token
+    ∙ method_run m t (All-tail (λ c. IsTrue (is_token_byte c)) b m tok.1) uris
 
 blank_run : (ends : List LineEnd) (rest : List ℕ) → run Blank (print_blank ends ++ rest) ≡ run Blank rest
 blank_run [] rest = refl
@@ -137,7 +155,9 @@ blank_run (crlf ∷ ends) rest = blank_run ends rest
 blank_run (lf ∷ ends) rest = blank_run ends rest
 
 pub reaches : (bs : List ℕ) → EndsInTarget bs → run Blank bs ≡ Target
-reaches bs e = ap (λ z. run Blank z) (e.5 ∙ append_assoc (print_blank e.0) e.1 (32 ∷ e.2)) ∙ blank_run e.0 (e.1 ++ 32 ∷ e.2) ∙ start_run e.1 e.2 e.3 e.4
+reaches bs e = ap (λ z. run Blank z) (e.5 ∙ append_assoc (print_blank e.0) e.1 (32 ∷ e.2))
+    ∙ blank_run e.0 (e.1 ++ 32 ∷ e.2) ∙ start_run e.1 e.2 e.3 e.4
 
-pub target_is : (r : Reached) (bs : List ℕ) → r ≡ run Blank bs → ((r ≡ Target) → EndsInTarget bs) × (EndsInTarget bs → r ≡ Target)
+pub target_is : (r : Reached) (bs : List ℕ) → r ≡ run Blank bs → ((r ≡ Target) → EndsInTarget bs)
+    × (EndsInTarget bs → r ≡ Target)
 target_is r bs e = (λ h. in_blank bs (sym e ∙ h), λ h. e ∙ reaches bs h)

@@ -1,5 +1,6 @@
 -- The text of a response (RFC 9112, section 4).
-use Rattle.std.specs.Prelude.{◌≡◌, ℕ, List, [], ◌∷◌, ◌++◌, ◌⊎◌, Bool, true, false, length, codes, decimal, if◌then◌else◌, ◌==◌, ◌||◌}
+use Rattle.std.specs.Prelude.{◌≡◌, ℕ, List, [], ◌∷◌, ◌++◌, ◌⊎◌, Bool, true, false, length, codes, decimal}
+use Rattle.std.specs.Prelude.{if◌then◌else◌, ◌==◌, ◌||◌}
 
 -- a line ends with CR LF
 abbrev pub line : List ℕ → List ℕ
@@ -20,7 +21,8 @@ reason_phrase status =
 
 -- the statuses that refuse a connection
 abbrev pub is_refusal : ℕ → Bool
-is_refusal status = status == 400 || status == 404 || status == 405 || status == 411 || status == 413 || status == 431 || status == 501
+is_refusal status = status == 400 || status == 404 || status == 405 || status == 411 || status == 413 || status == 431
+    || status == 501
 
 -- the statuses of responses
 abbrev pub is_status : ℕ → Bool

@@ -1,5 +1,6 @@
 -- What a whole head leads to: the first case of the table that holds.
-use Rattle.std.specs.Prelude.{ℕ, List, Bool, ◌==◌, not, nat_lt, length, codes, map, slice_range, if◌then◌else◌, is_none, unwrap_or}
+use Rattle.std.specs.Prelude.{ℕ, List, Bool, ◌==◌, not, nat_lt, length, codes, map, slice_range, if◌then◌else◌, is_none}
+use Rattle.std.specs.Prelude.{unwrap_or}
 use Rattle.std.specs.Str.{bytes_eq}
 use Rattle.httparse.specs.Grammar.{RequestHead, print_request}
 use Rattle.httparse.specs.Spans.{header_bytes, name_and_value}

@@ -6,7 +6,8 @@ use Rattle.kds_head.specs.declared.target.Reached.TheVariants.{Blank, CarriageRe
 
 -- what is reached with one more byte
 abbrev pub after_byte : Reached → ℕ → Reached
-after_byte Blank b = if b == 10 then Blank else if b == 13 then CarriageReturn else if is_token_byte b then Method else Other
+after_byte Blank b = if b == 10 then Blank else if b
+    == 13 then CarriageReturn else if is_token_byte b then Method else Other
 after_byte CarriageReturn b = if b == 10 then Blank else Other
 after_byte Method b = if b == 32 then Target else if is_token_byte b then Method else Other
 after_byte Target b = if is_uri_byte b then Target else Other

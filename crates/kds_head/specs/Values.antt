@@ -1,5 +1,6 @@
 -- What the values of the headers say.
-use Rattle.std.specs.Prelude.{ℕ, List, [], Bool, false, ◌&&◌, ◌||◌, ◌==◌, nat_lt, nat_le, nat_eq, length, codes, if◌then◌else◌, Option, Some, None, option_and_then, drop}
+use Rattle.std.specs.Prelude.{ℕ, List, [], Bool, false, ◌&&◌, ◌||◌, ◌==◌, nat_lt, nat_le, nat_eq, length, codes}
+use Rattle.std.specs.Prelude.{if◌then◌else◌, Option, Some, None, option_and_then, drop}
 use Rattle.std.specs.Option.{option_map_or}
 use Rattle.std.specs.List.{list_all, starts_with}
 use Rattle.std.specs.Char.{is_ascii_digit}
@@ -22,15 +23,19 @@ body_length headers = option_and_then byte_count (only_value (codes "Content-Len
 
 -- what follows `Kinesis_20131202.` in a target, and nothing where it begins otherwise
 abbrev pub named_operation : List ℕ → List ℕ
-named_operation target = if starts_with nat_eq target (codes "Kinesis_20131202.") then drop (length (codes "Kinesis_20131202.")) target else []
+named_operation target =
+    if starts_with nat_eq target (codes "Kinesis_20131202.") then drop (length (codes "Kinesis_20131202."))
+    target else []
 
--- the operation that the one X-Amz-Target names, and nothing where it names none (Kinesis API Reference, Making API Requests)
+-- the operation that the one X-Amz-Target names, and nothing where it names none (Kinesis API Reference, Making API
+-- Requests)
 unfoldable pub operation : Headers → List ℕ
 operation headers = option_map_or named_operation (only_value (codes "X-Amz-Target") headers) []
 
 -- the media type of the service's JSON, alone or before a `;` (RFC 9110, section 8.3.1)
 abbrev pub is_json : List ℕ → Bool
-is_json media_type = bytes_eq media_type (codes "application/x-amz-json-1.1") || starts_with nat_eq media_type (codes "application/x-amz-json-1.1;")
+is_json media_type = bytes_eq media_type (codes "application/x-amz-json-1.1")
+    || starts_with nat_eq media_type (codes "application/x-amz-json-1.1;")
 
 -- the one Content-Type is that
 unfoldable pub says_json : Headers → Bool

@@ -12,7 +12,8 @@ pub fn one_finding()
 /// Once the finding is something other than `Need`, further bytes don't change it. So it doesn't matter in which pieces
 /// the bytes arrive.
 pub fn decided_stays()
-    ensures { (bytes more : List ℕ) (found : Found) → IsFound bytes found → found ≢ Found.Need → IsFound (bytes ++ more) found }
+    ensures { (bytes more : List ℕ) (found : Found) → IsFound bytes found → found ≢ Found.Need
+        → IsFound (bytes ++ more) found }
 {}
 
 /// If the finding is `Need`, fewer than `HEAD_BYTES` bytes have arrived so far. If it is a refusal, its status is one

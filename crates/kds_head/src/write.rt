@@ -1,7 +1,8 @@
 //! Writes the text of responses (RFC 9112, section 4).
 ghost use Rattle.std.specs.Prelude.{◌≡◌, ◌≤◌, ◌+◌, ◌++◌, codes, decimal, drop, length, OnOk, OnErr, true};
 ghost use Rattle.std.specs.Vec.{vec_len, vec_capacity};
-ghost use Rattle.kds_head.specs.Response.{line, reason_phrase, content_type, connection, is_status, IsResponse, response_text};
+ghost use Rattle.kds_head.specs.Response.{line, reason_phrase, content_type, connection, is_status, IsResponse};
+ghost use Rattle.kds_head.specs.Response.{response_text};
 
 use itoa::Buffer;
 use kds_base::{Memory, Octets};

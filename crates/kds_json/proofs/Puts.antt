@@ -1,5 +1,6 @@
 -- The records that are to be put are lawful, or the member that their fault names is text.
-use Rattle.std.proofs.Common.{◌≡◌, ℕ, ◌+◌, ◌≤◌, ◌<◌, ◌^◌, ◌++◌, List, length, decimal, nat_le, Result, Ok, Err, IfSome, codes, refl, arith, is_some}
+use Rattle.std.proofs.Common.{◌≡◌, ℕ, ◌+◌, ◌≤◌, ◌<◌, ◌^◌, ◌++◌, List, length, decimal, nat_le, Result, Ok, Err, IfSome}
+use Rattle.std.proofs.Common.{codes, refl, arith, is_some}
 use Rattle.std.specs.List.{AllByRecursion, sum_by}
 use Rattle.std.specs.Str.{IsUtf8}
 use Rattle.std.proofs.lemmas.Bool.Decides.{nat_tests}
@@ -16,8 +17,10 @@ use Rattle.kds_json.specs.Asked.{IsRequest}
 use Rattle.kds_json_members.specs.Member.{required_at}
 use Rattle.kds_json_members.specs.Kinds.{key_in, blob_in, hash_at}
 use Rattle.kds_json.specs.Operations.{item_of, put_record}
-use Rattle.kds_json.specs.Many.{count, counted, records_in, record_name, in_record, record_at, records_from, within_limit, put_records}
-use Rattle.kds_json_members.proofs.Members.{Reads, then_reads, some_or_reads, either_reads, and_then_has, kept_if, in_range, key_is, IsShort, blob_is, IsHash}
+use Rattle.kds_json.specs.Many.{count, counted, records_in, record_name, in_record, record_at, records_from}
+use Rattle.kds_json.specs.Many.{within_limit, put_records}
+use Rattle.kds_json_members.proofs.Members.{Reads, then_reads, some_or_reads, either_reads, and_then_has, kept_if}
+use Rattle.kds_json_members.proofs.Members.{in_range, key_is, IsShort, blob_is, IsHash}
 use Rattle.kds_json_members.proofs.Members.{hash_reads, plain_text, required_reads}
 use Rattle.kds_json.proofs.Steps.{asks, names}
 
@@ -27,8 +30,10 @@ item_reads d =
     then_reads IsPartitionKey IsItem (required_at key_in (codes "PartitionKey") d) _
     (required_reads IsPartitionKey key_in (codes "PartitionKey") d refl key_is) (λ key is_key.
     then_reads (IsShort (length key)) IsItem (required_at (blob_in (length key)) (codes "Data") d) _
-    (required_reads (IsShort (length key)) (blob_in (length key)) (codes "Data") d refl (blob_is (length key))) (λ payload is_short.
-    then_reads IsHash IsItem (hash_at key (codes "ExplicitHashKey") d) _ (hash_reads key (codes "ExplicitHashKey") d refl)
+    (required_reads (IsShort (length key)) (blob_in (length key)) (codes "Data") d refl (blob_is (length key)))
+    (λ payload is_short.
+    then_reads IsHash IsItem (hash_at key (codes "ExplicitHashKey") d) _
+    (hash_reads key (codes "ExplicitHashKey") d refl)
     (λ hash is_hash. record { key = is_key; hash = is_hash; bytes = is_short })))
 
 pub put_reads : (d : Data) → Reads IsRequest (put_record d)
@@ -43,13 +48,16 @@ abbrev pub IsCounted : Items → Type 0
 IsCounted ds = (1 ≤ count ds) × (count ds ≤ MANY_ITEMS)
 
 records_counted : (x : Data) → IfSome (records_in x) IsCounted
-records_counted x = and_then_has IsCounted counted (as_array x) (λ ds. kept_if IsCounted _ ds (in_range 1 MANY_ITEMS (count ds)))
+records_counted x = and_then_has IsCounted counted (as_array x)
+    (λ ds. kept_if IsCounted _ ds (in_range 1 MANY_ITEMS (count ds)))
 
 record_name_text : (place : ℕ) → place < 2 ^ 64 → IsUtf8 (record_name place)
 record_name_text place small =
-    IsUtf8-append (codes "Records.") (decimal place) (plain_text (codes "Records.") refl) (IsUtf8-from_ascii (decimal place) (IsAscii-decimal place small))
+    IsUtf8-append (codes "Records.") (decimal place) (plain_text (codes "Records.") refl)
+    (IsUtf8-from_ascii (decimal place) (IsAscii-decimal place small))
 
-in_record_reads : (place : ℕ) (r : Result NewItem Fault) → place < 2 ^ 64 → Reads IsItem r → Reads IsItem (in_record place r)
+in_record_reads : (place : ℕ) (r : Result NewItem Fault) → place < 2 ^ 64 → Reads IsItem r
+    → Reads IsItem (in_record place r)
 in_record_reads place (Ok x) small h = h
 in_record_reads place (Err f) small text =
     IsUtf8-append (record_name place ++ codes ".") f.member
@@ -58,7 +66,8 @@ in_record_reads place (Err f) small text =
 record_reads : (place : ℕ) (d : Data) → place < 2 ^ 64 → Reads IsItem (record_at place d)
 unfolding record_at
 record_reads place d small =
-    either_reads IsItem (is_some (as_object d)) _ _ (in_record_reads place (item_of d) small (item_reads d)) (record_name_text place small)
+    either_reads IsItem (is_some (as_object d)) _ _ (in_record_reads place (item_of d) small (item_reads d))
+    (record_name_text place small)
 
 -- as many records as there are in the array, each of them good
 abbrev AreRead : Items → List NewItem → Type 0
@@ -68,10 +77,12 @@ records_read : (place : ℕ) (ds : Items) → place + count ds < 2 ^ 64 → Read
 records_read place no_items small = (tt, refl)
 records_read place (item d ds) small =
     then_reads IsItem (AreRead (item d ds)) (record_at place d) _ (record_reads place d (omega arith)) (λ x is.
-    then_reads (AreRead ds) (AreRead (item d ds)) (records_from (place + 1) ds) _ (records_read (place + 1) ds (omega arith)) (λ xs are.
+    then_reads (AreRead ds) (AreRead (item d ds)) (records_from (place + 1) ds) _
+    (records_read (place + 1) ds (omega arith)) (λ xs are.
     ((is, are.0), omega (arith, are.1))))
 
-within_are : (ds : Items) (items : List NewItem) → IsCounted ds → AreRead ds items → IfSome (within_limit items) AreItems
+within_are : (ds : Items) (items : List NewItem) → IsCounted ds → AreRead ds items
+    → IfSome (within_limit items) AreItems
 within_are ds items counts are =
     kept_if AreItems (nat_le (sum_by item_bytes items) MANY_BYTES) items (λ h. record {
       each = are.0;
@@ -87,5 +98,6 @@ many_reads d =
     asks IsCounted records_in (codes "Records") d _ refl records_counted (λ ds counts.
     then_reads (AreRead ds) IsRequest (records_from 1 ds) _ (records_read 1 ds (omega (arith, counts.1))) (λ items are.
     then_reads AreItems IsRequest (some_or _ (codes "Records") (within_limit items)) _
-    (some_or_reads AreItems _ (codes "Records") (within_limit items) (plain_text (codes "Records") refl) (within_are ds items counts are))
+    (some_or_reads AreItems _ (codes "Records") (within_limit items) (plain_text (codes "Records") refl)
+    (within_are ds items counts are))
     (λ fitting fit. ((is_named, fit), refl)))))

@@ -14,11 +14,14 @@ use Rattle.kds_json_members.specs.declared.problem.Fault.{Fault}
 use Rattle.kds_json_members.specs.Reading.{some_or}
 use Rattle.kds_json_members.specs.Member.{member_of, required_at, optional_at}
 use Rattle.kds_json_members.specs.Kinds.{some_name_in, number_in, hash_in, moment_in, sequence_in}
-use Rattle.kds_json.specs.Operations.{create_stream, delete_stream, list_streams, describe_stream, describe_summary, keep, update_shard_count, enforce_limits}
-use Rattle.kds_json.specs.Operations.{start_at, start_after, start_time, start_of, get_shard_iterator, get_records, split_shard, merge_shards}
+use Rattle.kds_json.specs.Operations.{create_stream, delete_stream, list_streams, describe_stream, describe_summary}
+use Rattle.kds_json.specs.Operations.{keep, update_shard_count, enforce_limits}
+use Rattle.kds_json.specs.Operations.{start_at, start_after, start_time, start_of, get_shard_iterator, get_records}
+use Rattle.kds_json.specs.Operations.{split_shard, merge_shards}
 use Rattle.kds_json.specs.Operations.{list_from_start, list_from_token, list_shards}
 use Rattle.kds_json.specs.Asked.{read_body, if_object, object_of, operation_named, members_of, asked, IsRequest}
-use Rattle.kds_json_members.proofs.Members.{Anything, IsHash, Reads, anything, either_reads, hash_is, number_is, optional_reads, plain_text}
+use Rattle.kds_json_members.proofs.Members.{Anything, IsHash, Reads, anything, either_reads, hash_is, number_is}
+use Rattle.kds_json_members.proofs.Members.{optional_reads, plain_text}
 use Rattle.kds_json_members.proofs.Members.{required_reads, some_name_is, some_or_reads, then_reads}
 use Rattle.kds_json.proofs.Puts.{put_reads, many_reads}
 use Rattle.kds_json.proofs.Steps.{asks, takes, names, may_take, limits, lacks, takes_token}
@@ -29,7 +32,8 @@ create_reads : (d : Data) → Reads IsRequest (create_stream d)
 unfolding create_stream
 create_reads d =
     names d _ (λ name is_named.
-    asks IsShardCount (number_in LEAST_SHARDS MOST_SHARDS) (codes "ShardCount") d _ refl (number_is LEAST_SHARDS MOST_SHARDS) (λ shards counted.
+    asks IsShardCount (number_in LEAST_SHARDS MOST_SHARDS) (codes "ShardCount") d _ refl
+    (number_is LEAST_SHARDS MOST_SHARDS) (λ shards counted.
     may_take _ _ (codes "StreamModeDetails") d _ refl (λ mode. ((is_named, counted), refl))))
 
 delete_reads : (d : Data) → Reads IsRequest (delete_stream d)
@@ -40,7 +44,8 @@ names_read : (d : Data) → Reads IsRequest (list_streams d)
 unfolding list_streams
 names_read d =
     then_reads IsNameIfThere IsRequest (optional_at None some_name_in (codes "ExclusiveStartStreamName") d) _
-    (optional_reads IsNameIfThere None some_name_in (codes "ExclusiveStartStreamName") d refl tt some_name_is) (λ after is_named.
+    (optional_reads IsNameIfThere None some_name_in (codes "ExclusiveStartStreamName") d refl tt some_name_is)
+    (λ after is_named.
     limits _ (codes "Limit") d _ refl (omega arith, omega arith) (λ limit is_limit. ((is_named, is_limit), refl)))
 
 describe_reads : (d : Data) → Reads IsRequest (describe_stream d)
@@ -58,14 +63,16 @@ keep_reads : (raise : Bool) (d : Data) → Reads IsRequest (keep raise d)
 unfolding keep
 keep_reads raise d =
     names d _ (λ name is_named.
-    asks IsRetention (number_in LEAST_HOURS MOST_HOURS) (codes "RetentionPeriodHours") d _ refl (number_is LEAST_HOURS MOST_HOURS)
+    asks IsRetention (number_in LEAST_HOURS MOST_HOURS) (codes "RetentionPeriodHours") d _ refl
+    (number_is LEAST_HOURS MOST_HOURS)
     (λ wanted is. ((is_named, is), refl)))
 
 scale_reads : (d : Data) → Reads IsRequest (update_shard_count d)
 unfolding update_shard_count
 scale_reads d =
     names d _ (λ name is_named.
-    asks IsShardCount (number_in LEAST_SHARDS MOST_SHARDS) (codes "TargetShardCount") d _ refl (number_is LEAST_SHARDS MOST_SHARDS) (λ target counted.
+    asks IsShardCount (number_in LEAST_SHARDS MOST_SHARDS) (codes "TargetShardCount") d _ refl
+    (number_is LEAST_SHARDS MOST_SHARDS) (λ target counted.
     takes _ (codes "ScalingType") d _ refl (λ uniform. ((is_named, counted), refl))))
 
 enforce_reads : (d : Data) → Reads IsRequest (enforce_limits d)
@@ -78,13 +85,15 @@ at_reads : (d : Data) → Reads (Anything Start) (start_at d)
 unfolding start_at
 at_reads d =
     then_reads (Anything ℕ) (Anything Start) (required_at sequence_in (codes "StartingSequenceNumber") d) _
-    (required_reads (Anything ℕ) sequence_in (codes "StartingSequenceNumber") d refl (λ x. anything (sequence_in x))) (λ number _. tt)
+    (required_reads (Anything ℕ) sequence_in (codes "StartingSequenceNumber") d refl (λ x. anything (sequence_in x)))
+    (λ number _. tt)
 
 after_reads : (d : Data) → Reads (Anything Start) (start_after d)
 unfolding start_after
 after_reads d =
     then_reads (Anything ℕ) (Anything Start) (required_at sequence_in (codes "StartingSequenceNumber") d) _
-    (required_reads (Anything ℕ) sequence_in (codes "StartingSequenceNumber") d refl (λ x. anything (sequence_in x))) (λ number _. tt)
+    (required_reads (Anything ℕ) sequence_in (codes "StartingSequenceNumber") d refl (λ x. anything (sequence_in x)))
+    (λ number _. tt)
 
 time_reads : (d : Data) → Reads (Anything Start) (start_time d)
 unfolding start_time
@@ -99,7 +108,8 @@ start_reads kind d =
     (either_reads (Anything Start) (bytes_eq kind (codes "LATEST")) _ _ tt
     (either_reads (Anything Start) (bytes_eq kind (codes "AT_SEQUENCE_NUMBER")) _ _ (at_reads d)
     (either_reads (Anything Start) (bytes_eq kind (codes "AFTER_SEQUENCE_NUMBER")) _ _ (after_reads d)
-    (either_reads (Anything Start) (bytes_eq kind (codes "AT_TIMESTAMP")) _ _ (time_reads d) (plain_text (codes "ShardIteratorType") refl)))))
+    (either_reads (Anything Start) (bytes_eq kind (codes "AT_TIMESTAMP")) _ _ (time_reads d)
+    (plain_text (codes "ShardIteratorType") refl)))))
 
 iterator_reads : (d : Data) → Reads IsRequest (get_shard_iterator d)
 unfolding get_shard_iterator
@@ -135,7 +145,10 @@ start_listing_reads d =
     names d _ (λ name is_named.
     lacks (codes "ShardFilter") d _ refl (λ nothing.
     may_take _ _ (codes "ExclusiveStartShardId") d _ refl (λ after.
-    limits _ (codes "MaxResults") d _ refl (omega arith, omega arith) (λ limit is_limit. ((is_named, is_limit), refl)))))
+    limits _ (codes "MaxResults") d _ refl (
+      omega arith,
+      omega arith,
+    ) (λ limit is_limit. ((is_named, is_limit), refl)))))
 
 token_listing_reads : (d : Data) → Reads IsRequest (list_from_token d)
 unfolding list_from_token
@@ -148,7 +161,8 @@ token_listing_reads d =
 
 listing_reads : (d : Data) → Reads IsRequest (list_shards d)
 unfolding list_shards
-listing_reads d = either_reads IsRequest (is_some (member_of (codes "NextToken") d)) _ _ (token_listing_reads d) (start_listing_reads d)
+listing_reads d = either_reads IsRequest (is_some (member_of (codes "NextToken") d)) _ _ (token_listing_reads d)
+    (start_listing_reads d)
 
 members_read : (what : Operation) (d : Data) → Reads IsRequest (members_of what d)
 members_read op.CreateStream d = create_reads d
@@ -178,8 +192,10 @@ asked_reads : (operation body : List ℕ) → Reads IsRequest (asked operation b
 unfolding asked
 asked_reads operation body =
     then_reads (Anything Operation) IsRequest (some_or _ _ (operation_named operation)) _
-    (some_or_reads (Anything Operation) _ _ (operation_named operation) IsUtf8-nil (anything (operation_named operation))) (λ what _.
-    then_reads (Anything Data) IsRequest (object_of body) _ (object_reads (read_body body)) (λ d _. members_read what d))
+    (some_or_reads (Anything Operation) _ _ (operation_named operation) IsUtf8-nil
+    (anything (operation_named operation))) (λ what _.
+    then_reads (Anything Data) IsRequest (object_of body) _ (object_reads (read_body body))
+    (λ d _. members_read what d))
 
 -- the command that a request asks for may be asked
 pub asked_request : (operation body : List ℕ) (what : Command) → asked operation body ≡ Ok what → IsRequest what

@@ -15,12 +15,16 @@ use Rattle.kds_json_members.proofs.Members.{Anything, IsPlain, Reads, absent_rea
 use Rattle.kds_json_members.proofs.Members.{optional_reads, required_reads, then_reads, token_reads}
 
 -- a member that must be there
-pub asks : {A : Type 0} (P : A → Type 0) (reads : Data → Option A) (name : List ℕ) (d : Data) (f : A → Result Command Fault) → IsPlain name
-    → ((x : Data) → IfSome (reads x) P) → ((x : A) → P x → Reads IsRequest (f x)) → Reads IsRequest (required_at reads name d >>= f)
-asks P reads name d f plain h k = then_reads P IsRequest (required_at reads name d) f (required_reads P reads name d plain h) k
+pub asks : {A : Type 0} (P : A → Type 0) (reads : Data → Option A) (name : List ℕ) (d : Data) (f : A
+    → Result Command Fault) → IsPlain name
+    → ((x : Data) → IfSome (reads x) P) → ((x : A) → P x → Reads IsRequest (f x))
+    → Reads IsRequest (required_at reads name d >>= f)
+asks P reads name d f plain h k =
+    then_reads P IsRequest (required_at reads name d) f (required_reads P reads name d plain h) k
 
 -- the same, where nothing need be known of it
-pub takes : {A : Type 0} (reads : Data → Option A) (name : List ℕ) (d : Data) (f : A → Result Command Fault) → IsPlain name
+pub takes : {A : Type 0} (reads : Data → Option A) (name : List ℕ) (d : Data) (f : A → Result Command Fault)
+    → IsPlain name
     → ((x : A) → Reads IsRequest (f x)) → Reads IsRequest (required_at reads name d >>= f)
 takes {A} reads name d f plain k = asks (Anything A) reads name d f plain (λ x. anything (reads x)) (λ x _. k x)
 
@@ -30,7 +34,8 @@ pub names : (d : Data) (f : List ℕ → Result Command Fault) → ((x : List �
 names d f k = asks IsName name_in (codes "StreamName") d f refl name_is k
 
 -- a member that may be there
-pub may_take : {A : Type 0} (default : A) (reads : Data → Option A) (name : List ℕ) (d : Data) (f : A → Result Command Fault) → IsPlain name
+pub may_take : {A : Type 0} (default : A) (reads : Data → Option A) (name : List ℕ) (d : Data) (f : A
+    → Result Command Fault) → IsPlain name
     → ((x : A) → Reads IsRequest (f x)) → Reads IsRequest (optional_at default reads name d >>= f)
 may_take {A} default reads name d f plain k =
     then_reads (Anything A) IsRequest (optional_at default reads name d) f
@@ -38,7 +43,8 @@ may_take {A} default reads name d f plain k =
 
 -- a limit
 pub limits : (default : ℕ) (name : List ℕ) (d : Data) (f : ℕ → Result Command Fault) → IsPlain name → IsLimit default
-    → ((n : ℕ) → IsLimit n → Reads IsRequest (f n)) → Reads IsRequest (optional_at default (number_in 1 MOST) name d >>= f)
+    → ((n : ℕ) → IsLimit n → Reads IsRequest (f n))
+    → Reads IsRequest (optional_at default (number_in 1 MOST) name d >>= f)
 limits default name d f plain is k =
     then_reads IsLimit IsRequest (optional_at default (number_in 1 MOST) name d) f
     (optional_reads IsLimit default (number_in 1 MOST) name d plain is (number_is 1 MOST)) k
@@ -49,7 +55,8 @@ pub lacks : (name : List ℕ) (d : Data) (f : ⊤ → Result Command Fault) → 
 lacks name d f plain k = then_reads (Anything ⊤) IsRequest (absent_at name d) f (absent_reads name d plain) (λ x _. k x)
 
 -- a token
-pub takes_token : {A : Type 0} (stands_for : List ℕ → Option A) (name : List ℕ) (d : Data) (f : A → Result Command Fault) → IsPlain name
+pub takes_token : {A : Type 0} (stands_for : List ℕ → Option A) (name : List ℕ) (d : Data) (f : A
+    → Result Command Fault) → IsPlain name
     → ((x : A) → Reads IsRequest (f x)) → Reads IsRequest (token_at stands_for name d >>= f)
 takes_token {A} stands_for name d f plain k =
     then_reads (Anything A) IsRequest (token_at stands_for name d) f (token_reads stands_for name d plain) (λ x _. k x)

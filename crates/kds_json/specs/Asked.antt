@@ -11,7 +11,9 @@ use Rattle.kds_json.specs.declared.operation.Operation.TheVariants as op
 use Rattle.kds_json_members.specs.declared.problem.Fault.{Fault}
 use Rattle.kds_json_members.specs.declared.problem.FaultKind.TheVariants.{Unknown, Serialization}
 use Rattle.kds_json_members.specs.Reading.{◌>>=◌, fault_of, some_or}
-use Rattle.kds_json.specs.Operations.{create_stream, delete_stream, list_streams, describe_stream, describe_summary, keep, update_shard_count, enforce_limits, put_record, get_shard_iterator, get_records, split_shard, merge_shards, list_shards}
+use Rattle.kds_json.specs.Operations.{create_stream, delete_stream, list_streams, describe_stream, describe_summary}
+use Rattle.kds_json.specs.Operations.{keep, update_shard_count, enforce_limits, put_record, get_shard_iterator}
+use Rattle.kds_json.specs.Operations.{get_records, split_shard, merge_shards, list_shards}
 use Rattle.kds_json.specs.Many.{put_records}
 
 -- what a body reads as, where it is JSON in UTF-8 (RFC 8259)
@@ -26,8 +28,8 @@ if_object _ = Err (fault_of Serialization [])
 abbrev pub object_of : List ℕ → Result Data Fault
 object_of body = if_object (read_body body)
 
--- The operation of a name, if there is one (Kinesis API Reference, Actions; LocalEnforceLimits is this project's own), in the
--- four parts in which the code asks for it.
+-- The operation of a name, if there is one (Kinesis API Reference, Actions; LocalEnforceLimits is this project's own),
+-- in the four parts in which the code asks for it.
 abbrev pub setting_named : List ℕ → Option Operation
 setting_named name =
     if bytes_eq name (codes "IncreaseStreamRetentionPeriod") then Some op.IncreaseRetention

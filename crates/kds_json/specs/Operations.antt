@@ -16,7 +16,8 @@ use Rattle.kds_json_members.specs.declared.problem.Fault.{Fault}
 use Rattle.kds_json_members.specs.declared.problem.FaultKind.TheVariants.{Invalid}
 use Rattle.kds_json_members.specs.Reading.{◌>>=◌, fault_of}
 use Rattle.kds_json_members.specs.Member.{member_of, absent_at, required_at, optional_at, token_at}
-use Rattle.kds_json_members.specs.Kinds.{name_in, some_name_in, mode_in, scaling_in, number_in, moment_in, key_in, blob_in, id_in, some_id_in, hash_in, hash_at, sequence_in}
+use Rattle.kds_json_members.specs.Kinds.{name_in, some_name_in, mode_in, scaling_in, number_in, moment_in, key_in}
+use Rattle.kds_json_members.specs.Kinds.{blob_in, id_in, some_id_in, hash_in, hash_at, sequence_in}
 
 -- ---- streams
 

@@ -1,6 +1,7 @@
 //! The operations of the service and their names.
 ghost use Rattle.std.specs.Prelude.{◌≡◌};
-ghost use Rattle.kds_json.specs.Asked.{operation_named as named, reading_named as reads, writing_named as writes, setting_named as sets};
+ghost use Rattle.kds_json.specs.Asked.{operation_named as named, reading_named as reads, writing_named as writes};
+ghost use Rattle.kds_json.specs.Asked.{setting_named as sets};
 
 /// An operation of the service (Kinesis API Reference, Actions).
 #[derive(Clone, Copy)]

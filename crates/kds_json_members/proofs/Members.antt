@@ -1,5 +1,6 @@
 -- What the members of a request read as, by their kinds, and that the member which a fault names is text.
-use Rattle.std.proofs.Common.{◌≡◌, ℕ, ◌+◌, ◌≤◌, ◌<◌, ◌^◌, List, [], ◌∷◌, length, Bool, true, false, nat_le, nat_lt, ◌&&◌, Option, Some, None, option_map}
+use Rattle.std.proofs.Common.{◌≡◌, ℕ, ◌+◌, ◌≤◌, ◌<◌, ◌^◌, List, [], ◌∷◌, length, Bool, true, false, nat_le, nat_lt}
+use Rattle.std.proofs.Common.{◌&&◌, Option, Some, None, option_map}
 use Rattle.std.proofs.Common.{option_and_then, Result, Ok, Err, IfSome, if◌then◌else◌, refl, arith}
 use Rattle.std.specs.Prelude.{MatchResult, ⊤}
 use Rattle.std.specs.List.{list_all}
@@ -22,7 +23,8 @@ use Rattle.kds_defs.specs.Lawful.{IsPartitionKey, IsNameIfThere}
 use Rattle.kds_json_members.specs.declared.problem.Fault.{Fault}
 use Rattle.kds_json_members.specs.declared.problem.FaultKind.{FaultKind}
 use Rattle.kds_json_members.specs.Reading.{◌>>=◌, some_or}
-use Rattle.kds_json_members.specs.Member.{required, absent_at, absent_of, member_of, required_at, value_or, optional_at, token_at}
+use Rattle.kds_json_members.specs.Member.{required, absent_at, absent_of, member_of, required_at, value_or, optional_at}
+use Rattle.kds_json_members.specs.Member.{token_at}
 use Rattle.kds_json_members.specs.Kinds.{name_in, some_name_in, within, number_in, is_partition_key, key_of, key_in}
 use Rattle.kds_json_members.specs.Kinds.{fitting, blob_of, blob_in, hash_in, hash_at}
 use Rattle.kds_json_members.proofs.Digests.{hash_fits}
@@ -37,17 +39,20 @@ Reads P r = MatchResult r P (λ f. IsUtf8 f.member)
 abbrev pub Anything : (A : Type 0) → A → Type 0
 Anything A x = Unit {0}
 
-pub then_reads : {A B : Type 0} (P : A → Type 0) (Q : B → Type 0) (r : Result A Fault) (f : A → Result B Fault) → Reads P r
+pub then_reads : {A B : Type 0} (P : A → Type 0) (Q : B → Type 0) (r : Result A Fault) (f : A → Result B Fault)
+    → Reads P r
     → ((x : A) → P x → Reads Q (f x)) → Reads Q (r >>= f)
 then_reads P Q (Ok x) f h k = k x h
 then_reads P Q (Err e) f h k = h
 
-pub some_or_reads : {A : Type 0} (P : A → Type 0) (kind : FaultKind) (name : List ℕ) (o : Option A) → IsUtf8 name → IfSome o P
+pub some_or_reads : {A : Type 0} (P : A → Type 0) (kind : FaultKind) (name : List ℕ) (o : Option A) → IsUtf8 name
+    → IfSome o P
     → Reads P (some_or kind name o)
 some_or_reads P kind name (Some x) text h = h
 some_or_reads P kind name None text h = text
 
-pub either_reads : {A : Type 0} (P : A → Type 0) (b : Bool) (x y : Result A Fault) → Reads P x → Reads P y → Reads P (if b then x else y)
+pub either_reads : {A : Type 0} (P : A → Type 0) (b : Bool) (x y : Result A Fault) → Reads P x → Reads P y
+    → Reads P (if b then x else y)
 either_reads P true x y h k = h
 either_reads P false x y h k = k
 
@@ -55,17 +60,20 @@ pub anything : {A : Type 0} (o : Option A) → IfSome o (Anything A)
 anything (Some x) = tt
 anything None = tt
 
-pub and_then_has : {A B : Type 0} (P : B → Type 0) (f : A → Option B) (o : Option A) → ((x : A) → IfSome (f x) P) → IfSome (option_and_then f o) P
+pub and_then_has : {A B : Type 0} (P : B → Type 0) (f : A → Option B) (o : Option A) → ((x : A) → IfSome (f x) P)
+    → IfSome (option_and_then f o) P
 and_then_has P f (Some x) h = h x
 and_then_has P f None h = tt
 
-pub kept_if : {A : Type 0} (P : A → Type 0) (b : Bool) (x : A) → (b ≡ true → P x) → IfSome (if b then Some x else None) P
+pub kept_if : {A : Type 0} (P : A → Type 0) (b : Bool) (x : A) → (b ≡ true → P x)
+    → IfSome (if b then Some x else None) P
 kept_if P true x h = h refl
 kept_if P false x h = tt
 
 -- ---- kinds
 
-pub map_has : {A B : Type 0} (P : B → Type 0) (f : A → B) (o : Option A) → IfSome o (λ x. P (f x)) → IfSome (option_map f o) P
+pub map_has : {A B : Type 0} (P : B → Type 0) (f : A → B) (o : Option A) → IfSome o (λ x. P (f x))
+    → IfSome (option_map f o) P
 map_has P f (Some x) h = h
 map_has P f None h = tt
 
@@ -110,13 +118,15 @@ blob_is key_bytes x =
 abbrev pub IsHash : ℕ → Type 0
 IsHash n = n < 2 ^ 128
 
-pub hash_from_test : (text : List ℕ) → (is_plain text && nat_lt (digits_value 10 text) (2 ^ 128)) ≡ true → IsHash (digits_value 10 text)
+pub hash_from_test : (text : List ℕ) → (is_plain text && nat_lt (digits_value 10 text) (2 ^ 128)) ≡ true
+    → IsHash (digits_value 10 text)
 hash_from_test text h = grind (arith, nat_tests)
 
 pub hash_is : (x : Data) → IfSome (hash_in x) IsHash
 hash_is x =
     and_then_has IsHash (number_of 128) (as_str x)
-    (λ text. kept_if IsHash (is_plain text && nat_lt (digits_value 10 text) (2 ^ 128)) (digits_value 10 text) (hash_from_test text))
+    (λ text. kept_if IsHash (is_plain text && nat_lt (digits_value 10 text) (2 ^ 128)) (digits_value 10 text)
+    (hash_from_test text))
 
 -- ---- members
 
@@ -142,15 +152,18 @@ required_reads P reads name d plain h =
     (some_or_reads (Anything Data) _ name (member_of name d) (plain_text name plain) (anything (member_of name d)))
     (λ x _. some_or_reads P _ name (reads x) (plain_text name plain) (h x))
 
-value_reads : {A : Type 0} (P : A → Type 0) (default : A) (reads : Data → Option A) (name : List ℕ) (o : Option Data) → IsUtf8 name → P default
+value_reads : {A : Type 0} (P : A → Type 0) (default : A) (reads : Data → Option A) (name : List ℕ) (o : Option Data)
+    → IsUtf8 name → P default
     → ((x : Data) → IfSome (reads x) P) → Reads P (value_or default reads name o)
 value_reads P default reads name None text is h = is
 value_reads P default reads name (Some x) text is h = some_or_reads P _ name (reads x) text (h x)
 
-pub optional_reads : {A : Type 0} (P : A → Type 0) (default : A) (reads : Data → Option A) (name : List ℕ) (d : Data) → IsPlain name → P default
+pub optional_reads : {A : Type 0} (P : A → Type 0) (default : A) (reads : Data → Option A) (name : List ℕ) (d : Data)
+    → IsPlain name → P default
     → ((x : Data) → IfSome (reads x) P) → Reads P (optional_at default reads name d)
 unfolding optional_at
-optional_reads P default reads name d plain is h = value_reads P default reads name (member_of name d) (plain_text name plain) is h
+optional_reads P default reads name d plain is h =
+    value_reads P default reads name (member_of name d) (plain_text name plain) is h
 
 absent_of_reads : (name : List ℕ) (o : Option Data) → IsUtf8 name → Reads (Anything ⊤) (absent_of name o)
 absent_of_reads name (Some x) text = text
@@ -159,7 +172,8 @@ absent_of_reads name None text = tt
 pub absent_reads : (name : List ℕ) (d : Data) → IsPlain name → Reads (Anything ⊤) (absent_at name d)
 absent_reads name d plain = absent_of_reads name (member_of name d) (plain_text name plain)
 
-pub token_reads : {A : Type 0} (stands_for : List ℕ → Option A) (name : List ℕ) (d : Data) → IsPlain name → Reads (Anything A) (token_at stands_for name d)
+pub token_reads : {A : Type 0} (stands_for : List ℕ → Option A) (name : List ℕ) (d : Data) → IsPlain name
+    → Reads (Anything A) (token_at stands_for name d)
 unfolding token_at
 token_reads {A} stands_for name d plain =
     then_reads (Anything (List ℕ)) (Anything A) (required_at as_str name d) _

@@ -4,7 +4,8 @@ use Rattle.serde_json.specs.Data.{Data, null, boolean, number, string, array, ob
 use Rattle.serde_json.specs.Find.{as_str}
 use Rattle.kds_json_members.specs.Member.{unless_null}
 
-pub text_unless_null : (o : Option Data) → option_and_then as_str (option_and_then unless_null o) ≡ option_and_then as_str o
+pub text_unless_null : (o : Option Data) → option_and_then as_str (option_and_then unless_null o)
+    ≡ option_and_then as_str o
 text_unless_null None = refl
 text_unless_null (Some null) = refl
 text_unless_null (Some (boolean b)) = refl

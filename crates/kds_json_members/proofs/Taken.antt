@@ -1,5 +1,6 @@
 -- The map that the members of an object stand in: what is found at a name.
-use Rattle.std.proofs.Common.{◌≡◌, ℕ, List, [], ◌∷◌, Option, Some, None, is_some, option_map, option_and_then, String, BTreeMap, Global, Ordering, Less, Equal, Greater, string_bytes, nat_cmp, is_eq}
+use Rattle.std.proofs.Common.{◌≡◌, ℕ, List, [], ◌∷◌, Option, Some, None, is_some, option_map, option_and_then, String}
+use Rattle.std.proofs.Common.{BTreeMap, Global, Ordering, Less, Equal, Greater, string_bytes, nat_cmp, is_eq}
 use Rattle.std.proofs.Common.{cond, Bool, true, false, bytes_eq, true≢false, refl, sym, ap, ◌∙◌}
 use Rattle.std.specs.BTreeMap.{is_at}
 use Rattle.std.specs.Cmp.Lexicographic.{slice_cmp}
@@ -21,7 +22,8 @@ Entry = String Global × Value
 abbrev pub at_name : List ℕ → String Global → Bool
 at_name name = is_at (λ k. slice_cmp nat_cmp name (string_bytes k))
 
-found_at : (name : List ℕ) (es : List Entry) (o : Option Value) → o ≡ lookup (at_name name) es → get_member name (members_view es) ≡ option_map view o
+found_at : (name : List ℕ) (es : List Entry) (o : Option Value) → o ≡ lookup (at_name name) es
+    → get_member name (members_view es) ≡ option_map view o
 found_at name es o e = sym (ap (option_map view) e ∙ view-lookup name es)
 
 null_is : (d : Data) → is_some (as_null d) ≡ true → None ≡ unless_null d
@@ -37,13 +39,16 @@ other_is (array ds) h = refl
 other_is (object ms) h = refl
 
 -- null, another value, or nothing
-pub null_at : (name : List ℕ) (es : List Entry) (v : Value) → Some v ≡ lookup (at_name name) es → is_some (as_null (view v)) ≡ true
+pub null_at : (name : List ℕ) (es : List Entry) (v : Value) → Some v ≡ lookup (at_name name) es
+    → is_some (as_null (view v)) ≡ true
     → None ≡ member_of name (object (members_view es))
 null_at name es v e h = null_is (view v) h ∙ sym (ap (option_and_then unless_null) (found_at name es (Some v) e))
 
-pub value_at : (name : List ℕ) (es : List Entry) (v : Value) → Some v ≡ lookup (at_name name) es → is_some (as_null (view v)) ≡ false
+pub value_at : (name : List ℕ) (es : List Entry) (v : Value) → Some v ≡ lookup (at_name name) es
+    → is_some (as_null (view v)) ≡ false
     → Some (view v) ≡ member_of name (object (members_view es))
 value_at name es v e h = other_is (view v) h ∙ sym (ap (option_and_then unless_null) (found_at name es (Some v) e))
 
-pub nothing_at : (name : List ℕ) (es : List Entry) → None ≡ lookup (at_name name) es → None ≡ member_of name (object (members_view es))
+pub nothing_at : (name : List ℕ) (es : List Entry) → None ≡ lookup (at_name name) es
+    → None ≡ member_of name (object (members_view es))
 nothing_at name es e = sym (ap (option_and_then unless_null) (found_at name es None e))

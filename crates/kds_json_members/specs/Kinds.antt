@@ -1,5 +1,6 @@
 -- What the value of a member reads as, by the member's kind: nothing where it has another kind, range or form.
-use Rattle.std.specs.Prelude.{ℕ, ◌+◌, ◌*◌, List, length, codes, Bool, ◌&&◌, nat_le, if◌then◌else◌, Option, Some, None, option_map, option_and_then, Result, chars, ⊤}
+use Rattle.std.specs.Prelude.{ℕ, ◌+◌, ◌*◌, List, length, codes, Bool, ◌&&◌, nat_le, if◌then◌else◌, Option, Some, None}
+use Rattle.std.specs.Prelude.{option_map, option_and_then, Result, chars, ⊤}
 use Rattle.std.specs.Str.{bytes_eq, is_utf8}
 use Rattle.base64.specs.Engines.{standard}
 use Rattle.base64.specs.GeneralPurpose.{decoded_of}

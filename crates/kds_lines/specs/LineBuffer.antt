@@ -10,7 +10,8 @@ use Rattle.kds_lines.specs.declared.outcome.Outcome.TheVariants.{Stopped, TooLon
 use Rattle.kds_lines.specs.declared.reading.LineBuffer.{LineBuffer}
 
 -- these bytes were fed: their whole lines were taken, and their output was written or waits
-pub record Stands (took : List (List ℕ) → Type 0) (output : List (List ℕ) → List ℕ) (fed : List ℕ) (reading : LineBuffer)
+pub record Stands (took : List (List ℕ) → Type 0) (output : List (List ℕ)
+    → List ℕ) (fed : List ℕ) (reading : LineBuffer)
     (start now : Option (List ℕ)) : Type 0 where
   pub texts : List (List ℕ)
   pub bytes : Fed fed texts reading.used reading.held
@@ -21,16 +22,19 @@ pub record Stands (took : List (List ℕ) → Type 0) (output : List (List ℕ) 
 -- why it stopped so after these lines of the bytes that were fed
 abbrev pub Stops : Outcome → (List (List ℕ) → List ℕ → Type 0) → List ℕ → List (List ℕ) → Type 0
 Stops TooLong refuses fed texts = IsTooLong fed texts
-Stops (Stopped n) refuses fed texts = (text : List ℕ) × Begins fed (texts ++ text ∷ []) × refuses texts text × (n ≡ length texts + 1)
+Stops (Stopped n) refuses fed texts = (text : List ℕ) × Begins fed (texts ++ text ∷ []) × refuses texts text
+    × (n ≡ length texts + 1)
 Stops Read refuses fed texts = texts ≡ (lined fed).texts
 Stops Write refuses fed texts = Unit {0}
 Stops Memory refuses fed texts = Unit {0}
 Stops _ refuses fed texts = ⊥
 
--- These lines of the bytes that were fed were taken. Where memory ran out, it may have done so in the middle of the next
--- one.
-abbrev pub HasTakenFed : Outcome → (List (List ℕ) → Type 0) → (List (List ℕ) → List ℕ → Type 0) → List ℕ → List (List ℕ) → Type 0
-HasTakenFed Memory took broke fed texts = took texts ⊎ ((text : List ℕ) × Begins fed (texts ++ text ∷ []) × broke texts text)
+-- These lines of the bytes that were fed were taken. Where memory ran out, it may have done so in the middle of the
+-- next one.
+abbrev pub HasTakenFed : Outcome → (List (List ℕ) → Type 0) → (List (List ℕ) → List ℕ → Type 0) → List ℕ → List (List ℕ)
+    → Type 0
+HasTakenFed Memory took broke fed texts =
+    took texts ⊎ ((text : List ℕ) × Begins fed (texts ++ text ∷ []) × broke texts text)
 HasTakenFed _ took broke fed texts = took texts
 
 -- These bytes were fed when it stopped so: the lines that were taken are their first ones.
@@ -45,18 +49,22 @@ pub record Halted (outcome : Outcome) (took : List (List ℕ) → Type 0) (broke
   pub unwritten : Unwritten outcome missing
 
 -- A front of the piece was fed, and this is the rest.
-pub record FedLines (took : List (List ℕ) → Type 0) (output : List (List ℕ) → List ℕ) (fed piece rest : List ℕ) (reading : LineBuffer)
+pub record FedLines (took : List (List ℕ) → Type 0) (output : List (List ℕ) → List ℕ) (fed piece rest : List ℕ)
+    (reading : LineBuffer)
     (start now : Option (List ℕ)) : Type 0 where
   pub front : List ℕ
   pub parts : piece ≡ front ++ rest
   pub stands : Stands took output (fed ++ front) reading start now
 
--- ---- one step of a reading, whatever was fed before it, from what the taker took and the sink held to what they do now
+-- ---- one step of a reading, whatever was fed before it, from what the taker took and the sink held to what they do
+-- now
 
-module _ (took took_now : List (List ℕ) → Type 0) (output : List (List ℕ) → List ℕ) (before after : LineBuffer) (held now : Option (List ℕ)) where
+module _ (took took_now : List (List ℕ) → Type 0) (output : List (List ℕ) → List ℕ) (before after : LineBuffer)
+    (held now : Option (List ℕ)) where
   -- these bytes are fed too
   abbrev pub Feeds : List ℕ → Type 0
-  Feeds piece = (fed : List ℕ) (start : Option (List ℕ)) → Stands took output fed before start held → Stands took_now output (fed ++ piece) after start now
+  Feeds piece = (fed : List ℕ) (start : Option (List ℕ)) → Stands took output fed before start held
+      → Stands took_now output (fed ++ piece) after start now
 
   -- a front of the piece is fed too, and this is its rest
   abbrev pub FeedsFront : List ℕ → List ℕ → Type 0
@@ -87,7 +95,8 @@ abbrev pub fed_count : LineBuffer → ℕ
 fed_count reading = reading.used + length reading.held
 
 -- Some bytes were taken from the source and fed, and no output waits.
-pub record Running (took : List (List ℕ) → Type 0) (output : List (List ℕ) → List ℕ) (all left : Option (List ℕ)) (reading : LineBuffer)
+pub record Running (took : List (List ℕ) → Type 0) (output : List (List ℕ) → List ℕ) (all left : Option (List ℕ))
+    (reading : LineBuffer)
     (start now : Option (List ℕ)) : Type 0 where
   pub fed : List ℕ
   pub consumed : Consumes all left fed
@@ -95,7 +104,8 @@ pub record Running (took : List (List ℕ) → Type 0) (output : List (List ℕ)
   pub flushed : reading.output ≡ []
 
 -- It stopped so after some bytes were taken from the source.
-pub record HaltedAfter (outcome : Outcome) (took : List (List ℕ) → Type 0) (broke refuses : List (List ℕ) → List ℕ → Type 0)
+pub record HaltedAfter (outcome : Outcome) (took : List (List ℕ) → Type 0) (broke refuses : List (List ℕ) → List ℕ
+    → Type 0)
     (output : List (List ℕ) → List ℕ) (all left start now : Option (List ℕ)) : Type 0 where
   pub fed : List ℕ
   pub consumed : Consumes all left fed
@@ -103,13 +113,17 @@ pub record HaltedAfter (outcome : Outcome) (took : List (List ℕ) → Type 0) (
 
 -- ---- a read and all that follows from it, from what was left of the source to what is left now
 
-module _ (took took_now : List (List ℕ) → Type 0) (output : List (List ℕ) → List ℕ) (left left_now held now : Option (List ℕ)) where
+module _ (took took_now : List (List ℕ) → Type 0) (output : List (List ℕ)
+    → List ℕ) (left left_now held now : Option (List ℕ)) where
   abbrev pub RunsOn : LineBuffer → LineBuffer → Type 0
-  RunsOn before after = (all start : Option (List ℕ)) → Running took output all left before start held → Running took_now output all left_now after start now
+  RunsOn before after = (all start : Option (List ℕ)) → Running took output all left before start held
+      → Running took_now output all left_now after start now
 
-  abbrev pub StopsRunning : (List (List ℕ) → List ℕ → Type 0) → (List (List ℕ) → List ℕ → Type 0) → Outcome → LineBuffer → Type 0
+  abbrev pub StopsRunning : (List (List ℕ) → List ℕ → Type 0) → (List (List ℕ) → List ℕ → Type 0) → Outcome → LineBuffer
+      → Type 0
   StopsRunning broke refuses outcome before =
-      (all start : Option (List ℕ)) → Running took output all left before start held → HaltedAfter outcome took_now broke refuses output all left_now start now
+      (all start : Option (List ℕ)) → Running took output all left before start held
+      → HaltedAfter outcome took_now broke refuses output all left_now start now
 
 -- How it stops where the output of a piece that was fed so can't be written: by want of memory where that came before,
 -- since a line may have been taken in part.

@@ -1,5 +1,6 @@
 -- An input as bytes: its whole lines up to the first length that is too great, and how the bytes end.
-use Rattle.std.specs.Prelude.{ℕ, ◌+◌, ◌<◌, ◌==◌, ◌||◌, ◌≡◌, List, [], ◌∷◌, ◌++◌, length, take, drop, Bool, false, nat_lt, if◌then◌else◌}
+use Rattle.std.specs.Prelude.{ℕ, ◌+◌, ◌<◌, ◌==◌, ◌||◌, ◌≡◌, List, [], ◌∷◌, ◌++◌, length, take, drop, Bool, false}
+use Rattle.std.specs.Prelude.{nat_lt, if◌then◌else◌}
 use Rattle.std.specs.List.{slice_split}
 use Rattle.kds_defs.specs.declared.limits.TheConstants.{LINE_BYTES, INPUT_BYTES}
 

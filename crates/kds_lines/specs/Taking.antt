@@ -2,7 +2,8 @@
 use Rattle.std.specs.Prelude.{◌≡◌, ◌⊎◌, ℕ, List, [], ◌∷◌, ◌++◌}
 
 -- the line was taken after those, and its output was added
-pub record Goes (took : List (List ℕ) → Type 0) (output : List (List ℕ) → List ℕ) (lines : List (List ℕ)) (text before after : List ℕ) : Type 0 where
+pub record Goes (took : List (List ℕ) → Type 0) (output : List (List ℕ) → List ℕ) (lines : List (List ℕ))
+    (text before after : List ℕ) : Type 0 where
   pub taken : took (lines ++ text ∷ [])
   pub added : List ℕ
   pub grows : output (lines ++ text ∷ []) ≡ output lines ++ added
@@ -13,5 +14,7 @@ abbrev pub GoesOn : List ℕ → List ℕ → Type 0
 GoesOn front whole = (back : List ℕ) × (whole ≡ front ++ back)
 
 -- memory ran out after those lines: this one was not taken, or it was, or it ran out in the middle of it
-abbrev pub Breaks : (List (List ℕ) → Type 0) → (List (List ℕ) → List ℕ → Type 0) → (List (List ℕ) → List ℕ) → List (List ℕ) → List ℕ → Type 0
-Breaks took broke output lines text = took lines ⊎ ((took (lines ++ text ∷ []) × GoesOn (output lines) (output (lines ++ text ∷ []))) ⊎ broke lines text)
+abbrev pub Breaks : (List (List ℕ) → Type 0) → (List (List ℕ) → List ℕ → Type 0) → (List (List ℕ) → List ℕ)
+    → List (List ℕ) → List ℕ → Type 0
+Breaks took broke output lines text =
+    took lines ⊎ ((took (lines ++ text ∷ []) × GoesOn (output lines) (output (lines ++ text ∷ []))) ⊎ broke lines text)

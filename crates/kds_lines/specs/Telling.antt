@@ -4,13 +4,16 @@ use Rattle.std.specs.declared.option.Option.{Option}
 use Rattle.std.specs.Io.KnownBytes.{Appends}
 use Rattle.kds_lines.specs.Lines.{whole, unfinished, too_long, lined}
 use Rattle.kds_lines.specs.declared.outcome.Outcome.{Outcome}
-use Rattle.kds_lines.specs.declared.outcome.Outcome.TheVariants.{Whole, Unfinished, Stopped, TooLong, Read, Write, Memory}
+use Rattle.kds_lines.specs.declared.outcome.Outcome.TheVariants.{Whole, Unfinished, Stopped, TooLong, Read, Write}
+use Rattle.kds_lines.specs.declared.outcome.Outcome.TheVariants.{Memory}
 
 -- Why it ended so after these lines of the bytes, where these lines were left, and of the source these bytes. With
 -- Read these are the lines of the bytes that were read.
-abbrev pub Because : Outcome → (List (List ℕ) → List ℕ → Type 0) → List ℕ → Option (List ℕ) → List (List ℕ) → List (List ℕ) → Type 0
+abbrev pub Because : Outcome → (List (List ℕ) → List ℕ → Type 0) → List ℕ → Option (List ℕ) → List (List ℕ)
+    → List (List ℕ) → Type 0
 Because Whole refuses bytes left texts rest = ((lined bytes).end ≡ whole) × (rest ≡ [])
-Because (Unfinished n) refuses bytes left texts rest = ((lined bytes).end ≡ unfinished) × (rest ≡ []) × (n ≡ length texts + 1)
+Because (Unfinished n) refuses bytes left texts rest = ((lined bytes).end ≡ unfinished) × (rest ≡ [])
+    × (n ≡ length texts + 1)
 Because TooLong refuses bytes left texts rest = ((lined bytes).end ≡ too_long) × (rest ≡ [])
 Because (Stopped n) refuses bytes left texts rest =
     (text : List ℕ) × (later : List (List ℕ)) × (rest ≡ text ∷ later) × refuses texts text × (n ≡ length texts + 1)
@@ -25,10 +28,12 @@ Unwritten Write back = Unit {0}
 Unwritten Memory back = Unit {0}
 Unwritten _ back = back ≡ []
 
--- These lines were taken, before those that are left. Where memory ran out, it may have done so in the middle of the next
--- one.
-abbrev pub HasTaken : Outcome → (List (List ℕ) → Type 0) → (List (List ℕ) → List ℕ → Type 0) → List (List ℕ) → List (List ℕ) → Type 0
-HasTaken Memory took broke texts rest = took texts ⊎ ((text : List ℕ) × (later : List (List ℕ)) × (rest ≡ text ∷ later) × broke texts text)
+-- These lines were taken, before those that are left. Where memory ran out, it may have done so in the middle of the
+-- next one.
+abbrev pub HasTaken : Outcome → (List (List ℕ) → Type 0) → (List (List ℕ) → List ℕ → Type 0) → List (List ℕ)
+    → List (List ℕ) → Type 0
+HasTaken Memory took broke texts rest =
+    took texts ⊎ ((text : List ℕ) × (later : List (List ℕ)) × (rest ≡ text ∷ later) × broke texts text)
 HasTaken _ took broke texts rest = took texts
 
 -- The reading of these bytes ended so: the lines that were taken are the first ones of the bytes, and a front of their

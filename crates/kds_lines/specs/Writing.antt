@@ -18,8 +18,10 @@ Loses start now output = (missing : List ℕ) × Wrote start now output [] missi
 -- what waited was written, and this much waits now
 abbrev pub WritesOn : Option (List ℕ) → Option (List ℕ) → List ℕ → List ℕ → Type 0
 WritesOn held now waited waits =
-    (start : Option (List ℕ)) (whole missing : List ℕ) → Wrote start held whole waited missing → Wrote start now whole waits missing
+    (start : Option (List ℕ)) (whole missing : List ℕ) → Wrote start held whole waited missing
+    → Wrote start now whole waits missing
 
 -- of what waited a front was written, and the rest is lost
 abbrev pub LosesRest : Option (List ℕ) → Option (List ℕ) → List ℕ → Type 0
-LosesRest held now waited = (start : Option (List ℕ)) (whole missing : List ℕ) → Wrote start held whole waited missing → Loses start now whole
+LosesRest held now waited = (start : Option (List ℕ)) (whole missing : List ℕ) → Wrote start held whole waited missing
+    → Loses start now whole

@@ -1,11 +1,13 @@
 //! Splits a piece of the input into lines, and hands the lines to a taker. A piece is the bytes of one read. The taker
 //! is the consumer of the lines. The pending output is the output that waits to be written.
-ghost use Rattle.std.specs.Prelude.{◌≡◌, [], ◌∷◌, ◌++◌, ◌+◌, ◌≤◌, ◌<◌, List, ℕ, length, true, false, OnOk, OnErr, IfOk, IfErr, IsErrOf, MatchOption};
+ghost use Rattle.std.specs.Prelude.{◌≡◌, [], ◌∷◌, ◌++◌, ◌+◌, ◌≤◌, ◌<◌, List, ℕ, length, true, false, OnOk, OnErr, IfOk};
+ghost use Rattle.std.specs.Prelude.{IfErr, IsErrOf, MatchOption};
 ghost use Rattle.std.specs.declared.option.Option.{Option};
 ghost use Rattle.kds_ends.specs.Causes.{Rose};
 ghost use Rattle.kds_defs.specs.declared.limits.TheConstants.{LINE_BYTES};
 ghost use Rattle.kds_lines.specs.Lines.{NoFeed, HasFeedAt, Fed, is_over};
-ghost use Rattle.kds_lines.specs.LineBuffer.{EndsLine, Feeds, FeedsFront, HoldStops, IsOwnStop, IsFeedStop, StopsIn, StopsInLine, fed_count};
+ghost use Rattle.kds_lines.specs.LineBuffer.{EndsLine, Feeds, FeedsFront, HoldStops, IsOwnStop, IsFeedStop, StopsIn};
+ghost use Rattle.kds_lines.specs.LineBuffer.{StopsInLine, fed_count};
 ghost use Rattle.kds_lines.specs.Taking.{Goes, Breaks};
 
 use crate::outcome::Outcome;
@@ -79,7 +81,8 @@ fn end_line<T: Taker>(
     ensures ok { OnOk result ((held : Option (List ℕ)) →
         EndsLine (T.took taker.old) (T.took taker.new) T.output reading.old reading.new held held tail.now) }
     ensures err { IfErr result (λ o. (held : Option (List ℕ)) →
-        StopsInLine (T.took taker.old) (T.took taker.new) T.output reading.old reading.new held held (T.broke taker.new) T.refuses o tail.now) }
+        StopsInLine (T.took taker.old) (T.took taker.new) T.output reading.old reading.new held held
+        (T.broke taker.new) T.refuses o tail.now) }
     ensures count { OnOk result (fed_count reading.new ≡ fed_count reading.old + length tail.now + 1) }
     ensures kinds { IfErr result IsOwnStop }
 {
@@ -111,10 +114,11 @@ fn next_line<T: Taker, K: Sink>(
     out: &mut K,
 ) -> Result<(), Outcome>
     ensures ok { OnOk result
-        (EndsLine (T.took taker.old) (T.took taker.new) T.output reading.old reading.new (K.held out.old) (K.held out.new) tail.now) }
+        (EndsLine (T.took taker.old) (T.took taker.new) T.output reading.old reading.new
+        (K.held out.old) (K.held out.new) tail.now) }
     ensures err { IfErr result (λ o.
-        StopsInLine (T.took taker.old) (T.took taker.new) T.output reading.old reading.new (K.held out.old) (K.held out.new)
-        (T.broke taker.new) T.refuses o tail.now) }
+        StopsInLine (T.took taker.old) (T.took taker.new) T.output reading.old reading.new
+        (K.held out.old) (K.held out.new) (T.broke taker.new) T.refuses o tail.now) }
     ensures count { OnOk result (fed_count reading.new ≡ fed_count reading.old + length tail.now + 1) }
     ensures bounded { OnOk result (length reading.new.output < OUTPUT_BYTES) }
     ensures later { K.faults out.old ≤ K.faults out.new }
@@ -139,9 +143,11 @@ fn feed_lines<'a, T: Taker, K: Sink>(
 ) -> Result<&'a [u8], Outcome>
     requires { length reading.old.output < OUTPUT_BYTES }
     ensures ok { IfOk result (λ rest.
-        FeedsFront (T.took taker.old) (T.took taker.new) T.output reading.old reading.new (K.held out.old) (K.held out.new) piece.entry.now rest.now) }
+        FeedsFront (T.took taker.old) (T.took taker.new) T.output reading.old reading.new
+        (K.held out.old) (K.held out.new) piece.entry.now rest.now) }
     ensures rest { IfOk result (λ rest. NoFeed rest.now) }
-    ensures count { IfOk result (λ rest. fed_count reading.new + length rest.now ≡ fed_count reading.old + length piece.entry.now) }
+    ensures count { IfOk result (λ rest. fed_count reading.new + length rest.now ≡ fed_count reading.old
+        + length piece.entry.now) }
     ensures bounded { OnOk result (length reading.new.output < OUTPUT_BYTES) }
     ensures err { IfErr result (λ o.
         StopsIn (T.took taker.old) (T.took taker.new) T.output reading.old reading.new (K.held out.old) (K.held out.new)
@@ -165,12 +171,14 @@ fn feed_lines<'a, T: Taker, K: Sink>(
 /// Appends `rest`, which has no line feed, to the unfinished line that `reading` holds. Fails if the line or the input
 /// becomes too long, or if memory runs out.
 fn hold(reading: &mut LineBuffer, rest: &[u8]) -> Result<(), Outcome>
-    ensures ok { OnOk result ((fed : List ℕ) (texts : List (List ℕ)) → Fed fed texts reading.old.used reading.old.held → NoFeed rest.now
+    ensures ok { OnOk result ((fed : List ℕ) (texts : List (List ℕ)) → Fed fed texts reading.old.used reading.old.held
+        → NoFeed rest.now
         → Fed (fed ++ rest.now) texts reading.new.used reading.new.held) }
     ensures output { reading.new.output ≡ reading.old.output }
     ensures lines { reading.new.count ≡ reading.old.count }
     ensures count { OnOk result (fed_count reading.new ≡ fed_count reading.old + length rest.now) }
-    ensures err { IfErr result (λ o. (fed : List ℕ) (texts : List (List ℕ)) → Fed fed texts reading.old.used reading.old.held → NoFeed rest.now
+    ensures err { IfErr result (λ o. (fed : List ℕ) (texts : List (List ℕ))
+        → Fed fed texts reading.old.used reading.old.held → NoFeed rest.now
         → HoldStops o (fed ++ rest.now) texts) }
     ensures kinds { IfErr result IsOwnStop }
 {
@@ -196,7 +204,8 @@ pub fn feed<T: Taker, K: Sink>(
 ) -> Result<(), Outcome>
     requires { length reading.old.output < OUTPUT_BYTES }
     ensures ok { OnOk result
-        (Feeds (T.took taker.old) (T.took taker.new) T.output reading.old reading.new (K.held out.old) (K.held out.new) piece.now) }
+        (Feeds (T.took taker.old) (T.took taker.new) T.output reading.old reading.new
+        (K.held out.old) (K.held out.new) piece.now) }
     ensures count { OnOk result (fed_count reading.new ≡ fed_count reading.old + length piece.now) }
     ensures bounded { OnOk result (length reading.new.output < OUTPUT_BYTES) }
     ensures err { IfErr result (λ o.

@@ -1,6 +1,7 @@
 //! Reads an input to its end, and hands its lines to a taker, the consumer of the lines. A piece is the bytes of one
 //! read.
-ghost use Rattle.std.specs.Prelude.{◌≡◌, ◌<◌, ◌≤◌, [], List, ℕ, true, false, IfOk, IfErr, IsErrOf, IfSome, if◌then◌else◌, length, ◌==◌, ◌+◌};
+ghost use Rattle.std.specs.Prelude.{◌≡◌, ◌<◌, ◌≤◌, [], List, ℕ, true, false, IfOk, IfErr, IsErrOf, IfSome};
+ghost use Rattle.std.specs.Prelude.{if◌then◌else◌, length, ◌==◌, ◌+◌};
 ghost use Rattle.std.specs.declared.option.Option.{Option};
 ghost use Rattle.std.specs.Io.{ReadsAtMost};
 ghost use Rattle.std.specs.Io.KnownBytes.{IsAtEnd, ReadConsumes};
@@ -61,7 +62,8 @@ fn next_piece<T: Taker, S: Source, K: Sink>(
     ensures grows { IfOk result (λ more. more ≡ true → fed_count reading.old < fed_count reading.new) }
     ensures ends { IfOk result (λ more. more ≡ false → IsAtEnd (S.left input.new)) }
     ensures err { IfErr result (λ o. StopsRunning (T.took taker.old) (T.took taker.new) T.output
-        (S.left input.old) (S.left input.new) (K.held out.old) (K.held out.new) (T.broke taker.new) T.refuses o reading.old) }
+        (S.left input.old) (S.left input.new) (K.held out.old) (K.held out.new)
+        (T.broke taker.new) T.refuses o reading.old) }
     ensures source_later { S.faults input.old ≤ S.faults input.new }
     ensures sink_later { K.faults out.old ≤ K.faults out.new }
     ensures read { IsErrOf result Outcome.Read → Rose (S.faults input.old) (S.faults input.new) }
@@ -89,7 +91,8 @@ fn next_piece<T: Taker, S: Source, K: Sink>(
 /// Returns the outcome at the end of the input: `Unfinished` if the input ended with a line without a line feed,
 /// otherwise `Whole`.
 fn last(reading: &LineBuffer) -> Outcome
-    ensures { result ≡ (if length reading.now.held == 0 then Outcome.Whole else Outcome.Unfinished (reading.now.count + 1)) }
+    ensures { result ≡ (if length reading.now.held
+        == 0 then Outcome.Whole else Outcome.Unfinished (reading.now.count + 1)) }
 {
     if reading.held.as_slice().is_empty() {
         Outcome::Whole
@@ -112,7 +115,8 @@ pub fn read_lines<T: Taker, S: Source, K: Sink>(
 ) -> Outcome
     requires { T.took taker.old [] }
     ensures told { IfSome (S.left input.old) (λ bytes.
-        Told result (T.took taker.new) (T.broke taker.new) T.refuses T.output bytes (S.left input.new) (K.held out.old) (K.held out.new)) }
+        Told result (T.took taker.new) (T.broke taker.new) T.refuses T.output bytes
+        (S.left input.new) (K.held out.old) (K.held out.new)) }
     ensures read { result ≡ Outcome.Read → Rose (S.faults input.old) (S.faults input.new) }
     ensures write { result ≡ Outcome.Write → Rose (K.faults out.old) (K.faults out.new) }
     ensures later { K.faults out.old ≤ K.faults out.new }

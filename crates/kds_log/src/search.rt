@@ -16,7 +16,8 @@ use std::collections::VecDeque;
 /// both conditions too.
 pub fn first_index(records: &VecDeque<Stored>, floor: u64, position: u64) -> usize
     requires { AreInOrder (map logged records.now.items) }
-    ensures left { left_among floor position (map logged records.now.items) ≡ map logged (drop result records.now.items) }
+    ensures left { left_among floor position (map logged records.now.items)
+        ≡ map logged (drop result records.now.items) }
     ensures within { result ≤ length records.now.items }
 {
     match records.front() {

@@ -60,7 +60,10 @@ impl ShardLog {
     pub fn append(&mut self, item: Stored) -> Result<(), Memory>
         requires number { IfSome self.old.last (λ n. n < item.seq) }
         requires arrival { AllByRecursion (λ r. r.arrival ≤ item.arrival) self.old.kept }
-        ensures ok { OnOk result (log_of self.new ≡ record { kept = self.old.kept ++ logged item ∷ []; last = Some item.seq }) }
+        ensures ok { OnOk result (log_of self.new ≡ record {
+          kept = self.old.kept ++ logged item ∷ [];
+          last = Some item.seq;
+        }) }
         ensures err { OnErr result (log_of self.new ≡ log_of self.old) }
     {
         let seq = item.seq;
@@ -113,7 +116,10 @@ impl ShardLog {
     /// given up. If no record is left, the log keeps no memory.
     pub fn trim(&mut self, cut: Moment)
         ensures none { self.new.room ≡ 0 }
-        ensures value { log_of self.new ≡ record { kept = left_among (floor_of (Some cut)) 0 self.old.kept; last = self.old.last } }
+        ensures value { log_of self.new ≡ record {
+          kept = left_among (floor_of (Some cut)) 0 self.old.kept;
+          last = self.old.last;
+        } }
     {
         self.reserved = 0;
         drop_below(&mut self.records, floor_of(Some(cut)));
@@ -131,8 +137,10 @@ impl ShardLog {
         position: u64,
         limit: u32,
     ) -> Result<Items<Stored>, Memory>
-        ensures value { IfOk result (λ b. b ≡ map stored (beginning limit BATCH_BYTES (left_among (floor_of cut) position self.now.kept))) }
-        ensures some { 1 ≤ limit → FirstFits BATCH_BYTES (left_among (floor_of cut) position self.now.kept) → IfOk result (λ b. b ≢ []) }
+        ensures value { IfOk result
+            (λ b. b ≡ map stored (beginning limit BATCH_BYTES (left_among (floor_of cut) position self.now.kept))) }
+        ensures some { 1 ≤ limit → FirstFits BATCH_BYTES (left_among (floor_of cut) position self.now.kept)
+            → IfOk result (λ b. b ≢ []) }
         ensures orderly { IsOrderly (log_of self.now) }
     {
         let start = first_index(&self.records, floor_of(cut), position);

@@ -55,7 +55,8 @@ impl Window {
     /// bytes. `clock` must not be before the latest put.
     pub fn count(&mut self, clock: Moment, bytes: u64)
         requires { self.old.latest ≤ clock }
-        ensures puts { (puts : List SizedPut) → StandsFor self.old puts → StandsFor self.new (record { clock = clock; bytes = bytes } ∷ puts) }
+        ensures puts { (puts : List SizedPut) → StandsFor self.old puts
+            → StandsFor self.new (record { clock = clock; bytes = bytes } ∷ puts) }
         ensures latest { self.new.latest ≡ clock }
     {
         let taken = self.taken(clock);
@@ -68,8 +69,10 @@ impl Window {
     /// be before the latest put.
     fn taken(&self, clock: Moment) -> Taken
         requires { self.now.latest ≤ clock }
-        ensures records { (puts : List SizedPut) → StandsFor self.now puts → result.records ≡ stopped (length (window clock puts)) }
-        ensures bytes { (puts : List SizedPut) → StandsFor self.now puts → result.bytes ≡ stopped (bytes_of (window clock puts)) }
+        ensures records { (puts : List SizedPut) → StandsFor self.now puts
+            → result.records ≡ stopped (length (window clock puts)) }
+        ensures bytes { (puts : List SizedPut) → StandsFor self.now puts
+            → result.bytes ≡ stopped (bytes_of (window clock puts)) }
     {
         if is_same_second(self.latest, clock) {
             Taken {

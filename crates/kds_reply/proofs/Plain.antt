@@ -11,7 +11,8 @@ use Rattle.kds_reply_texts.specs.Bodies.{number_data, id_data, list_data}
 use Rattle.kds_reply.specs.Bodies.{member_if, page_string}
 use Rattle.kds_reply_texts.specs.Children.{range_data}
 use Rattle.kds_reply.specs.Shards.{sequence_data, shard_data, shards_data}
-use Rattle.kds_reply.specs.Streams.{streams_data, description_data, description_summary_data, described_data, summary_data, scaled_data}
+use Rattle.kds_reply.specs.Streams.{streams_data, description_data, description_summary_data, described_data}
+use Rattle.kds_reply.specs.Streams.{summary_data, scaled_data}
 
 abbrev IsPlain : Data → Type 0
 IsPlain d = has_float d ≡ false
@@ -20,7 +21,8 @@ list_plain : {A : Type 0} (f : A → Data) (xs : List A) → ((x : A) → IsPlai
 list_plain f [] h = refl
 list_plain f (x ∷ xs) h = rw (h x) (list_plain f xs h)
 
-member_plain : {A : Type 0} (f : A → Data) (name : List ℕ) (o : Option A) (ms : Members) → ((x : A) → IsPlain (f x)) → members_have_float ms ≡ false → members_have_float (member_if name (option_map f o) ms) ≡ false
+member_plain : {A : Type 0} (f : A → Data) (name : List ℕ) (o : Option A) (ms : Members) → ((x : A) → IsPlain (f x))
+    → members_have_float ms ≡ false → members_have_float (member_if name (option_map f o) ms) ≡ false
 member_plain f name None ms h rest = rest
 member_plain f name (Some x) ms h rest = rw (h x) rest
 
@@ -44,7 +46,8 @@ shard_plain s =
 
 pub shards_plain : (shards : List Shard) (next : Option Page) → IsPlain (shards_data shards next)
 unfolding shards_data
-shards_plain shards next = member_plain page_string _ next _ (λ p. refl) (rw (list_plain shard_data shards shard_plain) refl)
+shards_plain shards next =
+    member_plain page_string _ next _ (λ p. refl) (rw (list_plain shard_data shards shard_plain) refl)
 
 -- ---- streams
 

@@ -3,7 +3,8 @@ use Rattle.std.specs.Prelude.{ℕ, List, ◌++◌, codes}
 use Rattle.serde_json.specs.Written.{compact_text}
 use Rattle.kds_json_members.specs.declared.problem.Fault.{Fault}
 use Rattle.kds_json_members.specs.declared.problem.FaultKind.{FaultKind}
-use Rattle.kds_json_members.specs.declared.problem.FaultKind.TheVariants.{Unknown, Serialization, Missing, Invalid, Token}
+use Rattle.kds_json_members.specs.declared.problem.FaultKind.TheVariants.{Unknown, Serialization, Missing, Invalid}
+use Rattle.kds_json_members.specs.declared.problem.FaultKind.TheVariants.{Token}
 use Rattle.kds_reply_texts.specs.Errors.{error_data}
 
 -- the error that a fault is

@@ -3,7 +3,8 @@ use Rattle.std.specs.Prelude.{ℕ, Result, Ok, Err, List, [], Option, Some, None
 use Rattle.serde_json.specs.Data.{Data}
 use Rattle.serde_json.specs.Written.{compact_text}
 use Rattle.kds_defs.specs.declared.reply.Reply.{Reply}
-use Rattle.kds_defs.specs.declared.reply.Reply.TheVariants.{Done, Streams, Described, Summary, Put, PutMany, Scaled, Iterator, Records, Shards}
+use Rattle.kds_defs.specs.declared.reply.Reply.TheVariants.{Done, Streams, Described, Summary, Put, PutMany, Scaled}
+use Rattle.kds_defs.specs.declared.reply.Reply.TheVariants.{Iterator, Records, Shards}
 use Rattle.kds_defs.specs.declared.reply.Refusal.{Refusal}
 use Rattle.kds_json_members.specs.declared.problem.Fault.{Fault}
 use Rattle.kds_reply_texts.specs.Bodies.{place_data, outcomes_data, iterator_data}

@@ -1,6 +1,7 @@
 -- Streams as they are shown, and the list of their names.
 use Rattle.std.specs.Prelude.{ℕ, List, ◌++◌, codes, Bool}
-use Rattle.serde_json.specs.Data.{unsigned, Data, boolean, number, string, array, object, no_items, item, Members, no_members, member}
+use Rattle.serde_json.specs.Data.{unsigned, Data, boolean, number, string, array, object, no_items, item, Members}
+use Rattle.serde_json.specs.Data.{no_members, member}
 use Rattle.kds_defs.specs.declared.reply.About.{About}
 use Rattle.kds_defs.specs.declared.reply.Shard.{Shard}
 use Rattle.kds_reply_texts.specs.Bodies.{list_data, seconds_data}
@@ -62,11 +63,13 @@ description_summary_data about open_shards =
 
 -- (Kinesis API Reference, DescribeStream, Response Elements)
 unfoldable pub described_data : About → List Shard → Bool → Data
-described_data about shards more = object (member (codes "StreamDescription") (description_data about shards more) no_members)
+described_data about shards more =
+    object (member (codes "StreamDescription") (description_data about shards more) no_members)
 
 -- (Kinesis API Reference, DescribeStreamSummary, Response Elements)
 unfoldable pub summary_data : About → ℕ → Data
-summary_data about open_shards = object (member (codes "StreamDescriptionSummary") (description_summary_data about open_shards) no_members)
+summary_data about open_shards =
+    object (member (codes "StreamDescriptionSummary") (description_summary_data about open_shards) no_members)
 
 -- how many shards a stream had and is to have (Kinesis API Reference, UpdateShardCount, Response Elements)
 unfoldable pub scaled_data : List ℕ → ℕ → ℕ → Data

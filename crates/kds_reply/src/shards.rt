@@ -56,7 +56,8 @@ fn put_id_member(
     name: &str,
     shard: &Option<ShardNo>,
 ) -> Result<(), Memory>
-    ensures { OnOk result (members_view members.new.entries ≡ put_if name.now (option_map id_data shard.now) (members_view members.old.entries)) }
+    ensures { OnOk result (members_view members.new.entries
+        ≡ put_if name.now (option_map id_data shard.now) (members_view members.old.entries)) }
 {
     match shard {
         Some(shard) => {

@@ -2,7 +2,8 @@
 ghost use Rattle.std.specs.Prelude.{◌≡◌, ◌++◌, codes, map, IfOk, string_bytes};
 ghost use Rattle.serde_json.specs.Data.{string};
 ghost use Rattle.serde_json.specs.View.{view, members_view};
-ghost use Rattle.kds_reply.specs.Streams.{streams_data, monitoring_data, about_members, description_data, description_summary_data, described_data, summary_data, scaled_data};
+ghost use Rattle.kds_reply.specs.Streams.{streams_data, monitoring_data, about_members, description_data};
+ghost use Rattle.kds_reply.specs.Streams.{description_summary_data, described_data, summary_data, scaled_data};
 
 use crate::shards::shard_values;
 use kds_base::{Memory, Name};

@@ -11,7 +11,8 @@ use Rattle.kds_reply_texts.specs.Bodies.{list_data}
 use Rattle.kds_reply_texts.specs.Children.{child_data}
 use Rattle.kds_reply_texts.specs.Records.{record_data, records_data}
 
-in_pieces : (a b c d e f g : List ℕ) → (((((a ++ b) ++ c) ++ d) ++ e) ++ f) ++ g ≡ a ++ (b ++ (c ++ (d ++ (e ++ (f ++ g)))))
+in_pieces : (a b c d e f g : List ℕ)
+    → (((((a ++ b) ++ c) ++ d) ++ e) ++ f) ++ g ≡ a ++ (b ++ (c ++ (d ++ (e ++ (f ++ g)))))
 in_pieces a b c d e f g = simp append_assoc
 
 -- an object of these names, whatever their values
@@ -23,14 +24,17 @@ opened : (behind : ℕ) (token : List ℕ) (records : Data)
 unfolding escape_byte
 opened behind token records = simp append_assoc
 
-pub open_pieces : (batch : List Stored) (next : Iter) (behind : ℕ) (children : List Shard) (token : List ℕ) → token ≡ escape (iter_token next)
-    → (((((codes "{\"MillisBehindLatest\":" ++ decimal behind) ++ codes ",\"NextShardIterator\":\"") ++ token) ++ codes "\",\"Records\":")
+pub open_pieces : (batch : List Stored) (next : Iter) (behind : ℕ) (children : List Shard) (token : List ℕ)
+    → token ≡ escape (iter_token next)
+    → (((((codes "{\"MillisBehindLatest\":" ++ decimal behind) ++ codes ",\"NextShardIterator\":\"") ++ token)
+    ++ codes "\",\"Records\":")
     ++ compact_text (list_data record_data batch)) ++ codes "}"
     ≡ compact_text (records_data batch (Some next) behind children)
 unfolding records_data
 open_pieces batch next behind children token is =
     let records = list_data record_data batch in
-    rw is (in_pieces (codes "{\"MillisBehindLatest\":") (decimal behind) (codes ",\"NextShardIterator\":\"") (escape (iter_token next))
+    rw is (in_pieces (codes "{\"MillisBehindLatest\":") (decimal behind) (codes ",\"NextShardIterator\":\"")
+    (escape (iter_token next))
     (codes "\",\"Records\":") (compact_text records) (codes "}")
     ∙ opened behind (iter_token next) records)
 
@@ -38,7 +42,8 @@ open_pieces batch next behind children token is =
 ended : (family : Data) (behind : ℕ) (records : Data)
     → codes "{\"ChildShards\":" ++ (compact_text family ++ (codes ",\"MillisBehindLatest\":" ++ (decimal behind
     ++ (codes ",\"NextShardIterator\":null,\"Records\":" ++ (compact_text records ++ codes "}")))))
-    ≡ compact_text (object (member (codes "ChildShards") family (member (codes "MillisBehindLatest") (number (unsigned behind))
+    ≡ compact_text (object
+    (member (codes "ChildShards") family (member (codes "MillisBehindLatest") (number (unsigned behind))
     (member (codes "NextShardIterator") null (member (codes "Records") records no_members)))))
 unfolding escape_byte
 ended family behind records = simp append_assoc
@@ -52,6 +57,7 @@ unfolding records_data
 end_pieces batch behind children family is =
     let shards = list_data child_data children in
     let records = list_data record_data batch in
-    rw is (in_pieces (codes "{\"ChildShards\":") (compact_text shards) (codes ",\"MillisBehindLatest\":") (decimal behind)
+    rw is (in_pieces (codes "{\"ChildShards\":") (compact_text shards) (codes ",\"MillisBehindLatest\":")
+    (decimal behind)
     (codes ",\"NextShardIterator\":null,\"Records\":") (compact_text records) (codes "}")
     ∙ ended shards behind records)

@@ -28,7 +28,8 @@ pub added : {A : Type 0} (u v a b : List A) → u ≡ a → v ≡ u ++ b → v �
 added u v a b first second = second ∙ ap (λ ts. ts ++ b) first
 
 pub error_tokens : (name message : List ℕ)
-    → begin_object ∷ key (codes "__type") ∷ string name ∷ key (codes "message") ∷ string message ∷ end_object ∷ [] ≡ tokens_of (error_data name message)
+    → begin_object ∷ key (codes "__type") ∷ string name ∷ key (codes "message") ∷ string message ∷ end_object ∷ []
+    ≡ tokens_of (error_data name message)
 error_tokens name message = refl
 
 pub iterator_tokens : (i : Iter) (token : List ℕ) → token ≡ iter_token i
@@ -39,7 +40,8 @@ iterator_tokens i token is = rw is refl
 -- ---- the children of a shard
 
 pub range_tokens : (r : Span) (end start : ℕ) → end ≡ r.end → start ≡ r.start
-    → begin_object ∷ key (codes "EndingHashKey") ∷ string (decimal end) ∷ key (codes "StartingHashKey") ∷ string (decimal start) ∷ end_object ∷ [] ≡ tokens_of (range_data r)
+    → begin_object ∷ key (codes "EndingHashKey") ∷ string (decimal end) ∷ key (codes "StartingHashKey")
+    ∷ string (decimal start) ∷ end_object ∷ [] ≡ tokens_of (range_data r)
 unfolding range_data
 range_tokens r end start is_end is_start = rw (is_end, is_start) refl
 
@@ -47,9 +49,13 @@ apart_child : (r k p i e : List Token) → ((((r ++ k) ++ p) ++ i) ++ e) ≡ r +
 apart_child r k p i e = simp append_assoc
 
 pub child_tokens : (s : Shard) (r : Span) (id : List ℕ) → r ≡ s.range → id ≡ shard_id s.no
-    → begin_object ∷ key (codes "HashKeyRange") ∷ ((((tokens_of (range_data r) ++ key (codes "ParentShards") ∷ []) ++ tokens_of (list_data id_data (parents_of s))) ++ key (codes "ShardId") ∷ string id ∷ []) ++ end_object ∷ []) ≡ tokens_of (child_data s)
+    → begin_object ∷ key (codes "HashKeyRange")
+    ∷ ((((tokens_of (range_data r) ++ key (codes "ParentShards") ∷ [])
+    ++ tokens_of (list_data id_data (parents_of s))) ++ key (codes "ShardId") ∷ string id ∷ [])
+    ++ end_object ∷ []) ≡ tokens_of (child_data s)
 unfolding child_data
 child_tokens s r id is_range is_id =
     ap (λ (ts : List Token). begin_object ∷ key (codes "HashKeyRange") ∷ ts)
-    (apart_child (tokens_of (range_data r)) (key (codes "ParentShards") ∷ []) (tokens_of (list_data id_data (parents_of s))) (key (codes "ShardId") ∷ string id ∷ []) (end_object ∷ [])
+    (apart_child (tokens_of (range_data r)) (key (codes "ParentShards") ∷ [])
+    (tokens_of (list_data id_data (parents_of s))) (key (codes "ShardId") ∷ string id ∷ []) (end_object ∷ [])
     ∙ rw (is_range, is_id) refl)

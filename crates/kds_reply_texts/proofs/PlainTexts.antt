@@ -1,5 +1,7 @@
 -- Texts that have no byte to escape.
-use Rattle.std.proofs.Common.{◌≡◌, ℕ, zero, suc, ◌+◌, ◌*◌, ◌/◌, ◌%◌, ◌^◌, ◌<◌, ◌≤◌, Bool, true, false, ◌==◌, ◌||◌, nat_lt, List, [], ◌∷◌, ◌++◌, length, refl, ap, ◌∙◌, decimal, arith, slice_index, get_or, replicate, IsUtf8, inl, inr}
+use Rattle.std.proofs.Common.{◌≡◌, ℕ, zero, suc, ◌+◌, ◌*◌, ◌/◌, ◌%◌, ◌^◌, ◌<◌, ◌≤◌, Bool, true, false, ◌==◌, ◌||◌}
+use Rattle.std.proofs.Common.{nat_lt, List, [], ◌∷◌, ◌++◌, length, refl, ap, ◌∙◌, decimal, arith, slice_index, get_or}
+use Rattle.std.proofs.Common.{replicate, IsUtf8, inl, inr}
 use Rattle.std.proofs.lemmas.Bool.{cases_lt, or_parts, not-true, eqb-false, ltb-false, ne_eqb, le-ltb}
 use Rattle.std.proofs.lemmas.Fmt.{decimal_is_IsNumeral}
 use Rattle.std.proofs.lemmas.Str.Parse.{digit_at}
@@ -51,19 +53,29 @@ symbols [] bytes = tt
 symbols (a ∷ []) bytes = let x = bytes 0 in (symbol (a / 4) (omega arith), (symbol (a % 4 * 16) (omega arith), tt))
 symbols (a ∷ b ∷ []) bytes =
     let x = bytes 0 in
-    let y = bytes 1 in
-    (symbol (a / 4) (omega arith), (symbol (a % 4 * 16 + b / 16) (omega arith), (symbol (b % 16 * 4) (omega arith), tt)))
+    let y = bytes 1 in (
+      symbol (a / 4) (omega arith),
+      (symbol (a % 4 * 16 + b / 16) (omega arith), (symbol (b % 16 * 4) (omega arith), tt)),
+    )
 symbols (a ∷ b ∷ c ∷ rest) bytes =
     let x = bytes 0 in
     let y = bytes 1 in
     let z = bytes 2 in
-    let more = symbols rest (λ k. bytes (suc (suc (suc k)))) in
-    (symbol (a / 4) (omega arith), (symbol (a % 4 * 16 + b / 16) (omega arith), (symbol (b % 16 * 4 + c / 64) (omega arith), (symbol (c % 64) (omega arith), more))))
+    let more = symbols rest (λ k. bytes (suc (suc (suc k)))) in (
+      symbol (a / 4) (omega arith),
+      (
+        symbol (a % 4 * 16 + b / 16) (omega arith),
+        (symbol (b % 16 * 4 + c / 64) (omega arith), (symbol (c % 64) (omega arith), more)),
+      ),
+    )
 
 -- the alphabet and the padding are plain
-pub escape-encoded : (m : List ℕ) → ((k : ℕ) → get_or m k 0 < 256) → escape (encode_of standard m) ≡ encode_of standard m
+pub escape-encoded : (m : List ℕ) → ((k : ℕ) → get_or m k 0 < 256)
+    → escape (encode_of standard m) ≡ encode_of standard m
 escape-encoded m bytes =
-    escape_plain (encode_of standard m) (plain-append (encode_symbols standard.encode_table m) _ (symbols m bytes) (plain-replicate (padding_len (length m)) 61 refl))
+    escape_plain (encode_of standard m)
+    (plain-append (encode_symbols standard.encode_table m) _ (symbols m bytes)
+    (plain-replicate (padding_len (length m)) 61 refl))
 
 -- ---- digits
 
@@ -77,26 +89,37 @@ digits_plain (x ∷ xs) h =
     (digit x first.0 first.1, digits_plain xs (λ i small. h (suc i) (omega arith)))
 
 pub escape-decimal : (n : ℕ) → n < 2 ^ 64 → escape (decimal n) ≡ decimal n
-escape-decimal n small = escape_plain (decimal n) (digits_plain (decimal n) (λ i inside. digit_at (decimal n) i (decimal_is_IsNumeral n small).0.1 inside))
+escape-decimal n small =
+    escape_plain (decimal n)
+    (digits_plain (decimal n) (λ i inside. digit_at (decimal n) i (decimal_is_IsNumeral n small).0.1 inside))
 
 -- ---- texts that stand between quotes as they are, where n bytes were looked at, which are all
 
 below_128 : (d : List ℕ) (n : ℕ) → length d ≤ n → ((k : ℕ) → k < n → get_or d k 0 < 128) → IsAscii d
-below_128 d n all low i = elim (cases_lt i (length d)) [ inl inside ↦ low i (omega arith) | inr past ↦ let none = get_or_past d i 0 past in omega arith ]
+below_128 d n all low i =
+    elim (cases_lt i (length d)) [
+      | inl inside ↦ low i (omega arith)
+      | inr past ↦ let none = get_or_past d i 0 past in
+          omega arith
+    ]
 
-escape_seen : (plain : Bool) (d : List ℕ) (n : ℕ) → plain ≡ true → length d ≤ n → OnTrue plain (PlainBetween d 0 n) → escape d ≡ d
+escape_seen : (plain : Bool) (d : List ℕ) (n : ℕ) → plain ≡ true → length d ≤ n → OnTrue plain (PlainBetween d 0 n)
+    → escape d ≡ d
 escape_seen true d n is all seen = escape_on_plain true d (λ k low high. seen k low (omega arith))
 escape_seen false d n is all seen = absurd (cc)
 
 stands : (d : List ℕ) → IsUtf8 d → escape d ≡ d → escape (utf8_lossy d) ≡ d
 stands d text plain = ap escape (utf8_lossy-IsUtf8 d text) ∙ plain
 
-pub plain_ascii : (plain ascii : Bool) (d : List ℕ) (n : ℕ) → plain ≡ true → length d ≤ n → OnTrue plain (PlainBetween d 0 n)
+pub plain_ascii : (plain ascii : Bool) (d : List ℕ) (n : ℕ) → plain ≡ true → length d ≤ n
+    → OnTrue plain (PlainBetween d 0 n)
     → OnTrue ascii ((k : ℕ) → k < n → get_or d k 0 < 128) → OnTrue ascii (escape (utf8_lossy d) ≡ d)
-plain_ascii plain true d n is all seen low = stands d (IsUtf8-from_ascii d (below_128 d n all low)) (escape_seen plain d n is all seen)
+plain_ascii plain true d n is all seen low =
+    stands d (IsUtf8-from_ascii d (below_128 d n all low)) (escape_seen plain d n is all seen)
 plain_ascii plain false d n is all seen low = tt
 
-pub plain_text : (plain text : Bool) (d : List ℕ) (n : ℕ) → plain ≡ true → length d ≤ n → OnTrue plain (PlainBetween d 0 n)
+pub plain_text : (plain text : Bool) (d : List ℕ) (n : ℕ) → plain ≡ true → length d ≤ n
+    → OnTrue plain (PlainBetween d 0 n)
     → OnTrue text (IsUtf8 d) → OnTrue text (escape (utf8_lossy d) ≡ d)
 plain_text plain true d n is all seen text = stands d text (escape_seen plain d n is all seen)
 plain_text plain false d n is all seen text = tt

@@ -1,5 +1,7 @@
 -- The text of records in pieces.
-use Rattle.std.proofs.Common.{◌≡◌, ℕ, ◌+◌, ◌-◌, ◌/◌, ◌^◌, ◌<◌, ◌≤◌, Bool, true, List, [], ◌∷◌, ◌++◌, Some, None, Option, length, take, drop, map, get_or, refl, sym, ap, ◌∙◌, decimal, codes, arith, append_assoc, inl, inr}
+use Rattle.std.proofs.Common.{◌≡◌, ℕ, ◌+◌, ◌-◌, ◌/◌, ◌^◌, ◌<◌, ◌≤◌, Bool, true, List, [], ◌∷◌, ◌++◌, Some, None, Option}
+use Rattle.std.proofs.Common.{length, take, drop, map, get_or, refl, sym, ap, ◌∙◌, decimal, codes, arith, append_assoc}
+use Rattle.std.proofs.Common.{inl, inr}
 use Rattle.std.proofs.lemmas.List.{append-nil, length-append, length-drop, drop_all, drop_more, take_at}
 use Rattle.std.proofs.lemmas.Bool.{cases_lt}
 use borrow.Rule.Slice.PartMut.{post_of}
@@ -17,47 +19,62 @@ use Rattle.kds_reply_texts.specs.Records.{record_data}
 
 -- a record, whose digits and base64 stand between quotes as they are
 pub record_text : (r : Stored)
-    → codes "{\"ApproximateArrivalTimestamp\":" ++ (decimal (r.arrival / 1000) ++ (codes ",\"Data\":\"" ++ (escape (encode_of standard r.payload)
-    ++ (codes "\",\"PartitionKey\":\"" ++ (escape (utf8_lossy r.key) ++ (codes "\",\"SequenceNumber\":\"" ++ (escape (decimal r.seq) ++ codes "\"}")))))))
+    → codes "{\"ApproximateArrivalTimestamp\":"
+    ++ (decimal (r.arrival / 1000) ++ (codes ",\"Data\":\"" ++ (escape (encode_of standard r.payload)
+    ++ (codes "\",\"PartitionKey\":\""
+    ++ (escape (utf8_lossy r.key)
+    ++ (codes "\",\"SequenceNumber\":\"" ++ (escape (decimal r.seq) ++ codes "\"}")))))))
     ≡ compact_text (record_data r)
 unfolding record_data escape_byte
 record_text r = simp append_assoc
 
 -- the length of base64, where it fits
-pub size_is : (n size : ℕ) (r : Option ℕ) → (encoded_size n true < 2 ^ 64 → r ≡ Some (encoded_size n true)) → (2 ^ 64 ≤ encoded_size n true → r ≡ None) → r ≡ Some size → size ≡ encoded_size n true
+pub size_is : (n size : ℕ) (r : Option ℕ) → (encoded_size n true < 2 ^ 64 → r ≡ Some (encoded_size n true))
+    → (2 ^ 64 ≤ encoded_size n true → r ≡ None) → r ≡ Some size → size ≡ encoded_size n true
 size_is n size r fits long is = elim (cases_lt (encoded_size n true) (2 ^ 64)) [
   | inl short ↦ let e = fits short in cc
   | inr over ↦ let e = long over in absurd (cc)
 ]
 
 -- what was written over the room that was made at the end of old
-pub written_over : (s new rest old text part : List ℕ) (at size wide k : ℕ) → take at s ≡ old → at ≡ length old → length s ≡ at + size → k ≡ length s → size ≡ wide
+pub written_over : (s new rest old text part : List ℕ) (at size wide k : ℕ) → take at s ≡ old → at ≡ length old
+    → length s ≡ at + size → k ≡ length s → size ≡ wide
     → length new ≡ length part → length new + at ≡ length s → new ≡ text ++ drop wide part
-    → take k ((take at s ++ (new ++ post_of at (length s - at) s)) ++ drop (length (take at s ++ (new ++ post_of at (length s - at) s))) rest) ≡ old ++ text
+    → take k ((take at s ++ (new ++ post_of at (length s - at) s))
+    ++ drop (length (take at s ++ (new ++ post_of at (length s - at) s))) rest) ≡ old ++ text
 written_over s new rest old text part at size wide k front is long all fits same whole written =
     let over : drop wide part ≡ [] = drop_all wide part (omega arith) in
     let over_all : new ≡ text = written ∙ ap (λ (x : List ℕ). text ++ x) over ∙ append-nil text in
-    let past : post_of at (length s - at) s ≡ [] = drop_all (length s - at) (drop at s) (omega (arith, length-drop at s)) in
-    let bytes : take at s ++ (new ++ post_of at (length s - at) s) ≡ old ++ text = rw (front, past, over_all, append-nil) refl in
-    let len : length (take at s ++ (new ++ post_of at (length s - at) s)) ≡ k = ap length bytes ∙ length-append old text ∙ omega (arith, ap length over_all) in
+    let past : post_of at (length s - at) s ≡ [] =
+    drop_all (length s - at) (drop at s) (omega (arith, length-drop at s)) in
+    let bytes : take at s ++ (new ++ post_of at (length s - at) s) ≡ old ++ text =
+    rw (front, past, over_all, append-nil) refl in
+    let len : length (take at s ++ (new ++ post_of at (length s - at) s)) ≡ k =
+    ap length bytes ∙ length-append old text ∙ omega (arith, ap length over_all) in
     take_at _ _ k len ∙ bytes
 
 -- what a writer has of one string
-pub string_text : (before : List ℕ) (ts : List Token) (text : List ℕ) → before ≡ [] → ts ≡ string text ∷ [] → before ++ print ts ≡ quoted text
+pub string_text : (before : List ℕ) (ts : List Token) (text : List ℕ) → before ≡ [] → ts ≡ string text ∷ []
+    → before ++ print ts ≡ quoted text
 unfolding print_from
 string_text before ts text nothing is = rw (nothing, is) (append-nil (quoted text))
 
-pub in_pieces : (a b c d e f g h i : List ℕ) → (((((((a ++ b) ++ c) ++ d) ++ e) ++ f) ++ g) ++ h) ++ i ≡ a ++ (b ++ (c ++ (d ++ (e ++ (f ++ (g ++ (h ++ i)))))))
+pub in_pieces : (a b c d e f g h i : List ℕ) → (((((((a ++ b) ++ c) ++ d) ++ e) ++ f) ++ g) ++ h) ++ i ≡ a
+    ++ (b ++ (c ++ (d ++ (e ++ (f ++ (g ++ (h ++ i)))))))
 in_pieces a b c d e f g h i = simp append_assoc
 
 -- a record, as its pieces were added
-pub record_pieces : (r : Stored) (n : ℕ) (payload name : List ℕ) → n ≡ r.arrival / 1000 → payload ≡ r.payload → name ≡ r.key
-    → (((((((codes "{\"ApproximateArrivalTimestamp\":" ++ decimal n) ++ codes ",\"Data\":\"") ++ escape (encode_of standard payload)) ++ codes "\",\"PartitionKey\":\"") ++ escape (utf8_lossy name))
+pub record_pieces : (r : Stored) (n : ℕ) (payload name : List ℕ) → n ≡ r.arrival / 1000 → payload ≡ r.payload
+    → name ≡ r.key
+    → (((((((codes "{\"ApproximateArrivalTimestamp\":" ++ decimal n) ++ codes ",\"Data\":\"")
+    ++ escape (encode_of standard payload)) ++ codes "\",\"PartitionKey\":\"") ++ escape (utf8_lossy name))
     ++ codes "\",\"SequenceNumber\":\"") ++ escape (decimal r.seq)) ++ codes "\"}" ≡ compact_text (record_data r)
 record_pieces r n payload name is_n is_payload is_name =
     rw (is_n, is_payload, is_name)
-    (in_pieces (codes "{\"ApproximateArrivalTimestamp\":") (decimal (r.arrival / 1000)) (codes ",\"Data\":\"") (escape (encode_of standard r.payload))
-    (codes "\",\"PartitionKey\":\"") (escape (utf8_lossy r.key)) (codes "\",\"SequenceNumber\":\"") (escape (decimal r.seq)) (codes "\"}")
+    (in_pieces (codes "{\"ApproximateArrivalTimestamp\":") (decimal (r.arrival / 1000)) (codes ",\"Data\":\"")
+    (escape (encode_of standard r.payload))
+    (codes "\",\"PartitionKey\":\"") (escape (utf8_lossy r.key)) (codes "\",\"SequenceNumber\":\"")
+    (escape (decimal r.seq)) (codes "\"}")
     ∙ record_text r)
 
 -- ---- items one after another, as records and outcomes are
@@ -72,10 +89,12 @@ next_item f xs i x later out parted more all inside is comma text whole =
     let here : drop i xs ≡ x ∷ drop (i + 1) xs = drop_more xs i x inside ∙ ap (λ y. y ∷ drop (i + 1) xs) (sym is) in
     let joined : more ++ rest ≡ out ++ (comma_if later ++ (compact_text (f x) ++ rest)) =
     ap (λ (s : List ℕ). s ++ rest) (text ∙ ap (λ (s : List ℕ). s ++ compact_text (f x)) comma)
-    ∙ append_assoc (out ++ comma_if later) (compact_text (f x)) rest ∙ append_assoc out (comma_if later) (compact_text (f x) ++ rest) in
+    ∙ append_assoc (out ++ comma_if later) (compact_text (f x)) rest
+    ∙ append_assoc out (comma_if later) (compact_text (f x) ++ rest) in
     joined ∙ ap (λ ys. out ++ items_text later (items_of (map f ys))) (sym here) ∙ whole
 
 -- the end of an array, where no item is left
 pub last_item : {A : Type 0} (f : A → Data) (xs : List A) (i : ℕ) (later : Bool) (out all : List ℕ)
     → length xs ≤ i → out ++ items_text later (items_of (map f (drop i xs))) ≡ all → out ++ 93 ∷ [] ≡ all
-last_item f xs i later out all past whole = ap (λ ys. out ++ items_text later (items_of (map f ys))) (sym (drop_all i xs past)) ∙ whole
+last_item f xs i later out all past whole =
+    ap (λ ys. out ++ items_text later (items_of (map f ys))) (sym (drop_all i xs past)) ∙ whole

@@ -1,5 +1,6 @@
 -- Texts that are written over room.
-use Rattle.std.proofs.Common.{◌≡◌, ℕ, ◌+◌, ◌/◌, ◌≤◌, true, List, ◌++◌, length, take, drop, replicate, subst, ap, ◌∙◌, decimal, codes, arith, append_assoc}
+use Rattle.std.proofs.Common.{◌≡◌, ℕ, ◌+◌, ◌/◌, ◌≤◌, true, List, ◌++◌, length, take, drop, replicate, subst, ap, ◌∙◌}
+use Rattle.std.proofs.Common.{decimal, codes, arith, append_assoc}
 use Rattle.std.proofs.lemmas.List.{length-append, length-replicate, length-take-le, take_at}
 use borrow.Rule.Slice.PartMut.{put_mid, post_of}
 use Rattle.std.specs.Str.Lossy.{utf8_lossy}
@@ -28,7 +29,8 @@ pub over_part : (a k n : ℕ) (xs ys text rest : List ℕ) → ys ≡ text ++ re
     → take n (put_mid a k xs ys) ≡ take a xs ++ text
 over_part a k n xs ys text rest is inside end =
     let joined : put_mid a k xs ys ≡ (take a xs ++ text) ++ (rest ++ post_of a k xs) = rw is (simp append_assoc) in
-    let size : length (take a xs ++ text) ≡ n = omega (arith, length-append (take a xs) text, length-take-le a xs inside) in
+    let size : length (take a xs ++ text) ≡ n =
+    omega (arith, length-append (take a xs) text, length-take-le a xs inside) in
     ap (λ (s : List ℕ). take n s) joined ∙ take_at _ _ n size
 
 front_first : (a b c rest : List ℕ) → (a ++ (b ++ c)) ++ rest ≡ a ++ (b ++ (c ++ rest))
@@ -58,9 +60,11 @@ record_in_pieces front payload name seq =
     (codes "\",\"SequenceNumber\":\"") (escape (decimal seq)) (codes "\"}")
 
 -- what the standard's engine wrote
-pub encoded_by : (e : GeneralPurpose) (m old new : List ℕ) → e ≡ standard → IsEncodedOver e m old new → IsEncodedOver standard m old new
+pub encoded_by : (e : GeneralPurpose) (m old new : List ℕ) → e ≡ standard → IsEncodedOver e m old new
+    → IsEncodedOver standard m old new
 encoded_by e m old new is written = subst (λ (g : GeneralPurpose). IsEncodedOver g m old new) is written
 
 -- the front of a vector whose items were written over
-pub over_vec : (e k : ℕ) (new items : List ℕ) → length new ≡ k → take e (take k (new ++ drop (length new) items)) ≡ take e new
+pub over_vec : (e k : ℕ) (new items : List ℕ) → length new ≡ k → take e (take k (new ++ drop (length new) items))
+    ≡ take e new
 over_vec e k new items size = ap (λ (s : List ℕ). take e s) (take_at new _ k size)

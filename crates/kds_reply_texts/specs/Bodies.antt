@@ -25,11 +25,13 @@ list_data f xs = array (items_of (map f xs))
 
 -- where a record was put (Kinesis API Reference, PutRecord, Response Elements)
 unfoldable pub place_data : Place → Data
-place_data p = object (member (codes "SequenceNumber") (number_data p.seq) (member (codes "ShardId") (id_data p.shard) no_members))
+place_data p = object
+    (member (codes "SequenceNumber") (number_data p.seq) (member (codes "ShardId") (id_data p.shard) no_members))
 
 -- a record of many that wasn't put (Kinesis API Reference, PutRecordsResultEntry)
 unfoldable pub failed_data : List ℕ → List ℕ → Data
-failed_data name message = object (member (codes "ErrorCode") (string name) (member (codes "ErrorMessage") (string message) no_members))
+failed_data name message =
+    object (member (codes "ErrorCode") (string name) (member (codes "ErrorMessage") (string message) no_members))
 
 -- what became of a record of many: where it was put, or the refusal that a put of it alone would have
 abbrev pub outcome_data : Outcome → Data

@@ -3,11 +3,14 @@ use Rattle.std.specs.Prelude.{ℕ, List, [], codes}
 use Rattle.serde_json.specs.Data.{Data, string, object, member, no_members}
 use Rattle.serde_json.specs.Written.{compact_text}
 use Rattle.kds_defs.specs.declared.reply.Refusal.{Refusal}
-use Rattle.kds_defs.specs.declared.reply.Refusal.TheVariants.{NoStream, StreamThere, NoShard, ShardClosed, NotAdjacent, BadSplit, BadNumber, BadRetention, Expired, PageExpired, Full, Spent, Throttled}
+use Rattle.kds_defs.specs.declared.reply.Refusal.TheVariants.{NoStream, StreamThere, NoShard, ShardClosed, NotAdjacent}
+use Rattle.kds_defs.specs.declared.reply.Refusal.TheVariants.{BadSplit, BadNumber, BadRetention, Expired, PageExpired}
+use Rattle.kds_defs.specs.declared.reply.Refusal.TheVariants.{Full, Spent, Throttled}
 
 -- the name of an error, and a message
 abbrev pub error_data : List ℕ → List ℕ → Data
-error_data name message = object (member (codes "__type") (string name) (member (codes "message") (string message) no_members))
+error_data name message =
+    object (member (codes "__type") (string name) (member (codes "message") (string message) no_members))
 
 -- The error that a refusal of the stream service is. No other refusal is told in JSON: the last lines stand for those,
 -- which the condition of `reply` excludes.

@@ -13,7 +13,8 @@ front_text second = codes "{\"ApproximateArrivalTimestamp\":" ++ (decimal second
 unfoldable pub written_record : List ℕ → List ℕ → List ℕ → ℕ → List ℕ
 written_record front payload name seq =
     front ++ (escape (encode_of standard payload)
-    ++ (codes "\",\"PartitionKey\":\"" ++ (name ++ (codes "\",\"SequenceNumber\":\"" ++ (escape (decimal seq) ++ codes "\"}")))))
+    ++ (codes "\",\"PartitionKey\":\""
+    ++ (name ++ (codes "\",\"SequenceNumber\":\"" ++ (escape (decimal seq) ++ codes "\"}")))))
 
 -- as many bytes as a record takes at most, with a comma before it
 abbrev pub record_room : List ℕ → List ℕ → ℕ

@@ -32,7 +32,9 @@ fn put_open(
     next: &Iter,
     behind: u64,
 ) -> Result<(), Memory>
-    ensures { (children : List Shard) → OnOk result (out.new.items ≡ out.old.items ++ compact_text (records_data batch.now (Some next.now) behind children)) }
+    ensures { (children : List Shard)
+        → OnOk result (out.new.items ≡ out.old.items
+        ++ compact_text (records_data batch.now (Some next.now) behind children)) }
 {
     let token = quoted_iter(alloc, next)?;
     push_piece(out, b"{\"MillisBehindLatest\":")?;
@@ -54,7 +56,8 @@ fn put_end(
     behind: u64,
     children: &[Shard],
 ) -> Result<(), Memory>
-    ensures { OnOk result (out.new.items ≡ out.old.items ++ compact_text (records_data batch.now None behind children.now)) }
+    ensures { OnOk result (out.new.items ≡ out.old.items
+        ++ compact_text (records_data batch.now None behind children.now)) }
 {
     let family = children_text(alloc, children)?;
     push_piece(out, b"{\"ChildShards\":")?;
@@ -78,7 +81,8 @@ pub fn add_batch(
     behind: u64,
     children: &[Shard],
 ) -> Result<(), Memory>
-    ensures { OnOk result (out.new.items ≡ out.old.items ++ compact_text (records_data batch.now next.now behind children.now)) }
+    ensures { OnOk result (out.new.items ≡ out.old.items
+        ++ compact_text (records_data batch.now next.now behind children.now)) }
 {
     reserve(out, size_of_batch(batch))?;
     match next {

@@ -1,7 +1,8 @@
 //! Writes the replies to PutRecord and PutRecords directly as JSON text.
 ghost use Rattle.std.specs.Prelude.{◌≡◌, ◌++◌, OnOk};
 ghost use Rattle.serde_json.specs.Written.{compact_text};
-ghost use Rattle.kds_reply_texts.specs.Bodies.{list_data, place_data, failed_data, outcome_data, has_failed, failed_count as count_of_failed, outcomes_data};
+ghost use Rattle.kds_reply_texts.specs.Bodies.{list_data, place_data, failed_data, outcome_data, has_failed};
+ghost use Rattle.kds_reply_texts.specs.Bodies.{failed_count as count_of_failed, outcomes_data};
 
 use crate::pieces::{push_piece, put_comma, put_decimal, put_seq, put_str, reserve};
 use crate::refusals::{refusal_message, refusal_name};

@@ -145,7 +145,8 @@ fn add_escaped_record(
 ) -> Result<usize, Memory>
     requires { at ≤ vec_len out.old }
     ensures within { IfOk result (λ end. end ≤ vec_len out.new) }
-    ensures text { IfOk result (λ end. take end out.new.items ≡ take at out.old.items ++ (comma_if later ++ compact_text (record_data stored.now))) }
+    ensures text { IfOk result (λ end. take end out.new.items ≡ take at out.old.items
+        ++ (comma_if later ++ compact_text (record_data stored.now))) }
 {
     out.truncate(at);
     put_comma(out, later)?;
@@ -170,7 +171,8 @@ fn add_record(
     requires short { length front.now ≤ 60 }
     requires front { front.now ≡ front_text (stored.now.arrival / 1000) }
     ensures within { IfOk result (λ end. end ≤ vec_len out.new) }
-    ensures text { IfOk result (λ end. take end out.new.items ≡ take at out.old.items ++ (comma_if later ++ compact_text (record_data stored.now))) }
+    ensures text { IfOk result (λ end. take end out.new.items ≡ take at out.old.items
+        ++ (comma_if later ++ compact_text (record_data stored.now))) }
 {
     let (payload, key) = (stored.payload.as_slice(), stored.key.as_slice());
     if !stands_as_it_is(key) {

@@ -1,5 +1,6 @@
 -- What was read and written where a connection ends.
-use Rattle.std.proofs.Common.{◌≡◌, ◌≢◌, ℕ, List, [], ◌∷◌, ◌++◌, sym, ap, ◌∙◌, subst, refl, inl, inr, Option, Some, None, Result}
+use Rattle.std.proofs.Common.{◌≡◌, ◌≢◌, ℕ, List, [], ◌∷◌, ◌++◌, sym, ap, ◌∙◌, subst, refl, inl, inr, Option, Some, None}
+use Rattle.std.proofs.Common.{Result}
 use Rattle.std.specs.Option.{IfSome}
 use Rattle.std.proofs.lemmas.List.{append_assoc, append-nil}
 use Rattle.std.specs.Io.KnownBytes.{Appends, IsAtEnd, Keeps}
@@ -24,7 +25,8 @@ use Rattle.kds_server.specs.Steps.{Reads, IsReadStop}
 -- ---- reading
 
 -- what the session had to send was written
-pub flushed : (all left : Option (List ℕ)) (s new : SessionState) (start held now : Option (List ℕ)) (given : List Command) (told : Answers) → Reads all left s start held given told
+pub flushed : (all left : Option (List ℕ)) (s new : SessionState) (start held now : Option (List ℕ))
+    (given : List Command) (told : Answers) → Reads all left s start held given told
     → Passes s new (sent_more s.output) → Appends held now s.output
     → Reads all left new start now given told
 flushed all left s new start held now given told r stands o = record {
@@ -37,7 +39,9 @@ flushed all left s new start held now given told r stands o = record {
 
 -- ---- the whole text, where the session is quiet and has nothing to send
 
-written_by : WholeText → (s : SessionState) (fed : List ℕ) (given : List Command) (told : Answers) (sent : List ℕ) (start now : Option (List ℕ)) → StandsFor s (traffic fed given told sent) → IsQuiet s → s.output ≡ []
+written_by : WholeText
+    → (s : SessionState) (fed : List ℕ) (given : List Command) (told : Answers) (sent : List ℕ)
+    (start now : Option (List ℕ)) → StandsFor s (traffic fed given told sent) → IsQuiet s → s.output ≡ []
     → Appends start now sent → Written fed (end_of s) given told start now
 written_by whole s fed given told sent start now st quiet none w =
     let q = whole s (traffic fed given told sent) st quiet in record {
@@ -47,42 +51,59 @@ written_by whole s fed given told sent start now st quiet none w =
       written = subst (λ (z : List ℕ). Appends start now z) (sym (append-nil sent) ∙ ap (λ z. sent ++ z) (sym none)) w;
     }
 
-tells_at : (bytes : List ℕ) (left : Option (List ℕ)) (given : List Command) (told : Answers) (start now : Option (List ℕ)) (e : Ending) → Written bytes e given told start now → Tells (status_at e) bytes left given told start now
+tells_at : (bytes : List ℕ) (left : Option (List ℕ)) (given : List Command) (told : Answers)
+    (start now : Option (List ℕ)) (e : Ending) → Written bytes e given told start now
+    → Tells (status_at e) bytes left given told start now
 tells_at bytes left given told start now boundary w = inl w
 tells_at bytes left given told start now closed w = inr w
 tells_at bytes left given told start now inside w = w
 tells_at bytes left given told start now (refused status) w = (status, w)
 
 -- the input has ended
-tells_end : WholeText → (all left : Option (List ℕ)) (s : SessionState) (given : List Command) (told : Answers) (start now : Option (List ℕ)) → Reads all left s start now given told → IsQuiet s → s.output ≡ []
+tells_end : WholeText
+    → (all left : Option (List ℕ)) (s : SessionState) (given : List Command) (told : Answers)
+    (start now : Option (List ℕ)) → Reads all left s start now given told → IsQuiet s → s.output ≡ []
     → IsAtEnd left → IfSome all (λ bytes. Tells (status_at (end_of s)) bytes left given told start now)
 tells_end whole None left s given told start now r quiet none ends = tt
 tells_end whole (Some bytes) None s given told start now r quiet none ends = absurd r.taken
 tells_end whole (Some bytes) (Some rest) s given told start now r quiet none ends =
     let all_fed : bytes ≡ r.fed = r.taken ∙ ap (λ z. r.fed ++ z) ends ∙ append-nil r.fed in
     tells_at bytes (Some rest) given told start now (end_of s)
-    (subst (λ (z : List ℕ). Written z (end_of s) given told start now) (sym all_fed) (written_by whole s r.fed given told r.sent start now r.stands quiet none r.written))
+    (subst (λ (z : List ℕ). Written z (end_of s) given told start now) (sym all_fed)
+    (written_by whole s r.fed given told r.sent start now r.stands quiet none r.written))
 
-pub tells_status : WholeText → (status : Status) (all left : Option (List ℕ)) (s flushed_to asked : SessionState) (given : List Command) (told : Answers) (start now : Option (List ℕ)) → Reads all left s start now given told
-    → IsQuiet asked → flushed_to ≡ record asked { output = [] } → s ≡ flushed_to → IsAtEnd left → status ≡ status_at (end_of s)
+pub tells_status : WholeText
+    → (status : Status) (all left : Option (List ℕ)) (s flushed_to asked : SessionState) (given : List Command)
+    (told : Answers) (start now : Option (List ℕ)) → Reads all left s start now given told
+    → IsQuiet asked → flushed_to ≡ record asked { output = [] } → s ≡ flushed_to → IsAtEnd left
+    → status ≡ status_at (end_of s)
     → IfSome all (λ bytes. Tells status bytes left given told start now)
 tells_status whole status all left s flushed_to asked given told start now r quiet same e ends is =
     subst (λ (z : Status). IfSome all (λ bytes. Tells z bytes left given told start now)) (sym is)
-    (tells_end whole all left s given told start now r (subst (λ (z : SessionState). IsQuiet z) (sym (e ∙ same)) quiet) (ap (λ (z : SessionState). z.output) (e ∙ same)) ends)
+    (tells_end whole all left s given told start now r (subst (λ (z : SessionState). IsQuiet z) (sym (e ∙ same)) quiet)
+    (ap (λ (z : SessionState). z.output) (e ∙ same)) ends)
 
 -- the connection has ended before
-pub tells_over : WholeText → NothingFollows → (status : Status) (all left : Option (List ℕ)) (s asked : SessionState) (given : List Command) (told : Answers) (start now : Option (List ℕ)) → Reads all left s start now given told
-    → IsQuiet asked → s ≡ record asked { output = [] } → s.standing ≢ Live → status ≡ status_at (end_of s) → IfSome all (λ bytes. Tells status bytes left given told start now)
+pub tells_over : WholeText → NothingFollows
+    → (status : Status) (all left : Option (List ℕ)) (s asked : SessionState) (given : List Command) (told : Answers)
+    (start now : Option (List ℕ)) → Reads all left s start now given told
+    → IsQuiet asked → s ≡ record asked { output = [] } → s.standing ≢ Live → status ≡ status_at (end_of s)
+    → IfSome all (λ bytes. Tells status bytes left given told start now)
 tells_over whole follows status None left s asked given told start now r quiet same over is = tt
 tells_over whole follows status (Some bytes) None s asked given told start now r quiet same over is = absurd r.taken
 tells_over whole follows status (Some bytes) (Some rest) s asked given told start now r quiet same over is =
-    let st = subst (λ (z : List ℕ). StandsFor s (traffic z given told r.sent)) (sym r.taken) (follows s (traffic r.fed given told r.sent) r.stands over rest) in
+    let st = subst (λ (z : List ℕ). StandsFor s (traffic z given told r.sent)) (sym r.taken)
+    (follows s (traffic r.fed given told r.sent) r.stands over rest) in
     let quiet_now = subst (λ (z : SessionState). IsQuiet z) (sym same) quiet in
     subst (λ (z : Status). Tells z bytes (Some rest) given told start now) (sym is)
-    (tells_at bytes (Some rest) given told start now (end_of s) (written_by whole s bytes given told r.sent start now st quiet_now (ap (λ (z : SessionState). z.output) same) r.written))
+    (tells_at bytes (Some rest) given told start now (end_of s)
+    (written_by whole s bytes given told r.sent start now st quiet_now (ap (λ (z : SessionState). z.output) same)
+    r.written))
 
 -- the source failed
-tells_read : WholeText → (all left after : Option (List ℕ)) (s : SessionState) (given : List Command) (told : Answers) (start now : Option (List ℕ)) → Reads all left s start now given told → IsQuiet s → s.output ≡ []
+tells_read : WholeText
+    → (all left after : Option (List ℕ)) (s : SessionState) (given : List Command) (told : Answers)
+    (start now : Option (List ℕ)) → Reads all left s start now given told → IsQuiet s → s.output ≡ []
     → Keeps left after → IfSome all (λ bytes. Tells Read bytes after given told start now)
 tells_read whole None left after s given told start now r quiet none k = tt
 tells_read whole (Some bytes) None after s given told start now r quiet none k = absurd r.taken
@@ -98,7 +119,9 @@ tells_read whole (Some bytes) (Some rest) (Some same) s given told start now r q
 
 -- ---- a front of the text
 
-part_by : FirstPart → (s : SessionState) (fed more : List ℕ) (given : List Command) (told : Answers) (sent : List ℕ) (start now : Option (List ℕ)) → StandsFor s (traffic fed given told sent) → AppendsFront start now (sent ++ s.output)
+part_by : FirstPart → (s : SessionState) (fed more : List ℕ) (given : List Command) (told : Answers) (sent : List ℕ)
+    (start now : Option (List ℕ)) → StandsFor s (traffic fed given told sent)
+    → AppendsFront start now (sent ++ s.output)
     → WrittenPart (fed ++ more) given told start now
 part_by first s fed more given told sent start now st front = record {
   first = λ ms ending f. (first s (traffic fed given told sent) st more ms ending f).first;
@@ -108,49 +131,69 @@ part_by first s fed more given told sent start now st front = record {
 }
 
 -- a front of the output was written
-pub tells_part : FirstPart → (all left : Option (List ℕ)) (s : SessionState) (given : List Command) (told : Answers) (start held now : Option (List ℕ)) → Reads all left s start held given told
+pub tells_part : FirstPart
+    → (all left : Option (List ℕ)) (s : SessionState) (given : List Command) (told : Answers)
+    (start held now : Option (List ℕ)) → Reads all left s start held given told
     → AppendsFront held now s.output → IfSome all (λ bytes. WrittenPart bytes given told start now)
 tells_part first None left s given told start held now r o = tt
 tells_part first (Some bytes) None s given told start held now r o = absurd r.taken
 tells_part first (Some bytes) (Some rest) s given told start held now r o =
     subst (λ (z : List ℕ). WrittenPart z given told start now) (sym r.taken)
-    (part_by first s r.fed rest given told r.sent start now r.stands (front_later start held now r.sent s.output r.written o))
+    (part_by first s r.fed rest given told r.sent start now r.stands
+    (front_later start held now r.sent s.output r.written o))
 
 pub front_none : (held : Option (List ℕ)) (text : List ℕ) → AppendsFront held held text
 front_none held text = ([], text, refl, Appends-nil held)
 
 -- where memory ran out
-pub tells_so_far : FirstPart → (all left : Option (List ℕ)) (s : SessionState) (given : List Command) (told : Answers) (start held : Option (List ℕ)) → Reads all left s start held given told → IfSome all (λ bytes. WrittenPart bytes given told start held)
-tells_so_far first all left s given told start held r = tells_part first all left s given told start held held r (front_none held s.output)
+pub tells_so_far : FirstPart
+    → (all left : Option (List ℕ)) (s : SessionState) (given : List Command) (told : Answers)
+    (start held : Option (List ℕ)) → Reads all left s start held given told
+    → IfSome all (λ bytes. WrittenPart bytes given told start held)
+tells_so_far first all left s given told start held r =
+    tells_part first all left s given told start held held r (front_none held s.output)
 
 -- reading stopped
-pub tells_stop : WholeText → FirstPart → (status : Status) → IsReadStop status → (all left after : Option (List ℕ)) (s asked : SessionState) (given : List Command) (told : Answers) (start now : Option (List ℕ)) → Reads all left s start now given told
-    → IsQuiet asked → s ≡ record asked { output = [] } → (status ≡ Read → Keeps left after) → IfSome all (λ bytes. Tells status bytes after given told start now)
+pub tells_stop : WholeText → FirstPart → (status : Status) → IsReadStop status
+    → (all left after : Option (List ℕ)) (s asked : SessionState) (given : List Command) (told : Answers)
+    (start now : Option (List ℕ)) → Reads all left s start now given told
+    → IsQuiet asked → s ≡ record asked { output = [] } → (status ≡ Read → Keeps left after)
+    → IfSome all (λ bytes. Tells status bytes after given told start now)
 tells_stop whole first Read k all left after s asked given told start now r quiet same keeps =
-    tells_read whole all left after s given told start now r (subst (λ (z : SessionState). IsQuiet z) (sym same) quiet) (ap (λ (z : SessionState). z.output) same) (keeps refl)
-tells_stop whole first Memory k all left after s asked given told start now r quiet same keeps = tells_so_far first all left s given told start now r
+    tells_read whole all left after s given told start now r (subst (λ (z : SessionState). IsQuiet z) (sym same) quiet)
+    (ap (λ (z : SessionState). z.output) same) (keeps refl)
+tells_stop whole first Memory k all left after s asked given told start now r quiet same keeps =
+    tells_so_far first all left s given told start now r
 tells_stop whole first other k all left after s asked given told start now r quiet same keeps = absurd k
 
 -- a command waits whose turn wasn't made
-part_asked : (bytes : List ℕ) (given : List Command) (told : Answers) (what : Command) (start now : Option (List ℕ)) → WrittenPart bytes (given ++ what ∷ []) told start now → WrittenPart bytes given told start now
+part_asked : (bytes : List ℕ) (given : List Command) (told : Answers) (what : Command) (start now : Option (List ℕ))
+    → WrittenPart bytes (given ++ what ∷ []) told start now → WrittenPart bytes given told start now
 part_asked bytes given told what start now p = record {
   first = λ ms ending f. let c = p.first ms ending f in (what ∷ c.0, c.1 ∙ append_assoc given (what ∷ []) c.0);
   written = p.written;
 }
 
-pub tells_asked : (all : Option (List ℕ)) (given : List Command) (told : Answers) (what : Command) (start held : Option (List ℕ)) → IfSome all (λ bytes. WrittenPart bytes (given ++ what ∷ []) told start held) → IfSome all (λ bytes. WrittenPart bytes given told start held)
+pub tells_asked : (all : Option (List ℕ)) (given : List Command) (told : Answers) (what : Command)
+    (start held : Option (List ℕ)) → IfSome all (λ bytes. WrittenPart bytes (given ++ what ∷ []) told start held)
+    → IfSome all (λ bytes. WrittenPart bytes given told start held)
 tells_asked None given told what start held p = tt
 tells_asked (Some bytes) given told what start held p = part_asked bytes given told what start held p
 
 -- a turn was made, and its answer wasn't written
-part_told : (bytes : List ℕ) (given : List Command) (told : Answers) (a : Result Reply Refusal) (start now : Option (List ℕ)) → WrittenPart bytes given told start now → WrittenPart bytes given (told ++ a ∷ []) start now
+part_told : (bytes : List ℕ) (given : List Command) (told : Answers) (a : Result Reply Refusal)
+    (start now : Option (List ℕ)) → WrittenPart bytes given told start now
+    → WrittenPart bytes given (told ++ a ∷ []) start now
 part_told bytes given told a start now p = record {
   first = p.first;
   written = λ ms ending f later.
-      subst (λ (z : Answers). AppendsFront start now (responses 0 ms z ++ end_text ending)) (sym (append_assoc told (a ∷ []) later)) (p.written ms ending f (a ∷ later));
+      subst (λ (z : Answers). AppendsFront start now (responses 0 ms z ++ end_text ending))
+      (sym (append_assoc told (a ∷ []) later)) (p.written ms ending f (a ∷ later));
 }
 
-pub tells_told : (all : Option (List ℕ)) (given : List Command) (told : Answers) (a : Result Reply Refusal) (start held : Option (List ℕ)) → IfSome all (λ bytes. WrittenPart bytes given told start held) → IfSome all (λ bytes. WrittenPart bytes given (told ++ a ∷ []) start held)
+pub tells_told : (all : Option (List ℕ)) (given : List Command) (told : Answers) (a : Result Reply Refusal)
+    (start held : Option (List ℕ)) → IfSome all (λ bytes. WrittenPart bytes given told start held)
+    → IfSome all (λ bytes. WrittenPart bytes given (told ++ a ∷ []) start held)
 tells_told None given told a start held p = tt
 tells_told (Some bytes) given told a start held p = part_told bytes given told a start held p
 

@@ -16,9 +16,9 @@ abbrev pub AsksAtMostOnce : Status → Option (List ℕ) → Option (List ℕ) �
 AsksAtMostOnce Memory before now = (now ≡ before) ⊎ ((at : ℕ) × Gives before (at ∷ []) now)
 AsksAtMostOnce _ before now = now ≡ before
 
--- A connection that began after this history ended so: the input, the clock's moments and the output are those of before and
--- after it. Its commands became turns. Where the source tells its bytes,
--- the commands, the text and the end are those of these bytes.
+-- A connection that began after this history ended so: the input, the clock's moments and the output are those of
+-- before and after it. Its commands became turns. Where the source tells its bytes, the commands, the text and the end
+-- are those of these bytes.
 pub record Served (h : List Turn) (input clock out : Around (Option (List ℕ))) (status : Status) : Type 0 where
   pub given : List Command
   pub told : Answers
@@ -28,11 +28,14 @@ pub record Served (h : List Turn) (input clock out : Around (Option (List ℕ)))
   pub tells : IfSome input.before (λ bytes. Tells status bytes input.after given told out.before out.after)
 
 -- the turns that it made
-abbrev pub turns_of : {h : List Turn} {input clock out : Around (Option (List ℕ))} {status : Status} → Served h input clock out status → List Turn
+abbrev pub turns_of : {h : List Turn} {input clock out : Around (Option (List ℕ))} {status : Status}
+    → Served h input clock out status → List Turn
 turns_of s = turns_at s.made.moments s.given
 
 -- Whatever history the machine stood for before, the connection ended so after it, and the machine then stands for that
 -- history followed by just the turns of the connection.
-abbrev pub ServedAfter : {M : Type 0} → (M → List Turn → Type 0) → Around M → (input clock out : Around (Option (List ℕ))) (status : Status) → Type 0
+abbrev pub ServedAfter : {M : Type 0} → (M → List Turn → Type 0) → Around M
+    → (input clock out : Around (Option (List ℕ))) (status : Status) → Type 0
 ServedAfter stands_for machine input clock out status =
-    (h : List Turn) → stands_for machine.before h → (served : Served h input clock out status) × stands_for machine.after (followed h (turns_of served))
+    (h : List Turn) → stands_for machine.before h → (served : Served h input clock out status)
+    × stands_for machine.after (followed h (turns_of served))

@@ -15,7 +15,8 @@ use Rattle.kds_server.specs.Serving.{AsksAtMostOnce}
 use Rattle.kds_server.specs.Texts.{Tells}
 
 -- Some bytes were taken from the source and fed to the session, and its output so far was written.
-pub record Reads (all left : Option (List ℕ)) (session : SessionState) (start held : Option (List ℕ)) (given : List Command) (told : Answers) : Type 0 where
+pub record Reads (all left : Option (List ℕ)) (session : SessionState) (start held : Option (List ℕ))
+    (given : List Command) (told : Answers) : Type 0 where
   pub fed : List ℕ
   pub sent : List ℕ
   pub taken : Consumes all left fed
@@ -29,14 +30,16 @@ pub record Taken (makes : List ℕ → Type 0) (before now : Option (List ℕ)) 
   pub made : makes moments
 
 -- The commands so far were taken, and got these answers.
-pub record Running (makes : List ℕ → List Command → Answers → Type 0) (session : SessionState) (input clock out : Around (Option (List ℕ))) : Type 0 where
+pub record Running (makes : List ℕ → List Command → Answers → Type 0) (session : SessionState)
+    (input clock out : Around (Option (List ℕ))) : Type 0 where
   pub given : List Command
   pub told : Answers
   pub reads : Reads input.before input.after session out.before out.after given told
   pub taken : Taken (λ moments. makes moments given told) clock.before clock.after
 
 -- The connection ended so, after its commands were taken and got these answers.
-pub record Ended (makes : List ℕ → List Command → Answers → Type 0) (input clock out : Around (Option (List ℕ))) (status : Status) : Type 0 where
+pub record Ended (makes : List ℕ → List Command → Answers → Type 0) (input clock out : Around (Option (List ℕ)))
+    (status : Status) : Type 0 where
   pub given : List Command
   pub told : Answers
   pub between : Option (List ℕ)
@@ -54,13 +57,14 @@ ReadsOn left session held left_now session_now held_now =
     → Reads all left_now session_now start held_now given told
 
 -- what was read and written so far, and then the connection ended so
-abbrev pub EndsThere : (left : Option (List ℕ)) (session : SessionState) (held left_now held_now : Option (List ℕ)) (status : Status) → Type 0
+abbrev pub EndsThere : (left : Option (List ℕ)) (session : SessionState) (held left_now held_now : Option (List ℕ))
+    (status : Status) → Type 0
 EndsThere left session held left_now held_now status =
     (all start : Option (List ℕ)) (given : List Command) (told : Answers) → Reads all left session start held given told
     → IfSome all (λ bytes. Tells status bytes left_now given told start held_now)
 
--- where a connection stands: the state of what makes its turns, its session, what is left of its input, its clock's moments, and
--- what its output has
+-- where a connection stands: the state of what makes its turns, its session, what is left of its input, its clock's
+-- moments, and what its output has
 pub record Point (S : Type 0) : Type 0 where
   pub state : S
   pub session : SessionState
@@ -76,17 +80,20 @@ module _ {S : Type 0} (made : S → List ℕ → List Command → Answers → S 
   -- from these on a connection ran to here
   abbrev pub RunsTo : (first : S) (all before start : Option (List ℕ)) → Point S → Type 0
   RunsTo first all before start here =
-      Running (MadeFrom first here.state) here.session (around all here.left) (around before here.clock) (around start here.held)
+      Running (MadeFrom first here.state) here.session (around all here.left) (around before here.clock)
+      (around start here.held)
 
   -- a connection that stands here runs on to there
   abbrev pub RunsOn : Point S → Point S → Type 0
-  RunsOn here there = (first : S) (all before start : Option (List ℕ)) → RunsTo first all before start here → RunsTo first all before start there
+  RunsOn here there = (first : S) (all before start : Option (List ℕ)) → RunsTo first all before start here
+      → RunsTo first all before start there
 
   -- or it ended there, so
   abbrev pub RunsOut : Point S → Point S → Status → Type 0
   RunsOut here there status =
       (first : S) (all before start : Option (List ℕ)) → RunsTo first all before start here
-      → Ended (MadeFrom first there.state) (around all there.left) (around before there.clock) (around start there.held) status
+      → Ended (MadeFrom first there.state) (around all there.left) (around before there.clock) (around start there.held)
+      status
 
   -- a command that waits was taken, and got its answer
   abbrev pub TakesOne : (what : Command) (state : S) (session : SessionState) (clock : Option (List ℕ))
@@ -98,7 +105,8 @@ module _ {S : Type 0} (made : S → List ℕ → List Command → Answers → S 
       → Running (MadeFrom first state_now) session_now (around all left) (around before clock_now) (around start held)
 
   -- a command that waits was taken, or it wasn't, and memory ran out
-  abbrev pub TakesNone : (what : Command) (state : S) (session : SessionState) (clock : Option (List ℕ)) (state_now : S) (clock_now : Option (List ℕ)) → Type 0
+  abbrev pub TakesNone : (what : Command) (state : S) (session : SessionState) (clock : Option (List ℕ)) (state_now : S)
+      (clock_now : Option (List ℕ)) → Type 0
   TakesNone what state session clock state_now clock_now =
       (first : S) (all left before start held : Option (List ℕ)) (given : List Command) (told : Answers)
       → Taken (λ moments. made first moments given told state) before clock

@@ -1,6 +1,7 @@
 //! Moves bytes from a connection's source (its input stream) into its session, and from the session to the connection's
 //! sink (its output stream). A piece is the bytes of one read.
-ghost use Rattle.std.specs.Prelude.{◌≡◌, ◌≢◌, ◌≤◌, ◌<◌, ◌⊎◌, [], ◌++◌, List, ℕ, length, true, false, None, Some, IfOk, IfErr, IfSome, OnOk, IsErrOf};
+ghost use Rattle.std.specs.Prelude.{◌≡◌, ◌≢◌, ◌≤◌, ◌<◌, ◌⊎◌, [], ◌++◌, List, ℕ, length, true, false, None, Some, IfOk};
+ghost use Rattle.std.specs.Prelude.{IfErr, IfSome, OnOk, IsErrOf};
 ghost use Rattle.std.specs.declared.option.Option.{Option};
 ghost use Rattle.std.specs.Io.KnownBytes.{Appends, IsAtEnd, Keeps};
 ghost use Rattle.kds_defs.specs.declared.command.Command.{Command};
@@ -23,7 +24,8 @@ fn flush<K: Sink>(session: &mut Session, out: &mut K) -> Result<(), Status>
     ensures written { OnOk result (Appends (K.held out.old) (K.held out.new) session.old.output) }
     ensures stands { OnOk result (Passes session.old session.new (sent_more session.old.output)) }
     ensures same { OnOk result (session.new ≡ record session.old { output = [] }) }
-    ensures err { IfErr result (λ s. (s ≡ Status.Write) × AppendsFront (K.held out.old) (K.held out.new) session.old.output) }
+    ensures err { IfErr result (λ s. (s ≡ Status.Write)
+        × AppendsFront (K.held out.old) (K.held out.new) session.old.output) }
     ensures later { K.faults out.old ≤ K.faults out.new }
     ensures write { IsErrOf result Status.Write → Rose (K.faults out.old) (K.faults out.new) }
 {
@@ -40,8 +42,10 @@ fn flush<K: Sink>(session: &mut Session, out: &mut K) -> Result<(), Status>
 /// Writes the session's output if it has at least `PIECE_BYTES` bytes. Afterwards fewer than `PIECE_BYTES` bytes remain
 /// to be sent.
 pub fn write_early<K: Sink>(session: &mut Session, out: &mut K) -> Result<(), Status>
-    ensures goes_on { OnOk result ((left : Option (List ℕ)) → ReadsOn left session.old (K.held out.old) left session.new (K.held out.new)) }
-    ensures ended { IfErr result (λ s. (left : Option (List ℕ)) → EndsThere left session.old (K.held out.old) left (K.held out.new) s) }
+    ensures goes_on { OnOk result ((left : Option (List ℕ))
+        → ReadsOn left session.old (K.held out.old) left session.new (K.held out.new)) }
+    ensures ended { IfErr result (λ s. (left : Option (List ℕ))
+        → EndsThere left session.old (K.held out.old) left (K.held out.new) s) }
     ensures waits { OnOk result (session.new.waiting ≡ session.old.waiting) }
     ensures as_much { OnOk result (to_come session.new ≡ to_come session.old) }
     ensures bounded { OnOk result (length session.new.output < PIECE_BYTES) }
@@ -69,10 +73,12 @@ fn read_piece<S: Source>(
 ) -> Result<bool, Status>
     requires room { PIECE_BYTES ≤ room_of session.old }
     requires written { session.old.output ≡ [] }
-    ensures ok { OnOk result ((held : Option (List ℕ)) → ReadsOn (S.left input.old) session.old held (S.left input.new) session.new held) }
+    ensures ok { OnOk result ((held : Option (List ℕ))
+        → ReadsOn (S.left input.old) session.old held (S.left input.new) session.new held) }
     ensures ends { IfOk result (λ more. more ≡ false → IsAtEnd (S.left input.new) × (session.new ≡ session.old)) }
     ensures grows { session.old.standing ≡ Live → IfOk result (λ more. more ≡ true
-        → (session.new ≡ record session.old { unread = session.new.unread }) × (length session.old.unread < length session.new.unread)) }
+        → (session.new ≡ record session.old { unread = session.new.unread })
+        × (length session.old.unread < length session.new.unread)) }
     ensures err { IfErr result (λ s. session.new ≡ session.old) }
     ensures left { IsErrOf result Status.Read → Keeps (S.left input.old) (S.left input.new) }
     ensures kinds { IfErr result IsReadStop }
@@ -122,8 +128,10 @@ pub fn exchange<S: Source, K: Sink>(
 ) -> Option<Status>
     requires quiet { IsQuiet session.old }
     requires room { session.old.standing ≡ Live → PIECE_BYTES ≤ room_of session.old }
-    ensures goes_on { result ≡ None → ReadsOn (S.left input.old) session.old (K.held out.old) (S.left input.new) session.new (K.held out.new) }
-    ensures ended { IfSome result (EndsThere (S.left input.old) session.old (K.held out.old) (S.left input.new) (K.held out.new)) }
+    ensures goes_on { result ≡ None
+        → ReadsOn (S.left input.old) session.old (K.held out.old) (S.left input.new) session.new (K.held out.new) }
+    ensures ended { IfSome result
+        (EndsThere (S.left input.old) session.old (K.held out.old) (S.left input.new) (K.held out.new)) }
     ensures waits { result ≡ None → session.new.waiting ≡ Nothing }
     ensures empty { result ≡ None → session.new.output ≡ [] }
     ensures grows { result ≡ None → (session.old.standing ≡ Live) × (to_come session.new ≡ to_come session.old)

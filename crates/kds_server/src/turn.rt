@@ -31,8 +31,12 @@ pub fn make_turn<T: Turner, C: Clock>(
     requires lawful { IsLawfulCommand what }
     requires service { is_service what ≡ true }
     ensures fits { T.fits turner.now state.new }
-    ensures goes_on { OnOk result (TakesOne (T.made turner.now) what state.old session.old (C.moments clock.old) state.new session.new (C.moments clock.new)) }
-    ensures err { OnErr result (TakesNone (T.made turner.now) what state.old session.old (C.moments clock.old) state.new (C.moments clock.new)) }
+    ensures goes_on { OnOk result
+        (TakesOne (T.made turner.now) what state.old session.old (C.moments clock.old) state.new session.new
+        (C.moments clock.new)) }
+    ensures err { OnErr result
+        (TakesNone (T.made turner.now) what state.old session.old (C.moments clock.old) state.new
+        (C.moments clock.new)) }
     ensures free { OnOk result (session.new.waiting ≡ Nothing) }
     ensures as_much { OnOk result (to_come session.new ≡ to_come session.old) }
 {

@@ -1,5 +1,6 @@
 -- The streams of a service at a later clock, and back at the earlier one.
-use Rattle.std.proofs.Common.{◌≡◌, ℕ, zero, suc, ◌<◌, ◌≤◌, List, [], ◌∷◌, length, map, slice_get, slice_set, Some, refl, sym, ap, subst, ◌∙◌, arith}
+use Rattle.std.proofs.Common.{◌≡◌, ℕ, zero, suc, ◌<◌, ◌≤◌, List, [], ◌∷◌, length, map, slice_get, slice_set, Some, refl}
+use Rattle.std.proofs.Common.{sym, ap, subst, ◌∙◌, arith}
 use Rattle.kds_defs.specs.Journal.{Journal}
 use Rattle.kds_stream.specs.Value.{StreamValue, settled}
 use Rattle.kds_service.specs.Clocks.{advanced, retreated, settled_in}
@@ -17,7 +18,8 @@ settled_at c zero (v ∷ vs) at = at
 settled_at c (suc i) (v ∷ vs) at = (at.0, settled_at c i vs at.1)
 
 -- a reading that settling keeps is that of all
-pub kept_in : {Y : Type 0} (g : StreamValue → Y) → ((v : StreamValue) → g (settled v) ≡ g v) → (i : ℕ) (vs : List StreamValue) → map g (settled_in i vs) ≡ map g vs
+pub kept_in : {Y : Type 0} (g : StreamValue → Y) → ((v : StreamValue) → g (settled v) ≡ g v)
+    → (i : ℕ) (vs : List StreamValue) → map g (settled_in i vs) ≡ map g vs
 kept_in g same i [] = refl
 kept_in g same zero (v ∷ vs) = ap (λ y. y ∷ map g vs) (same v)
 kept_in g same (suc i) (v ∷ vs) = ap (λ ys. g v ∷ ys) (kept_in g same i vs)
@@ -25,12 +27,15 @@ kept_in g same (suc i) (v ∷ vs) = ap (λ ys. g v ∷ ys) (kept_in g same i vs)
 -- ---- the service
 
 -- with the same streams, and the same turn
-pub same_service : (c b n t u : ℕ) (vs us : List StreamValue) → vs ≡ us → t ≡ u → record (service c b n vs) { turn = t } ≡ record (service c b n us) { turn = u }
-same_service c b n t u vs us are is = ap (λ xs. record (service c b n xs) { turn = t }) are ∙ ap (λ k. record (service c b n us) { turn = k }) is
+pub same_service : (c b n t u : ℕ) (vs us : List StreamValue) → vs ≡ us → t ≡ u
+    → record (service c b n vs) { turn = t } ≡ record (service c b n us) { turn = u }
+same_service c b n t u vs us are is = ap (λ xs. record (service c b n xs) { turn = t }) are
+    ∙ ap (λ k. record (service c b n us) { turn = k }) is
 
 -- ---- the stream at a place
 
-pub settled_here : (i : ℕ) (vs : List StreamValue) (x v : StreamValue) → slice_get vs i ≡ Some x → v ≡ settled x → slice_set vs i v ≡ settled_in i vs
+pub settled_here : (i : ℕ) (vs : List StreamValue) (x v : StreamValue) → slice_get vs i ≡ Some x → v ≡ settled x
+    → slice_set vs i v ≡ settled_in i vs
 settled_here i [] x v here is = refl
 settled_here zero (y ∷ vs) x v here is =
     let e : y ≡ x = cc in
@@ -47,14 +52,16 @@ back_at c clock [] at = tt
 back_at c clock (v ∷ vs) at = (at.0, back_at c clock vs at.1)
 
 -- a reading that each keeps is that of all
-pub kept_of : {Y : Type 0} (g : StreamValue → Y) (f : StreamValue → StreamValue) → ((v : StreamValue) → g (f v) ≡ g v) → (vs : List StreamValue) → map g (map f vs) ≡ map g vs
+pub kept_of : {Y : Type 0} (g : StreamValue → Y) (f : StreamValue → StreamValue) → ((v : StreamValue) → g (f v) ≡ g v)
+    → (vs : List StreamValue) → map g (map f vs) ≡ map g vs
 kept_of g f same [] = refl
 kept_of g f same (v ∷ vs) = ap (λ y. y ∷ map g (map f vs)) (same v) ∙ ap (λ ys. g v ∷ ys) (kept_of g f same vs)
 
 -- ---- what they show
 
 -- streams of the same numbers, at another clock, that show what the others showed
-pub shows_along : (w u : ServiceValue) (log : Journal) → u.made ≡ w.made → numbers_of u.streams ≡ numbers_of w.streams → AreAt u.clock u.streams → AreShown log u.streams → ShowsAll w log → ShowsAll u log
+pub shows_along : (w u : ServiceValue) (log : Journal) → u.made ≡ w.made → numbers_of u.streams ≡ numbers_of w.streams
+    → AreAt u.clock u.streams → AreShown log u.streams → ShowsAll w log → ShowsAll u log
 shows_along w u log made numbers at shown all = record {
   made = all.made ∙ sym made;
   at = at;
@@ -65,6 +72,8 @@ shows_along w u log made numbers at shown all = record {
 }
 
 -- each shows the same with the clock that it had, whatever it remembers
-pub back_shown : (clock : ℕ) (vs : List StreamValue) (log : Journal) → AreShown log vs → AreShown log (map retreated (map (advanced clock) vs))
+pub back_shown : (clock : ℕ) (vs : List StreamValue) (log : Journal) → AreShown log vs
+    → AreShown log (map retreated (map (advanced clock) vs))
 back_shown clock [] log shown = tt
-back_shown clock (v ∷ vs) log shown = (record { stored = shown.0.stored; rates = shown.0.rates }, back_shown clock vs log shown.1)
+back_shown clock (v ∷ vs) log shown =
+    (record { stored = shown.0.stored; rates = shown.0.rates }, back_shown clock vs log shown.1)

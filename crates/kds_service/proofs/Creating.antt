@@ -22,18 +22,21 @@ use Rattle.kds_service.specs.Shown.{Leads, ServiceValue, ShowsAll, StaysShownWit
 
 -- the limits are those of the service
 full : (w : ServiceValue) (log : Journal) (count : ℕ) → ShowsAll w log
-    → (nat_le LIVE_STREAMS (length (live_streams log)) || nat_lt OPEN_SHARDS (open_count log + count)) ≡ is_full w.streams count
+    → (nat_le LIVE_STREAMS (length (live_streams log)) || nat_lt OPEN_SHARDS (open_count log + count))
+    ≡ is_full w.streams count
 full w log count all =
     ap (λ n. nat_le LIVE_STREAMS n || nat_lt OPEN_SHARDS (open_count log + count)) (live_count w log all)
     ∙ ap (λ n. nat_le LIVE_STREAMS (length w.streams) || nat_lt OPEN_SHARDS (n + count)) (open_are w log all)
 
 -- what `others` ensures of a stream that is added
 abbrev pub Adds : Type 0
-Adds = (c b n by count : ℕ) (name : List ℕ) (vs : List StreamValue) (v : StreamValue) (log : Journal) → ShowsAll (service c b n vs) log
+Adds = (c b n by count : ℕ) (name : List ℕ) (vs : List StreamValue) (v : StreamValue) (log : Journal)
+    → ShowsAll (service c b n vs) log
     → StaysShownWith c b n vs log v by name count
 
 module _ (c b n : ℕ) (vs : List StreamValue) (name : List ℕ) (count : ℕ) where
-  pub create_there : is_some (place_of vs name) ≡ true → Leads (service c b n vs) (service c b n vs) (command.Create name count) (Err refusal.StreamThere)
+  pub create_there : is_some (place_of vs name) ≡ true
+      → Leads (service c b n vs) (service c b n vs) (command.Create name count) (Err refusal.StreamThere)
   create_there is =
       refused_leads (service c b n vs) (command.Create name count) refusal.StreamThere
       (λ log by all. refused_if _ _ _ (some_named (service c b n vs) log name all ∙ is))
@@ -42,7 +45,8 @@ module _ (c b n : ℕ) (vs : List StreamValue) (name : List ℕ) (count : ℕ) w
       → Leads (service c b n vs) (service c b n vs) (command.Create name count) (Err refusal.Full)
   create_full is at_limit =
       refused_leads (service c b n vs) (command.Create name count) refusal.Full
-      (λ log by all. passed_if _ _ _ (some_named (service c b n vs) log name all ∙ is) ∙ refused_if _ _ _ (full (service c b n vs) log count all ∙ at_limit))
+      (λ log by all. passed_if _ _ _ (some_named (service c b n vs) log name all ∙ is)
+      ∙ refused_if _ _ _ (full (service c b n vs) log count all ∙ at_limit))
 
   pub create_spent : is_some (place_of vs name) ≡ false → is_full vs count ≡ false → (n == last_number) ≡ true
       → Leads (service c b n vs) (service c b n vs) (command.Create name count) (Err refusal.Spent)
@@ -53,7 +57,8 @@ module _ (c b n : ℕ) (vs : List StreamValue) (name : List ℕ) (count : ℕ) w
       ∙ passed_if _ _ _ (full (service c b n vs) log count all ∙ room)
       ∙ refused_if _ _ _ (ap (λ m. m == last_number) all.made ∙ last))
 
-  pub create_done : (m : ℕ) (ws : List StreamValue) (v : StreamValue) → Adds → is_some (place_of vs name) ≡ false → is_full vs count ≡ false
+  pub create_done : (m : ℕ) (ws : List StreamValue) (v : StreamValue) → Adds → is_some (place_of vs name) ≡ false
+      → is_full vs count ≡ false
       → (n == last_number) ≡ false
       → m ≡ n + 1 → ws ≡ vs ++ (v ∷ []) → v.no ≡ m → v.clock ≡ c
       → ((log : Journal) (by : ℕ) → IsFresh log m → Shows v (plain_line c by (entry.Made m name count) ∷ log))
@@ -64,7 +69,8 @@ module _ (c b n : ℕ) (vs : List StreamValue) (name : List ℕ) (count : ℕ) w
       let here = plain_line c by (entry.Made (n + 1) name count) in
       let same : here ≡ line = ap (λ k. plain_line c by (entry.Made (k + 1) name count)) (sym all.made) in
       let shown : Shows v (here ∷ log) =
-      subst (λ k. Shows v (plain_line c by (entry.Made k name count) ∷ log)) next (shows log by (all.unmade m (later m n next))) in
+      subst (λ k. Shows v (plain_line c by (entry.Made k name count) ∷ log)) next
+      (shows log by (all.unmade m (later m n next))) in
       let decided : create log c by name count ≡ Accepted (line ∷ []) reply.Done =
       passed_if _ _ _ (some_named w log name all ∙ is)
       ∙ passed_if _ _ _ (full w log count all ∙ room)
@@ -72,7 +78,8 @@ module _ (c b n : ℕ) (vs : List StreamValue) (name : List ℕ) (count : ℕ) w
       after_accepted (create log c by name count) (line ∷ []) reply.Done log (ShowsAll (service c b m ws)) decided
       (subst (λ k. ShowsAll (service c b k ws) (line ∷ log)) (sym next)
       (subst (λ us. ShowsAll (service c b (n + 1) us) (line ∷ log)) (sym pushed)
-      (subst (λ l. ShowsAll (service c b (n + 1) (vs ++ (v ∷ []))) (l ∷ log)) same (adds c b n by count name vs v log all (no_is ∙ next) clock_is shown))))
+      (subst (λ l. ShowsAll (service c b (n + 1) (vs ++ (v ∷ []))) (l ∷ log)) same
+      (adds c b n by count name vs v log all (no_is ∙ next) clock_is shown))))
     where
       later : (m n : ℕ) → m ≡ n + 1 → n < m
       later m n h = omega (arith, h)

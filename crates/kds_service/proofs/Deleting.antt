@@ -17,17 +17,22 @@ use Rattle.kds_service.specs.Shown.{LeadsTo, ShowsAll, service}
 
 -- what `others` ensures of a stream that is taken out
 abbrev pub Removes : Type 0
-Removes = (c b n by i : ℕ) (vs : List StreamValue) (x : StreamValue) (log : Journal) → ShowsAll (service c b n vs) log → slice_get vs i ≡ Some x → ShowsAll (service c b n (remove vs i)) (plain_line c by (entry.Gone x.no) ∷ log)
+Removes = (c b n by i : ℕ) (vs : List StreamValue) (x : StreamValue) (log : Journal) → ShowsAll (service c b n vs) log
+    → slice_get vs i ≡ Some x → ShowsAll (service c b n (remove vs i)) (plain_line c by (entry.Gone x.no) ∷ log)
 
 module _ (c : ℕ) (vs : List StreamValue) (name : List ℕ) where
   pub delete_none : None ≡ place_of vs name → LeadsTo c vs vs (command.Delete name) (Err refusal.NoStream)
   delete_none none b n =
       let w = service c b n vs in
-      refused_leads w (command.Delete name) refusal.NoStream (λ log by all. with_none _ _ _ (none_named w log name all (sym none)))
+      refused_leads w (command.Delete name) refusal.NoStream
+      (λ log by all. with_none _ _ _ (none_named w log name all (sym none)))
 
-  pub delete_done : (i : ℕ) (ws : List StreamValue) (x : StreamValue) → Removes → Some i ≡ place_of vs name → slice_get vs i ≡ Some x → ws ≡ remove vs i
+  pub delete_done : (i : ℕ) (ws : List StreamValue) (x : StreamValue) → Removes → Some i ≡ place_of vs name
+      → slice_get vs i ≡ Some x → ws ≡ remove vs i
       → LeadsTo c vs ws (command.Delete name) (Ok reply.Done)
   delete_done i ws x removes found here taken = λ b n log by all.
-      after_accepted (with_stream log name (λ s. delete log c by s)) (plain_line c by (entry.Gone x.no) ∷ []) reply.Done log (ShowsAll (service c b n ws))
+      after_accepted (with_stream log name (λ s. delete log c by s)) (plain_line c by (entry.Gone x.no) ∷ [])
+      reply.Done log (ShowsAll (service c b n ws))
       (with_some _ _ _ x.no (named_at (service c b n vs) log name i x all (sym found) here))
-      (subst (λ us. ShowsAll (service c b n us) (plain_line c by (entry.Gone x.no) ∷ log)) (sym taken) (removes c b n by i vs x log all here))
+      (subst (λ us. ShowsAll (service c b n us) (plain_line c by (entry.Gone x.no) ∷ log)) (sym taken)
+      (removes c b n by i vs x log all here))

@@ -1,5 +1,6 @@
 -- The entries of the map: the values and the keys after one is replaced, added or taken out.
-use Rattle.std.proofs.Common.{◌≡◌, ℕ, zero, suc, ◌+◌, Bool, cond, List, [], ◌∷◌, ◌++◌, map, remove, slice_get, slice_set, Some, None, refl, sym, ap, subst, ◌∙◌}
+use Rattle.std.proofs.Common.{◌≡◌, ℕ, zero, suc, ◌+◌, Bool, cond, List, [], ◌∷◌, ◌++◌, map, remove, slice_get}
+use Rattle.std.proofs.Common.{slice_set, Some, None, refl, sym, ap, subst, ◌∙◌}
 use Rattle.std.specs.Prelude.{Result, Ok, Err, OnErr}
 use Rattle.std.specs.List.{position_from}
 use Rattle.std.specs.Map.{keys_of, values_of}
@@ -24,14 +25,16 @@ module _ {K X : Type 0} where
   keys_set (e ∷ es) (suc i) w = ap (λ ys. e.0 ∷ ys) (keys_set es i w)
 
   -- a new key goes last
-  pub insert_last : (eq : K → K → Bool) (n : ℕ) (es : List (K × X)) (k : K) (v : X) → position_from (eq k) n (keys_of es) ≡ None → insert_entry eq es k v ≡ es ++ ((k, v) ∷ [])
+  pub insert_last : (eq : K → K → Bool) (n : ℕ) (es : List (K × X)) (k : K) (v : X)
+      → position_from (eq k) n (keys_of es) ≡ None → insert_entry eq es k v ≡ es ++ ((k, v) ∷ [])
   insert_last eq n [] k v none = refl
   insert_last eq n (e ∷ es) k v none =
       either_way (eq k e.0)
       (λ is. absurd (none-some n (sym none ∙ ap (λ b. cond b (Some n) (position_from (eq k) (n + 1) (keys_of es))) is)))
       (λ is.
       let rest = sym (ap (λ b. cond b (Some n) (position_from (eq k) (n + 1) (keys_of es))) is) ∙ none in
-      ap (λ b. cond b ((e.0, v) ∷ es) (e ∷ insert_entry eq es k v)) is ∙ ap (λ ys. e ∷ ys) (insert_last eq (n + 1) es k v rest))
+      ap (λ b. cond b ((e.0, v) ∷ es) (e ∷ insert_entry eq es k v)) is
+      ∙ ap (λ ys. e ∷ ys) (insert_last eq (n + 1) es k v rest))
 
 pub map_take_out : {X Y : Type 0} (f : X → Y) (xs : List X) (i : ℕ) → map f (remove xs i) ≡ remove (map f xs) i
 map_take_out f [] zero = refl
@@ -41,18 +44,23 @@ map_take_out f (x ∷ xs) (suc i) = ap (λ ys. f x ∷ ys) (map_take_out f xs i)
 
 -- ---- the streams stand where they did
 
-pub placed_set : (c i : ℕ) (es : List (List ℕ × StreamValue)) (x v : StreamValue) → ArePlaced c es → slice_get (values_of es) i ≡ Some x → v.name ≡ x.name → v.clock ≡ c → ArePlaced c (set_value_at es i v)
+pub placed_set : (c i : ℕ) (es : List (List ℕ × StreamValue)) (x v : StreamValue) → ArePlaced c es
+    → slice_get (values_of es) i ≡ Some x → v.name ≡ x.name → v.clock ≡ c → ArePlaced c (set_value_at es i v)
 placed_set c i es x v placed here name clock = record {
-  named = keys_set es i v ∙ placed.named ∙ sym (map_same (λ u. u.name) i (values_of es) x v here name) ∙ ap names_of (sym (values_set es i v));
+  named = keys_set es i v ∙ placed.named ∙ sym (map_same (λ u. u.name) i (values_of es) x v here name)
+      ∙ ap names_of (sym (values_set es i v));
   at = subst (AreAt c) (sym (values_set es i v)) (all_set (λ u. u.clock ≡ c) i (values_of es) v placed.at clock);
 }
 
 -- after an error nothing has changed
-pub kept_set : {A E : Type 0} (r : Result A E) (i : ℕ) (es : List (List ℕ × StreamValue)) (x v : StreamValue) → slice_get (values_of es) i ≡ Some x → OnErr r (v ≡ x) → OnErr r (values_of (set_value_at es i v) ≡ values_of es)
+pub kept_set : {A E : Type 0} (r : Result A E) (i : ℕ) (es : List (List ℕ × StreamValue)) (x v : StreamValue)
+    → slice_get (values_of es) i ≡ Some x → OnErr r (v ≡ x) → OnErr r (values_of (set_value_at es i v) ≡ values_of es)
 kept_set (Ok a) i es x v here same = tt
-kept_set (Err e) i es x v here same = values_set es i v ∙ ap (slice_set (values_of es) i) same ∙ set_same i (values_of es) x here
+kept_set (Err e) i es x v here same = values_set es i v ∙ ap (slice_set (values_of es) i) same
+    ∙ set_same i (values_of es) x here
 
-pub placed_push : (c : ℕ) (es fs : List (List ℕ × StreamValue)) (k : List ℕ) (v : StreamValue) → ArePlaced c es → fs ≡ es ++ ((k, v) ∷ []) → k ≡ v.name → v.clock ≡ c → ArePlaced c fs
+pub placed_push : (c : ℕ) (es fs : List (List ℕ × StreamValue)) (k : List ℕ) (v : StreamValue) → ArePlaced c es
+    → fs ≡ es ++ ((k, v) ∷ []) → k ≡ v.name → v.clock ≡ c → ArePlaced c fs
 placed_push c es fs k v placed pushed name clock = record {
   named =
       ap keys_of pushed
@@ -74,9 +82,12 @@ placed_remove c i es fs placed taken = record {
       ∙ ap (λ ks. remove ks i) placed.named
       ∙ sym (map_take_out (λ u. u.name) (values_of es) i)
       ∙ ap names_of (sym (ap values_of taken ∙ map_take_out (λ e. e.1) es i));
-  at = subst (AreAt c) (sym (ap values_of taken ∙ map_take_out (λ e. e.1) es i)) (all_remove (λ u. u.clock ≡ c) i (values_of es) placed.at);
+  at = subst (AreAt c) (sym (ap values_of taken ∙ map_take_out (λ e. e.1) es i))
+      (all_remove (λ u. u.clock ≡ c) i (values_of es) placed.at);
 }
 
 -- the same keys over streams of the same names
-pub placed_along : (c : ℕ) (es fs : List (List ℕ × StreamValue)) → keys_of es ≡ names_of (values_of es) → keys_of fs ≡ keys_of es → names_of (values_of fs) ≡ names_of (values_of es) → AreAt c (values_of fs) → ArePlaced c fs
+pub placed_along : (c : ℕ) (es fs : List (List ℕ × StreamValue)) → keys_of es ≡ names_of (values_of es)
+    → keys_of fs ≡ keys_of es → names_of (values_of fs) ≡ names_of (values_of es) → AreAt c (values_of fs)
+    → ArePlaced c fs
 placed_along c es fs named same names at = record { named = same ∙ named ∙ sym names; at = at }

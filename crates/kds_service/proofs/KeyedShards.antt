@@ -1,5 +1,6 @@
 -- Shards by their keys: what the streams of a service say of them is what the journal says.
-use Rattle.std.proofs.Common.{◌≡◌, ℕ, zero, suc, ◌+◌, Bool, true, false, ◌==◌, List, [], ◌∷◌, ◌++◌, drop, slice_get, Option, Some, None, refl, sym, ap, subst, ◌∙◌}
+use Rattle.std.proofs.Common.{◌≡◌, ℕ, zero, suc, ◌+◌, Bool, true, false, ◌==◌, List, [], ◌∷◌, ◌++◌, drop, slice_get}
+use Rattle.std.proofs.Common.{Option, Some, None, refl, sym, ap, subst, ◌∙◌}
 use Rattle.std.specs.Prelude.{not, ◌||◌, if◌then◌else◌}
 use Rattle.std.specs.List.{position_from}
 use Rattle.std.proofs.lemmas.Bool.{eqb-true, or_from}
@@ -10,7 +11,8 @@ use Rattle.kds_base.proofs.Facts.{same_some}
 use Rattle.kds_defs.specs.Journal.{Journal}
 use Rattle.kds_defs.specs.Keys.{is_listed_key}
 use Rattle.kds_defs.specs.Listings.{listed_in, refs_of}
-use Rattle.kds_defs.specs.Shards.{ShardState, is_closed_below, is_listed_state, listed_among, listed_shards, shard_at, shards}
+use Rattle.kds_defs.specs.Shards.{ShardState, is_closed_below, is_listed_state, listed_among, listed_shards, shard_at}
+use Rattle.kds_defs.specs.Shards.{shards}
 use Rattle.kds_defs.specs.Streams.{floor_of, is_live, live_streams, trim_floor}
 use Rattle.kds_stream.specs.Showing.{Shows}
 use Rattle.kds_stream.specs.Value.{StreamValue, is_listed_at}
@@ -22,20 +24,25 @@ use Rattle.kds_service.specs.Shown.{AreAt, AreShown, ServiceValue, ShowsAll, is_
 
 -- ---- the stream of a number
 
-here_or_later : (v : StreamValue) (vs : List StreamValue) (s : ℕ) (b : Bool) → (v.no == s) ≡ b → stream_at (v ∷ vs) s ≡ (if b then Some v else stream_at vs s)
+here_or_later : (v : StreamValue) (vs : List StreamValue) (s : ℕ) (b : Bool) → (v.no == s) ≡ b
+    → stream_at (v ∷ vs) s ≡ (if b then Some v else stream_at vs s)
 here_or_later v vs s b e = ap (λ b. if b then Some v else stream_at vs s) e
 
-found_from : (n i s : ℕ) (vs : List StreamValue) (x : StreamValue) → position_from (λ m. m == s) n (numbers_of vs) ≡ Some (n + i) → slice_get vs i ≡ Some x → stream_at vs s ≡ Some x
+found_from : (n i s : ℕ) (vs : List StreamValue) (x : StreamValue)
+    → position_from (λ m. m == s) n (numbers_of vs) ≡ Some (n + i) → slice_get vs i ≡ Some x → stream_at vs s ≡ Some x
 found_from n i s [] x is here = absurd (none-some x here)
-found_from n zero s (v ∷ vs) x is here = here_or_later v vs s true (first_passes (λ m. m == s) n v.no (numbers_of vs) is) ∙ here
+found_from n zero s (v ∷ vs) x is here =
+    here_or_later v vs s true (first_passes (λ m. m == s) n v.no (numbers_of vs) is) ∙ here
 found_from n (suc i) s (v ∷ vs) x is here =
     let rest = later_fails (λ m. m == s) n i v.no (numbers_of vs) is in
     here_or_later v vs s false rest.0 ∙ found_from (n + 1) i s vs x rest.1 here
 
-pub stream_found : (i s : ℕ) (vs : List StreamValue) (x : StreamValue) → Some i ≡ place_at vs s → slice_get vs i ≡ Some x → Some x ≡ stream_at vs s
+pub stream_found : (i s : ℕ) (vs : List StreamValue) (x : StreamValue) → Some i ≡ place_at vs s
+    → slice_get vs i ≡ Some x → Some x ≡ stream_at vs s
 stream_found i s vs x found here = sym (found_from 0 i s vs x (sym found ∙ ap Some (from_zero i)) here)
 
-none_from : (n s : ℕ) (vs : List StreamValue) → position_from (λ m. m == s) n (numbers_of vs) ≡ None → stream_at vs s ≡ None
+none_from : (n s : ℕ) (vs : List StreamValue) → position_from (λ m. m == s) n (numbers_of vs) ≡ None
+    → stream_at vs s ≡ None
 none_from n s [] none = refl
 none_from n s (v ∷ vs) none =
     let rest = none_passes (λ m. m == s) n v.no (numbers_of vs) none in
@@ -50,16 +57,22 @@ pub record IsOf (log : Journal) (c s : ℕ) (x : StreamValue) : Type 0 where
   pub clock : x.clock ≡ c
   pub shown : Shows x log
 
-of_here : (log : Journal) (c s : ℕ) (v : StreamValue) (vs : List StreamValue) (x : StreamValue) (b : Bool) → (v.no == s) ≡ b → v.clock ≡ c → Shows v log → (if b then Some v else stream_at vs s) ≡ Some x
+of_here : (log : Journal) (c s : ℕ) (v : StreamValue) (vs : List StreamValue) (x : StreamValue) (b : Bool)
+    → (v.no == s) ≡ b → v.clock ≡ c → Shows v log → (if b then Some v else stream_at vs s) ≡ Some x
     → (stream_at vs s ≡ Some x → IsOf log c s x) → IsOf log c s x
-of_here log c s v vs x true e at shown is rest = subst (IsOf log c s) (same_some v x is) (record { no = eqb-true v.no s e; clock = at; shown = shown })
+of_here log c s v vs x true e at shown is rest =
+    subst (IsOf log c s) (same_some v x is) (record { no = eqb-true v.no s e; clock = at; shown = shown })
 of_here log c s v vs x false e at shown is rest = rest is
 
-pub is_of : (log : Journal) (c s : ℕ) (vs : List StreamValue) (x : StreamValue) → AreAt c vs → AreShown log vs → stream_at vs s ≡ Some x → IsOf log c s x
+pub is_of : (log : Journal) (c s : ℕ) (vs : List StreamValue) (x : StreamValue) → AreAt c vs → AreShown log vs
+    → stream_at vs s ≡ Some x → IsOf log c s x
 is_of log c s [] x at shown is = absurd (none-some x is)
-is_of log c s (v ∷ vs) x at shown is = of_here log c s v vs x (v.no == s) refl at.0 shown.0 is (is_of log c s vs x at.1 shown.1)
+is_of log c s (v ∷ vs) x at shown is =
+    of_here log c s v vs x (v.no == s) refl at.0 shown.0 is (is_of log c s vs x at.1 shown.1)
 
-away_here : (v : StreamValue) (vs : List StreamValue) (s : ℕ) (b : Bool) → (v.no == s) ≡ b → (if b then Some v else stream_at vs s) ≡ None → (stream_at vs s ≡ None → is_among (numbers_of vs) s ≡ false) → is_among (numbers_of (v ∷ vs)) s ≡ false
+away_here : (v : StreamValue) (vs : List StreamValue) (s : ℕ) (b : Bool) → (v.no == s) ≡ b
+    → (if b then Some v else stream_at vs s) ≡ None → (stream_at vs s ≡ None → is_among (numbers_of vs) s ≡ false)
+    → is_among (numbers_of (v ∷ vs)) s ≡ false
 away_here v vs s true e is rest = absurd (none-some v (sym is))
 away_here v vs s false e is rest = or_from (v.no == s) (is_among (numbers_of vs) s) e (rest is)
 
@@ -69,17 +82,20 @@ away s (v ∷ vs) is = away_here v vs s (v.no == s) refl is (away s vs)
 
 -- ---- a shard of it
 
-listed_by : (log : Journal) (c s floor : ℕ) (o : Option ShardState) → is_live log s ≡ true → trim_floor log c s ≡ floor → is_listed_at floor o ≡ is_listed_state log c s o
+listed_by : (log : Journal) (c s floor : ℕ) (o : Option ShardState) → is_live log s ≡ true → trim_floor log c s ≡ floor
+    → is_listed_at floor o ≡ is_listed_state log c s o
 listed_by log c s floor None live at = refl
 listed_by log c s floor (Some x) live at =
     sym (ap (λ b. not (not b || is_closed_below (trim_floor log c s) x)) live ∙ ap (λ f. not (is_closed_below f x)) at)
 
-unlisted_by : (log : Journal) (c s : ℕ) (o : Option ShardState) → is_live log s ≡ false → false ≡ is_listed_state log c s o
+unlisted_by : (log : Journal) (c s : ℕ) (o : Option ShardState) → is_live log s ≡ false
+    → false ≡ is_listed_state log c s o
 unlisted_by log c s None dead = refl
 unlisted_by log c s (Some x) dead = sym (ap (λ b. not (not b || is_closed_below (trim_floor log c s) x)) dead)
 
 floor_by : (log : Journal) (c s : ℕ) (x : StreamValue) → IsOf log c s x → trim_floor log c s ≡ floor_of x.cut
-floor_by log c s x of = ap (λ n. trim_floor log n s) (sym of.clock) ∙ ap (trim_floor log x.clock) (sym of.no) ∙ of.shown.stored.floor_is
+floor_by log c s x of = ap (λ n. trim_floor log n s) (sym of.clock) ∙ ap (trim_floor log x.clock) (sym of.no)
+    ∙ of.shown.stored.floor_is
 
 live_by : (log : Journal) (c s : ℕ) (x : StreamValue) → IsOf log c s x → is_live log s ≡ true
 live_by log c s x of = ap (is_live log) (sym of.no) ∙ of.shown.stored.live
@@ -88,34 +104,43 @@ shards_by : (log : Journal) (c s : ℕ) (x : StreamValue) → IsOf log c s x →
 shards_by log c s x of = ap (shards log) (sym of.no) ∙ of.shown.stored.shards_are
 
 module _ (w : ServiceValue) (log : Journal) (all : ShowsAll w log) (key : ShardRef) where
-  listed_of : (o : Option StreamValue) → stream_at w.streams key.stream ≡ o → is_listed_of o key.shard ≡ is_listed_key log w.clock key
-  listed_of None e = unlisted_by log w.clock key.stream (shard_at log key.stream key.shard) (all.others key.stream (away key.stream w.streams e))
+  listed_of : (o : Option StreamValue) → stream_at w.streams key.stream ≡ o
+      → is_listed_of o key.shard ≡ is_listed_key log w.clock key
+  listed_of None e = unlisted_by log w.clock key.stream (shard_at log key.stream key.shard)
+      (all.others key.stream (away key.stream w.streams e))
   listed_of (Some x) e =
       let of = is_of log w.clock key.stream w.streams x all.at all.shown e in
-      listed_by log w.clock key.stream (floor_of x.cut) (slice_get x.tree key.shard) (live_by log w.clock key.stream x of) (floor_by log w.clock key.stream x of)
-      ∙ ap (λ xs. is_listed_state log w.clock key.stream (slice_get xs key.shard)) (sym (shards_by log w.clock key.stream x of))
+      listed_by log w.clock key.stream (floor_of x.cut) (slice_get x.tree key.shard)
+      (live_by log w.clock key.stream x of) (floor_by log w.clock key.stream x of)
+      ∙ ap (λ xs. is_listed_state log w.clock key.stream (slice_get xs key.shard))
+      (sym (shards_by log w.clock key.stream x of))
 
   pub listed_is : is_listed_in w.streams key ≡ is_listed_key log w.clock key
   listed_is = listed_of (stream_at w.streams key.stream) refl
 
   state_by : (o : Option StreamValue) → stream_at w.streams key.stream ≡ o → state_of o key.shard ≡ live_shard log key
-  state_by None e = sym (ap (λ b. if b then shard_at log key.stream key.shard else None) (all.others key.stream (away key.stream w.streams e)))
+  state_by None e = sym
+      (ap (λ b. if b then shard_at log key.stream key.shard else None)
+      (all.others key.stream (away key.stream w.streams e)))
   state_by (Some x) e =
       let of = is_of log w.clock key.stream w.streams x all.at all.shown e in
-      sym (ap (λ b. if b then shard_at log key.stream key.shard else None) (live_by log w.clock key.stream x of) ∙ ap (λ xs. slice_get xs key.shard) (shards_by log w.clock key.stream x of))
+      sym (ap (λ b. if b then shard_at log key.stream key.shard else None) (live_by log w.clock key.stream x of)
+      ∙ ap (λ xs. slice_get xs key.shard) (shards_by log w.clock key.stream x of))
 
   pub state_is : state_in w.streams key ≡ live_shard log key
   state_is = state_by (stream_at w.streams key.stream) refl
 
 -- what holds of the stream's own clock and number holds of the service's clock and of the number it was found by
-pub at_key : (P : ℕ → ℕ → Type 0) (log : Journal) (c b n s : ℕ) (vs : List StreamValue) (x : StreamValue) → ShowsAll (service c b n vs) log → Some x ≡ stream_at vs s → (Shows x log → P x.clock x.no) → P c s
+pub at_key : (P : ℕ → ℕ → Type 0) (log : Journal) (c b n s : ℕ) (vs : List StreamValue) (x : StreamValue)
+    → ShowsAll (service c b n vs) log → Some x ≡ stream_at vs s → (Shows x log → P x.clock x.no) → P c s
 at_key P log c b n s vs x all found answered =
     let of = is_of log c s vs x all.at all.shown (sym found) in
     subst (λ t. P c t) of.no (subst (λ m. P m x.no) of.clock (answered of.shown))
 
 -- ---- all listed shards
 
-keys_by : (log : Journal) (c : ℕ) (vs : List StreamValue) → AreAt c vs → AreShown log vs → listed_keys vs ≡ listed_in log c (numbers_of vs)
+keys_by : (log : Journal) (c : ℕ) (vs : List StreamValue) → AreAt c vs → AreShown log vs
+    → listed_keys vs ≡ listed_in log c (numbers_of vs)
 keys_by log c [] at shown = refl
 keys_by log c (v ∷ vs) at shown =
     let of : IsOf log c v.no v = record { no = refl; clock = at.0; shown = shown.0 } in
@@ -123,14 +148,19 @@ keys_by log c (v ∷ vs) at shown =
     ap (λ b. if b then listed_among (trim_floor log c v.no) (shards log v.no) else []) shown.0.stored.live
     ∙ ap (λ f. listed_among f (shards log v.no)) (floor_by log c v.no v of)
     ∙ ap (listed_among (floor_of v.cut)) shown.0.stored.shards_are in
-    ap (λ xs. refs_of v.no xs ++ listed_keys vs) (sym are) ∙ ap (λ ks. refs_of v.no (listed_shards log c v.no) ++ ks) (keys_by log c vs at.1 shown.1)
+    ap (λ xs. refs_of v.no xs ++ listed_keys vs) (sym are)
+    ∙ ap (λ ks. refs_of v.no (listed_shards log c v.no) ++ ks) (keys_by log c vs at.1 shown.1)
 
-pub keys_are : (w : ServiceValue) (log : Journal) → ShowsAll w log → listed_keys w.streams ≡ listed_in log w.clock (live_streams log)
-keys_are w log all = keys_by log w.clock w.streams all.at all.shown ∙ ap (listed_in log w.clock) (sym (live_are w log all))
+pub keys_are : (w : ServiceValue) (log : Journal) → ShowsAll w log
+    → listed_keys w.streams ≡ listed_in log w.clock (live_streams log)
+keys_are w log all = keys_by log w.clock w.streams all.at all.shown
+    ∙ ap (listed_in log w.clock) (sym (live_are w log all))
 
 -- one stream more is done
-pub keys_step : (vs : List StreamValue) (i : ℕ) (x : StreamValue) (keys new : List ShardRef) → slice_get vs i ≡ Some x → new ≡ keys ++ refs_of x.no (listed_among (floor_of x.cut) x.tree)
+pub keys_step : (vs : List StreamValue) (i : ℕ) (x : StreamValue) (keys new : List ShardRef) → slice_get vs i ≡ Some x
+    → new ≡ keys ++ refs_of x.no (listed_among (floor_of x.cut) x.tree)
     → new ++ listed_keys (drop (i + 1) vs) ≡ keys ++ listed_keys (drop i vs)
 keys_step vs i x keys new here pushed =
     let own = refs_of x.no (listed_among (floor_of x.cut) x.tree) in
-    ap (λ ks. ks ++ listed_keys (drop (i + 1) vs)) pushed ∙ append_assoc keys own (listed_keys (drop (i + 1) vs)) ∙ ap (λ us. keys ++ listed_keys us) (sym (drop_get vs i x here))
+    ap (λ ks. ks ++ listed_keys (drop (i + 1) vs)) pushed ∙ append_assoc keys own (listed_keys (drop (i + 1) vs))
+    ∙ ap (λ us. keys ++ listed_keys us) (sym (drop_get vs i x here))

@@ -20,23 +20,31 @@ use Rattle.kds_service.specs.Places.{open_beside, place_for}
 use Rattle.kds_service.specs.Shown.{AreAt, Leads, LeadsTo, ServiceValue, ShowsAll, service}
 
 -- a refusal leaves all as it was
-pub refused_leads : (w : ServiceValue) (what : Command) (r : Refusal) → ((log : Journal) (by : ℕ) → ShowsAll w log → decide log w.clock by what ≡ Refused r) → Leads w w what (Err r)
-refused_leads w what r is = λ log by all. after_refused (decide log w.clock by what) r log (ShowsAll w) (is log by all) all
+pub refused_leads : (w : ServiceValue) (what : Command) (r : Refusal)
+    → ((log : Journal) (by : ℕ) → ShowsAll w log → decide log w.clock by what ≡ Refused r) → Leads w w what (Err r)
+refused_leads w what r is =
+    λ log by all. after_refused (decide log w.clock by what) r log (ShowsAll w) (is log by all) all
 
 -- what `others` ensures of one stream that changes
 abbrev pub Changes : Type 0
-Changes = (c b n i : ℕ) (vs : List StreamValue) (x v : StreamValue) (log : Journal) (lines : List Line) → ShowsAll (service c b n vs) log → slice_get vs i ≡ Some x → v.no ≡ x.no → v.clock ≡ c → AreOf x.no c lines → Shows v (with_lines lines log) → ShowsAll (service c b n (slice_set vs i v)) (with_lines lines log)
+Changes = (c b n i : ℕ) (vs : List StreamValue) (x v : StreamValue) (log : Journal) (lines : List Line)
+    → ShowsAll (service c b n vs) log → slice_get vs i ≡ Some x → v.no ≡ x.no → v.clock ≡ c → AreOf x.no c lines
+    → Shows v (with_lines lines log) → ShowsAll (service c b n (slice_set vs i v)) (with_lines lines log)
 
 -- the stream that the command is for is at a place; now it is v, and it answers what it decides
-pub stream_leads : {E : Type 0} (c i : ℕ) (vs ws : List StreamValue) (x v : StreamValue) (what : Command) (room : ℕ) (r : Result (Result Reply Refusal) E)
-    → Changes → AreAt c vs → slice_get vs i ≡ Some x → place_for vs what ≡ Some i → ws ≡ slice_set vs i v → is_of_stream what ≡ true
+pub stream_leads : {E : Type 0} (c i : ℕ) (vs ws : List StreamValue) (x v : StreamValue) (what : Command) (room : ℕ)
+    (r : Result (Result Reply Refusal) E)
+    → Changes → AreAt c vs → slice_get vs i ≡ Some x → place_for vs what ≡ Some i → ws ≡ slice_set vs i v
+    → is_of_stream what ≡ true
     → (asks_for_room what ≡ true → room ≡ OPEN_SHARDS - open_beside vs x.no) → v.no ≡ x.no → v.clock ≡ x.clock
     → IfOk r (λ a. Serves what room x v a) → IfOk r (LeadsTo c vs ws what)
 stream_leads c i vs ws x v what room (Err e) change at here found set own asked no_is clock_is served = tt
-stream_leads c i vs ws x v what room (Ok gives) change at here found set own asked no_is clock_is served = λ b n log by all.
+stream_leads c i vs ws x v what room (Ok gives) change at here found set own asked no_is clock_is served =
+    λ b n log by all.
     let now = all_get (λ u. u.clock ≡ c) i vs x at here in
     let told = told_so (service c b n vs) log i x what room all here found asked in
-    let led = subst (λ m. (gives ≡ answer_of (decide log m by what)) × Shows v (with_lines (lines_of (decide log m by what)) log)) now (served log by told) in
+    let led = subst (λ m. (gives ≡ answer_of (decide log m by what))
+    × Shows v (with_lines (lines_of (decide log m by what)) log)) now (served log by told) in
     let lines = lines_of (decide log c by what) in
     let of = own_lines log c by x.no what own (λ name is. (told.named name is).1) in (
       led.0,
@@ -45,6 +53,9 @@ stream_leads c i vs ws x v what room (Ok gives) change at here found set own ask
     )
 
 -- the same of the whole service
-pub serve_leads : {E : Type 0} (r : Result (Result Reply Refusal) E) (c b n : ℕ) (vs ws : List StreamValue) (what what' : Command) → IfOk r (LeadsTo c vs ws what') → what ≡ what' → IfOk r (Leads (service c b n vs) (service c b n ws) what)
+pub serve_leads : {E : Type 0} (r : Result (Result Reply Refusal) E) (c b n : ℕ) (vs ws : List StreamValue)
+    (what what' : Command) → IfOk r (LeadsTo c vs ws what') → what ≡ what'
+    → IfOk r (Leads (service c b n vs) (service c b n ws) what)
 serve_leads (Err e) c b n vs ws what what' led is = tt
-serve_leads (Ok gives) c b n vs ws what what' led is = subst (λ x. Leads (service c b n vs) (service c b n ws) x gives) (sym is) (led b n)
+serve_leads (Ok gives) c b n vs ws what what' led is =
+    subst (λ x. Leads (service c b n vs) (service c b n ws) x gives) (sym is) (led b n)

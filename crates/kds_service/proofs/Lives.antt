@@ -1,5 +1,6 @@
 -- What the lines of one stream leave of the others, and that a command which is for one stream writes such lines.
-use Rattle.std.proofs.Common.{◌≡◌, ◌≢◌, ℕ, ◌+◌, ◌<◌, ◌≤◌, Bool, true, ◌==◌, List, [], ◌∷◌, ◌++◌, remove, slice_get, slice_set}
+use Rattle.std.proofs.Common.{◌≡◌, ◌≢◌, ℕ, ◌+◌, ◌<◌, ◌≤◌, Bool, true, ◌==◌, List, [], ◌∷◌, ◌++◌, remove, slice_get}
+use Rattle.std.proofs.Common.{slice_set}
 use Rattle.std.proofs.Common.{Some, None, refl, sym, ap, subst, ◌∙◌, arith}
 use Rattle.std.specs.Prelude.{not, Result}
 use Rattle.std.proofs.lemmas.List.{map-append}
@@ -32,20 +33,25 @@ use Rattle.kds_service.specs.Shown.{AreAt, AreShown, IsRising, ServiceValue, Sho
 -- ---- the law of a stream, as `other_lines` ensures it
 
 abbrev pub LinesOfOthers : Type 0
-LinesOfOthers = (v : StreamValue) (log : Journal) (line : Line) → Shows v log → line.clock ≡ v.clock → stream_of line.what ≢ Some v.no → Shows v (line ∷ log)
+LinesOfOthers = (v : StreamValue) (log : Journal) (line : Line) → Shows v log → line.clock ≡ v.clock
+    → stream_of line.what ≢ Some v.no → Shows v (line ∷ log)
 
 -- ---- several lines
 
-shows_more : (v : StreamValue) (c s : ℕ) (lines : List Line) (log : Journal) → LinesOfOthers → v.clock ≡ c → s ≢ v.no → AreOf s c lines → Shows v log
+shows_more : (v : StreamValue) (c s : ℕ) (lines : List Line) (log : Journal) → LinesOfOthers → v.clock ≡ c → s ≢ v.no
+    → AreOf s c lines → Shows v log
     → Shows v (with_lines lines log)
 shows_more v c s [] log law clock differ of shown = shown
 shows_more v c s (line ∷ lines) log law clock differ of shown =
-    shows_more v c s lines (line ∷ log) law clock differ of.1 (law v log line shown (of.0.1 ∙ sym clock) (of_other line.what s v.no of.0.0 differ))
+    shows_more v c s lines (line ∷ log) law clock differ of.1
+    (law v log line shown (of.0.1 ∙ sym clock) (of_other line.what s v.no of.0.0 differ))
 
-fresh_more : (s t c : ℕ) (lines : List Line) (log : Journal) → s ≢ t → AreOf s c lines → IsFresh log t → IsFresh (with_lines lines log) t
+fresh_more : (s t c : ℕ) (lines : List Line) (log : Journal) → s ≢ t → AreOf s c lines → IsFresh log t
+    → IsFresh (with_lines lines log) t
 fresh_more s t c [] log differ of fresh = fresh
 fresh_more s t c (line ∷ lines) log differ of fresh =
-    fresh_more s t c lines (line ∷ log) differ of.1 (fresh_other log line t fresh (of_other line.what s t of.0.0 differ))
+    fresh_more s t c lines (line ∷ log) differ of.1
+    (fresh_other log line t fresh (of_other line.what s t of.0.0 differ))
 
 made_same : (what : Entry) (n : ℕ) → is_within_life what ≡ true → made_count_after what n ≡ n
 made_same (entry.Made s name count) n h = absurd cc
@@ -56,21 +62,27 @@ live_same (entry.Made t name count) s b h = absurd cc
 live_same (entry.Gone t) s b h = absurd cc
 live_same _ s b h = refl
 
-made_more : (s c : ℕ) (lines : List Line) (log : Journal) → AreOf s c lines → made_count (with_lines lines log) ≡ made_count log
+made_more : (s c : ℕ) (lines : List Line) (log : Journal) → AreOf s c lines
+    → made_count (with_lines lines log) ≡ made_count log
 made_more s c [] log of = refl
-made_more s c (line ∷ lines) log of = made_more s c lines (line ∷ log) of.1 ∙ made_same line.what (made_count log) of.0.2
+made_more s c (line ∷ lines) log of =
+    made_more s c lines (line ∷ log) of.1 ∙ made_same line.what (made_count log) of.0.2
 
-live_more : (s t c : ℕ) (lines : List Line) (log : Journal) → AreOf s c lines → is_live (with_lines lines log) t ≡ is_live log t
+live_more : (s t c : ℕ) (lines : List Line) (log : Journal) → AreOf s c lines
+    → is_live (with_lines lines log) t ≡ is_live log t
 live_more s t c [] log of = refl
-live_more s t c (line ∷ lines) log of = live_more s t c lines (line ∷ log) of.1 ∙ live_same line.what t (is_live log t) of.0.2
+live_more s t c (line ∷ lines) log of =
+    live_more s t c lines (line ∷ log) of.1 ∙ live_same line.what t (is_live log t) of.0.2
 
 -- a number above all others is none of theirs
 beyond : (n s t : ℕ) → s ≤ n → n < t → t ≡ s → ⊥
 beyond n s t a b e = absurd (omega arith)
 
 -- a stream goes on to show the journal with its lines, and the service with it
-pub shows_after : (c b n i : ℕ) (vs : List StreamValue) (x v : StreamValue) (log : Journal) (lines : List Line) → LinesOfOthers
-    → ShowsAll (service c b n vs) log → slice_get vs i ≡ Some x → v.no ≡ x.no → v.clock ≡ c → AreOf x.no c lines → Shows v (with_lines lines log)
+pub shows_after : (c b n i : ℕ) (vs : List StreamValue) (x v : StreamValue) (log : Journal) (lines : List Line)
+    → LinesOfOthers
+    → ShowsAll (service c b n vs) log → slice_get vs i ≡ Some x → v.no ≡ x.no → v.clock ≡ c → AreOf x.no c lines
+    → Shows v (with_lines lines log)
     → ShowsAll (service c b n (slice_set vs i v)) (with_lines lines log)
 shows_after c b n i vs x v log lines law all here numbered clock of shown =
     let numbers : numbers_of (slice_set vs i v) ≡ numbers_of vs = map_same (λ u. u.no) i vs x v here numbered in
@@ -91,7 +103,8 @@ shows_after c b n i vs x v log lines law all here numbered clock of shown =
 
 -- ---- a new stream
 
-pub shows_added : (c b n by count : ℕ) (name : List ℕ) (vs : List StreamValue) (v : StreamValue) (log : Journal) → LinesOfOthers
+pub shows_added : (c b n by count : ℕ) (name : List ℕ) (vs : List StreamValue) (v : StreamValue) (log : Journal)
+    → LinesOfOthers
     → ShowsAll (service c b n vs) log → v.no ≡ n + 1 → v.clock ≡ c
     → Shows v (plain_line c by (entry.Made (n + 1) name count) ∷ log)
     → ShowsAll (service c b (n + 1) (vs ++ (v ∷ []))) (plain_line c by (entry.Made (n + 1) name count) ∷ log)
@@ -110,7 +123,8 @@ shows_added c b n by count name vs v log law all numbered clock shown =
       others = λ s out.
           let parts = among_push (numbers_of vs) (n + 1) s (ap (λ ns. is_among ns s) (sym numbers) ∙ out) in
           or_from ((n + 1) == s) (is_live log s) parts.1 (all.others s parts.0);
-      unmade = λ s later. fresh_other log line s (all.unmade s (omega arith)) (λ same. apart n s later (same_Some _ _ same));
+      unmade = λ s later. fresh_other log line s (all.unmade s (omega arith))
+          (λ same. apart n s later (same_Some _ _ same));
     }
   where
     last : (n m : ℕ) → m ≤ n → n + 1 ≡ m → ⊥
@@ -121,7 +135,8 @@ shows_added c b n by count name vs v log law all numbered clock shown =
 
 -- ---- the end of a stream
 
-pub shows_removed : (c b n by i : ℕ) (vs : List StreamValue) (x : StreamValue) (log : Journal) → LinesOfOthers → ShowsAll (service c b n vs) log
+pub shows_removed : (c b n by i : ℕ) (vs : List StreamValue) (x : StreamValue) (log : Journal) → LinesOfOthers
+    → ShowsAll (service c b n vs) log
     → slice_get vs i ≡ Some x → ShowsAll (service c b n (remove vs i)) (plain_line c by (entry.Gone x.no) ∷ log)
 shows_removed c b n by i vs x log law all here =
     let line = plain_line c by (entry.Gone x.no) in
@@ -143,13 +158,17 @@ shows_removed c b n by i vs x log law all here =
 
 -- ---- a line of a lease
 
-shown_along : (c : ℕ) (vs : List StreamValue) (line : Line) (log : Journal) → LinesOfOthers → AreAt c vs → line.clock ≡ c → stream_of line.what ≡ None
+shown_along : (c : ℕ) (vs : List StreamValue) (line : Line) (log : Journal) → LinesOfOthers → AreAt c vs
+    → line.clock ≡ c → stream_of line.what ≡ None
     → AreShown log vs → AreShown (line ∷ log) vs
 shown_along c [] line log law at clock none shown = tt
-shown_along c (v ∷ vs) line log law at clock none shown =
-    (law v log line shown.0 (clock ∙ sym at.0) (of_no_stream line.what v.no none), shown_along c vs line log law at.1 clock none shown.1)
+shown_along c (v ∷ vs) line log law at clock none shown = (
+  law v log line shown.0 (clock ∙ sym at.0) (of_no_stream line.what v.no none),
+  shown_along c vs line log law at.1 clock none shown.1,
+)
 
-pub shows_lease : (w : ServiceValue) (line : Line) (log : Journal) → LinesOfOthers → ShowsAll w log → line.clock ≡ w.clock → stream_of line.what ≡ None
+pub shows_lease : (w : ServiceValue) (line : Line) (log : Journal) → LinesOfOthers → ShowsAll w log
+    → line.clock ≡ w.clock → stream_of line.what ≡ None
     → ShowsAll w (line ∷ log)
 shows_lease w line log law all clock none = record {
   made = count_same line.what (made_count log) none ∙ all.made;
@@ -163,7 +182,14 @@ shows_lease w line log law all clock none = record {
 -- ---- no stream
 
 pub shows_none : (c b : ℕ) → ShowsAll (service c b 0 []) []
-shows_none c b = record { made = refl; at = tt; rising = tt; shown = tt; others = λ s out. refl; unmade = λ s later. fresh_empty s }
+shows_none c b = record {
+  made = refl;
+  at = tt;
+  rising = tt;
+  shown = tt;
+  others = λ s out. refl;
+  unmade = λ s later. fresh_empty s;
+}
 
 -- ---- the lines of a command that is for one stream
 
@@ -177,7 +203,8 @@ module _ (log : Journal) (c by s : ℕ) where
   of_one _ _ _ (Enforces name on t named) own here = (sym named ∙ here _ refl, refl, refl)
   of_one _ _ _ _ own here = absurd cc
 
-  of_all : (what : Command) (lines : List Line) (answer : Result Reply Refusal) → Outcome log c by what lines answer → is_of_stream what ≡ true
+  of_all : (what : Command) (lines : List Line) (answer : Result Reply Refusal) → Outcome log c by what lines answer
+      → is_of_stream what ≡ true
       → ((name : List ℕ) → name_of_command what ≡ Some name → stream_named log name ≡ Some s) → AreOf s c lines
   of_all _ _ _ (Refuses what r may) own here = tt
   of_all _ _ _ (Answers what r is) own here = tt
@@ -185,9 +212,11 @@ module _ (log : Journal) (c by s : ℕ) where
   of_all _ _ _ (Stores name items t named fits) own here =
       each_put (IsLineOf s c) c by t items log (λ before n item among. (sym named ∙ here _ refl, refl, refl))
   of_all _ _ _ (Scales name goal t named few fits) own here =
-      each_step (IsLineOf s c) c by t (steps_to log t goal) log (λ sh other n child. (sym named ∙ here _ refl, refl, refl))
+      each_step (IsLineOf s c) c by t (steps_to log t goal) log (λ sh other n child.
+      (sym named ∙ here _ refl, refl, refl))
       (λ sh at n low high. (sym named ∙ here _ refl, refl, refl))
 
-  pub own_lines : (what : Command) → is_of_stream what ≡ true → ((name : List ℕ) → name_of_command what ≡ Some name → stream_named log name ≡ Some s)
+  pub own_lines : (what : Command) → is_of_stream what ≡ true
+      → ((name : List ℕ) → name_of_command what ≡ Some name → stream_named log name ≡ Some s)
       → AreOf s c (lines_of (decide log c by what))
   own_lines what own here = of_all what _ _ (walk log c by what) own here

@@ -1,5 +1,6 @@
 -- Which stream a command is for: how it is refused where there is none, and what the stream is told where there is one.
-use Rattle.std.proofs.Common.{◌≡◌, ℕ, ◌+◌, Bool, true, false, List, slice_get, Option, Some, None, length, refl, sym, ap, ◌∙◌}
+use Rattle.std.proofs.Common.{◌≡◌, ℕ, ◌+◌, Bool, true, false, List, slice_get, Option, Some, None, length, refl, sym}
+use Rattle.std.proofs.Common.{ap, ◌∙◌}
 use Rattle.std.specs.Prelude.{◌-◌, not, if◌then◌else◌}
 use Rattle.std.specs.List.{filter}
 use Rattle.std.proofs.lemmas.Bool.{not_from_false}
@@ -22,13 +23,16 @@ use Rattle.kds_stream.specs.Serving.{IsToldOf, asks_for_room, is_of_stream, toke
 use Rattle.kds_stream.specs.Showing.{Shows}
 use Rattle.kds_stream.specs.Value.{StreamValue}
 use Rattle.kds_service.proofs.Lists.{all_get}
-use Rattle.kds_service.proofs.Readings.{beside_is, from_zero, has_name, named_at, none_named, not_among, number_at, open_are, own_and_beside}
+use Rattle.kds_service.proofs.Readings.{beside_is, from_zero, has_name, named_at, none_named, not_among, number_at}
+use Rattle.kds_service.proofs.Readings.{open_are, own_and_beside}
 use Rattle.kds_service.specs.Places.{expiry, open_beside, place_at, place_by, place_for, place_of}
 use Rattle.kds_service.specs.Shown.{ServiceValue, ShowsAll, numbers_of}
 
 -- a command of the service that makes no stream, ends none and lists none is for one stream
-pub rest_of : (what : Command) → is_service what ≡ true → ((name : List ℕ) (count : ℕ) → what ≡ command.Create name count → ⊥)
-    → ((name : List ℕ) → what ≡ command.Delete name → ⊥) → ((after : Option (List ℕ)) (limit : ℕ) → what ≡ command.Streams after limit → ⊥)
+pub rest_of : (what : Command) → is_service what ≡ true
+    → ((name : List ℕ) (count : ℕ) → what ≡ command.Create name count → ⊥)
+    → ((name : List ℕ) → what ≡ command.Delete name → ⊥)
+    → ((after : Option (List ℕ)) (limit : ℕ) → what ≡ command.Streams after limit → ⊥)
     → is_of_stream what ≡ true
 rest_of (command.Create name count) own makes ends lists = absurd (makes name count refl)
 rest_of (command.Delete name) own makes ends lists = absurd (ends name refl)
@@ -37,21 +41,25 @@ rest_of _ own makes ends lists = own
 
 -- ---- the place that is found
 
-pub token_place : (vs : List StreamValue) (what : Command) (s : ℕ) → token_of what ≡ Some s → place_for vs what ≡ place_at vs s
+pub token_place : (vs : List StreamValue) (what : Command) (s : ℕ) → token_of what ≡ Some s
+    → place_for vs what ≡ place_at vs s
 token_place vs what s is = ap (λ t. place_by vs t (name_of_command what)) is
 
-pub name_place : (vs : List StreamValue) (what : Command) (name : List ℕ) → name_of_command what ≡ Some name → place_for vs what ≡ place_of vs name
+pub name_place : (vs : List StreamValue) (what : Command) (name : List ℕ) → name_of_command what ≡ Some name
+    → place_for vs what ≡ place_of vs name
 name_place vs (command.Records iter limit) name is = absurd cc
 name_place vs (command.More page limit) name is = absurd cc
 name_place vs _ name is = ap (place_by vs None) is
 
 -- the stream at the place of a number has the number
-pub numbered : (i s : ℕ) (vs : List StreamValue) (x : StreamValue) → place_at vs s ≡ Some i → slice_get vs i ≡ Some x → s ≡ x.no
+pub numbered : (i s : ℕ) (vs : List StreamValue) (x : StreamValue) → place_at vs s ≡ Some i → slice_get vs i ≡ Some x
+    → s ≡ x.no
 numbered i s vs x found here = number_at 0 i s vs x (found ∙ ap Some (from_zero i)) here
 
 -- ---- refusals
 
-old_so : (r r' : Refusal) (b : Bool) (d : Decision) → (if b then Some r else None) ≡ Some r' → (refuse r if b else d) ≡ Refused r'
+old_so : (r r' : Refusal) (b : Bool) (d : Decision) → (if b then Some r else None) ≡ Some r'
+    → (refuse r if b else d) ≡ Refused r'
 unfolding refuse◌if◌else◌
 old_so r r' true d is = ap Refused (same_some r r' is)
 old_so r r' false d is = absurd cc
@@ -61,16 +69,19 @@ young_so r true is = absurd cc
 young_so r false is = refl
 
 -- a token that is too old
-pub expired_so : (log : Journal) (c by : ℕ) (what : Command) (r : Refusal) → expiry c what ≡ Some r → decide log c by what ≡ Refused r
+pub expired_so : (log : Journal) (c by : ℕ) (what : Command) (r : Refusal) → expiry c what ≡ Some r
+    → decide log c by what ≡ Refused r
 expired_so log c by (command.Records iter limit) r is = old_so refusal.Expired r (is_old c iter.issued) _ is
 expired_so log c by (command.More page limit) r is = old_so refusal.PageExpired r (is_old c page.issued) _ is
 expired_so log c by _ r is = absurd cc
 
-gone : (w : ServiceValue) (s : ℕ) (log : Journal) → place_at w.streams s ≡ None → ShowsAll w log → not (is_live log s) ≡ true
+gone : (w : ServiceValue) (s : ℕ) (log : Journal) → place_at w.streams s ≡ None → ShowsAll w log
+    → not (is_live log s) ≡ true
 gone w s log none all = not_from_false (is_live log s) (all.others s (not_among 0 s (numbers_of w.streams) none))
 
 -- a token of no live stream, and a name that none has. What isn't for one stream comes first
-pub gone_so : (w : ServiceValue) (log : Journal) (by : ℕ) (what : Command) → ShowsAll w log → is_of_stream what ≡ true → expiry w.clock what ≡ None
+pub gone_so : (w : ServiceValue) (log : Journal) (by : ℕ) (what : Command) → ShowsAll w log → is_of_stream what ≡ true
+    → expiry w.clock what ≡ None
     → place_for w.streams what ≡ None → decide log w.clock by what ≡ Refused refusal.NoStream
 gone_so w log by (command.Create name count) all own young none = absurd cc
 gone_so w log by (command.Delete name) all own young none = absurd cc
@@ -86,15 +97,19 @@ gone_so w log by (command.Give t) all own young none = absurd cc
 gone_so w log by (command.Mark t counter to) all own young none = absurd cc
 gone_so w log by (command.CutLease key counter) all own young none = absurd cc
 gone_so w log by (command.Records iter limit) all own young none =
-    passed_if _ _ _ (young_so refusal.Expired (is_old w.clock iter.issued) young) ∙ refused_if _ _ _ (gone w iter.stream log none all)
+    passed_if _ _ _ (young_so refusal.Expired (is_old w.clock iter.issued) young)
+    ∙ refused_if _ _ _ (gone w iter.stream log none all)
 gone_so w log by (command.More page limit) all own young none =
-    passed_if _ _ _ (young_so refusal.PageExpired (is_old w.clock page.issued) young) ∙ refused_if _ _ _ (gone w page.stream log none all)
+    passed_if _ _ _ (young_so refusal.PageExpired (is_old w.clock page.issued) young)
+    ∙ refused_if _ _ _ (gone w page.stream log none all)
 gone_so w log by _ all own young none = with_none _ _ _ (none_named w log _ all none)
 
 -- ---- what the stream at the place is told
 
-pub told_so : (w : ServiceValue) (log : Journal) (i : ℕ) (x : StreamValue) (what : Command) (room : ℕ) → ShowsAll w log → slice_get w.streams i ≡ Some x
-    → place_for w.streams what ≡ Some i → (asks_for_room what ≡ true → room ≡ OPEN_SHARDS - open_beside w.streams x.no) → IsToldOf what room x log
+pub told_so : (w : ServiceValue) (log : Journal) (i : ℕ) (x : StreamValue) (what : Command) (room : ℕ) → ShowsAll w log
+    → slice_get w.streams i ≡ Some x
+    → place_for w.streams what ≡ Some i → (asks_for_room what ≡ true → room ≡ OPEN_SHARDS - open_beside w.streams x.no)
+    → IsToldOf what room x log
 told_so w log i x what room all here found asked = record {
   shown = all_get (λ v. Shows v log) i w.streams x all.shown here;
   named = λ name is.

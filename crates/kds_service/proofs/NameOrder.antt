@@ -1,5 +1,6 @@
 -- Names that are sorted are the names as the definition puts them in order.
-use Rattle.std.proofs.Common.{◌≡◌, ℕ, suc, ◌+◌, ◌<◌, ◌≤◌, Bool, true, false, List, [], ◌∷◌, ◌++◌, length, drop, map, get_or, slice_get, Some, Bor, refl, sym, ap, subst, ◌∙◌, arith}
+use Rattle.std.proofs.Common.{◌≡◌, ℕ, suc, ◌+◌, ◌<◌, ◌≤◌, Bool, true, false, List, [], ◌∷◌, ◌++◌, length, drop, map}
+use Rattle.std.proofs.Common.{get_or, slice_get, Some, Bor, refl, sym, ap, subst, ◌∙◌, arith}
 use Rattle.std.specs.Cmp.{IsStrictWeakOrder, tied_itself}
 use Rattle.std.specs.Cmp.Lexicographic.{bytes_decides, nat_list_cmp_total, slice_cmp, texts_ties}
 use Rattle.std.specs.List.{sum_by}
@@ -28,7 +29,9 @@ abbrev pub shown_before : Bor (List ℕ) → Bor (List ℕ) → Bool
 shown_before a b = name_before a.now b.now
 
 pub before_orders : {X : Type 0} (name : X → List ℕ) → IsStrictWeakOrder (λ x y. name_before (name x) (name y))
-before_orders name = subst (λ (test : Ordering → Bool). IsStrictWeakOrder (λ x y. test (slice_cmp nat_cmp (name x) (name y)))) (λ i o. less o i) (ranks_by nat_list_cmp_total name)
+before_orders name = subst (λ (test : Ordering → Bool).
+    IsStrictWeakOrder (λ x y. test (slice_cmp nat_cmp (name x) (name y)))) (λ i o. less o i)
+    (ranks_by nat_list_cmp_total name)
 
 order : IsStrictWeakOrder name_before
 order = before_orders (λ name. name)
@@ -53,16 +56,19 @@ abbrev AreRising : List (List ℕ) → Type 0
 AreRising [] = Unit {0}
 AreRising (n ∷ ns) = NotBefore n ns × AreRising ns
 
-not_before_with : (low name : List ℕ) (ns : List (List ℕ)) → name_before name low ≡ false → NotBefore low ns → NotBefore low (with_name name ns)
+not_before_with : (low name : List ℕ) (ns : List (List ℕ)) → name_before name low ≡ false → NotBefore low ns
+    → NotBefore low (with_name name ns)
 not_before_with low name [] h rest = (h, tt)
 not_before_with low name (n ∷ ns) h rest = by (name_before name n) (not_before_with low name ns h rest.1)
   where
-    by : (b : Bool) → NotBefore low (with_name name ns) → NotBefore low (if b then name ∷ n ∷ ns else n ∷ with_name name ns)
+    by : (b : Bool) → NotBefore low (with_name name ns)
+        → NotBefore low (if b then name ∷ n ∷ ns else n ∷ with_name name ns)
     by true more = (h, rest)
     by false more = (rest.0, more)
 
 -- those that aren't before a name aren't before one that isn't after it
-not_before_lower : (low name : List ℕ) (ns : List (List ℕ)) → name_before name low ≡ false → NotBefore name ns → NotBefore low ns
+not_before_lower : (low name : List ℕ) (ns : List (List ℕ)) → name_before name low ≡ false → NotBefore name ns
+    → NotBefore low ns
 not_before_lower low name [] h rest = tt
 not_before_lower low name (n ∷ ns) h rest = (order.chain n name low rest.0 h, not_before_lower low name ns h rest.1)
 
@@ -70,7 +76,8 @@ rising_with : (name : List ℕ) (ns : List (List ℕ)) → AreRising ns → AreR
 rising_with name [] up = (tt, tt)
 rising_with name (n ∷ ns) up = by (name_before name n) refl (rising_with name ns up.1)
   where
-    by : (b : Bool) → name_before name n ≡ b → AreRising (with_name name ns) → AreRising (if b then name ∷ n ∷ ns else n ∷ with_name name ns)
+    by : (b : Bool) → name_before name n ≡ b → AreRising (with_name name ns)
+        → AreRising (if b then name ∷ n ∷ ns else n ∷ with_name name ns)
     by true h more =
         let after = order.one_way name n h in
         ((after, not_before_lower name n ns after up.0), up)
@@ -86,7 +93,8 @@ sum_with : (f : List ℕ → ℕ) (name : List ℕ) (ns : List (List ℕ)) → s
 sum_with f name [] = sum_by-cons f name []
 sum_with f name (n ∷ ns) = by (name_before name n) (sum_with f name ns)
   where
-    by : (b : Bool) → sum_by f (with_name name ns) ≡ f name + sum_by f ns → sum_by f (if b then name ∷ n ∷ ns else n ∷ with_name name ns) ≡ f name + sum_by f (n ∷ ns)
+    by : (b : Bool) → sum_by f (with_name name ns) ≡ f name + sum_by f ns
+        → sum_by f (if b then name ∷ n ∷ ns else n ∷ with_name name ns) ≡ f name + sum_by f (n ∷ ns)
     by true h = sum_by-cons f name (n ∷ ns)
     by false h = omega (arith, sum_by-cons f n (with_name name ns), h, sum_by-cons f n ns)
 
@@ -107,45 +115,66 @@ none_before name (n ∷ ns) rest =
 -- ---- names that rise, with the same sums, are the same
 
 -- so the first isn't before the other's first
-first_not_before : (x y : List ℕ) (xs ys : List (List ℕ)) → NotBefore y ys → sum_by (before y) (x ∷ xs) ≡ sum_by (before y) (y ∷ ys) → name_before x y ≡ true → ⊥
+first_not_before : (x y : List ℕ) (xs ys : List (List ℕ)) → NotBefore y ys
+    → sum_by (before y) (x ∷ xs) ≡ sum_by (before y) (y ∷ ys) → name_before x y ≡ true → ⊥
 first_not_before x y xs ys rest same h =
     let one : before y x ≡ 1 = ap (λ b. if b then 1 else 0) h in
     let none = none_before y (y ∷ ys) (not_itself y, rest) in
     absurd (omega (arith, sum_by-cons (before y) x xs, one, same, none))
 
-same_names : (xs ys : List (List ℕ)) → AreRising xs → AreRising ys → ((f : List ℕ → ℕ) → sum_by f xs ≡ sum_by f ys) → xs ≡ ys
+same_names : (xs ys : List (List ℕ)) → AreRising xs → AreRising ys → ((f : List ℕ → ℕ) → sum_by f xs ≡ sum_by f ys)
+    → xs ≡ ys
 same_names [] [] up up' same = refl
 same_names [] (y ∷ ys) up up' same = absurd (omega (arith, same (λ n. 1), sum_by-cons (λ n. 1) y ys))
 same_names (x ∷ xs) [] up up' same = absurd (omega (arith, same (λ n. 1), sum_by-cons (λ n. 1) x xs))
 same_names (x ∷ xs) (y ∷ ys) up up' same =
     let is : x ≡ y = first (slice_cmp nat_cmp x y) refl in
-    let rest : xs ≡ ys = same_names xs ys up.1 up'.1 (λ f. omega (arith, same f, sum_by-cons f x xs, sum_by-cons f y ys, ap f is)) in
+    let rest : xs ≡ ys = same_names xs ys up.1 up'.1 (λ f. omega (
+      arith,
+      same f,
+      sum_by-cons f x xs,
+      sum_by-cons f y ys,
+      ap f is,
+    )) in
     ap (λ n. n ∷ xs) is ∙ ap (λ ns. y ∷ ns) rest
   where
     first : (o : Ordering) → slice_cmp nat_cmp x y ≡ o → x ≡ y
     first Less h = absurd (first_not_before x y xs ys up'.0 (same (before y)) (ap is_less h))
     first Equal h = one_name x y h
-    first Greater h = absurd (first_not_before y x ys xs up.0 (sym (same (before x))) (ap is_less (nat_list_cmp_total.antisymm y x ∙ ap ordering_reverse h)))
+    first Greater h = absurd
+        (first_not_before y x ys xs up.0 (sym (same (before x)))
+        (ap is_less (nat_list_cmp_total.antisymm y x ∙ ap ordering_reverse h)))
 
 -- ---- names that references show
 
-shown_not_before : (x : Bor (List ℕ)) (xs : List (Bor (List ℕ))) → ((k : ℕ) → k < length xs → shown_before (get_or xs k x) x ≡ false) → NotBefore x.now (map (λ n. n.now) xs)
+shown_not_before : (x : Bor (List ℕ)) (xs : List (Bor (List ℕ)))
+    → ((k : ℕ) → k < length xs → shown_before (get_or xs k x) x ≡ false) → NotBefore x.now (map (λ n. n.now) xs)
 shown_not_before x [] h = tt
 shown_not_before x (y ∷ ys) h = (h 0 (omega arith), shown_not_before x ys (λ k below. h (suc k) (omega arith)))
 
-shown_rise : (xs : List (Bor (List ℕ))) → ((i j : ℕ) (d : Bor (List ℕ)) → i ≤ j → j < length xs → shown_before (get_or xs j d) (get_or xs i d) ≡ false) → AreRising (map (λ n. n.now) xs)
+shown_rise : (xs : List (Bor (List ℕ)))
+    → ((i j : ℕ) (d : Bor (List ℕ)) → i ≤ j → j < length xs → shown_before (get_or xs j d) (get_or xs i d) ≡ false)
+    → AreRising (map (λ n. n.now) xs)
 shown_rise [] h = tt
-shown_rise (x ∷ xs) h = (shown_not_before x xs (λ k below. h 0 (suc k) x (omega arith) (omega arith)), shown_rise xs (λ i j d up below. h (suc i) (suc j) d (omega arith) (omega arith)))
+shown_rise (x ∷ xs) h = (
+  shown_not_before x xs (λ k below. h 0 (suc k) x (omega arith) (omega arith)),
+  shown_rise xs (λ i j d up below. h (suc i) (suc j) d (omega arith) (omega arith)),
+)
 
 -- what a sort leaves of references to names
-pub sorted_names : (xs ys : List (Bor (List ℕ))) → IsPermutation xs ys → IsSortedBy shown_before ys → map (λ n. n.now) ys ≡ names_in_order (map (λ n. n.now) xs)
+pub sorted_names : (xs ys : List (Bor (List ℕ))) → IsPermutation xs ys → IsSortedBy shown_before ys
+    → map (λ n. n.now) ys ≡ names_in_order (map (λ n. n.now) xs)
 sorted_names xs ys moved sorted =
     let names : List (List ℕ) = map (λ n. n.now) xs in
-    same_names (map (λ n. n.now) ys) (names_in_order names) (shown_rise ys (sorted_far shown_before (before_orders (λ (n : Bor (List ℕ)). n.now)) ys sorted)) (in_order_rise names)
-    (λ f. sum_by-IsPermutation f names (map (λ n. n.now) ys) (IsPermutation-map (λ (n : Bor (List ℕ)). n.now) xs ys moved) ∙ sym (sum_in_order f names))
+    same_names (map (λ n. n.now) ys) (names_in_order names)
+    (shown_rise ys (sorted_far shown_before (before_orders (λ (n : Bor (List ℕ)). n.now)) ys sorted))
+    (in_order_rise names)
+    (λ f. sum_by-IsPermutation f names (map (λ n. n.now) ys)
+    (IsPermutation-map (λ (n : Bor (List ℕ)). n.now) xs ys moved) ∙ sym (sum_in_order f names))
 
 -- the name of the stream at a place goes to the end of the names so far
-pub names_step : (vs : List StreamValue) (i : ℕ) (x : StreamValue) (name : Bor (List ℕ)) (so_far more : List (Bor (List ℕ))) → slice_get vs i ≡ Some x → name.now ≡ x.name → more ≡ so_far ++ name ∷ []
+pub names_step : (vs : List StreamValue) (i : ℕ) (x : StreamValue) (name : Bor (List ℕ))
+    (so_far more : List (Bor (List ℕ))) → slice_get vs i ≡ Some x → name.now ≡ x.name → more ≡ so_far ++ name ∷ []
     → map (λ n. n.now) more ++ names_of (drop (i + 1) vs) ≡ map (λ n. n.now) so_far ++ names_of (drop i vs)
 names_step vs i x name so_far more here named pushed =
     let left : List (List ℕ) = names_of (drop (i + 1) vs) in
@@ -155,5 +184,8 @@ names_step vs i x name so_far more here named pushed =
     ∙ ap (λ n. map (λ n. n.now) so_far ++ n ∷ left) named
     ∙ ap (λ us. map (λ n. n.now) so_far ++ names_of us) (sym (drop_get vs i x here))
 
-pub names_done : (vs : List StreamValue) (i : ℕ) (names : List (Bor (List ℕ))) → length vs ≤ i → map (λ n. n.now) names ++ names_of (drop i vs) ≡ names_of vs → map (λ n. n.now) names ≡ names_of vs
-names_done vs i names past all = sym (append-nil (map (λ n. n.now) names)) ∙ ap (λ us. map (λ n. n.now) names ++ names_of us) (sym (drop_all i vs past)) ∙ all
+pub names_done : (vs : List StreamValue) (i : ℕ) (names : List (Bor (List ℕ))) → length vs ≤ i
+    → map (λ n. n.now) names ++ names_of (drop i vs) ≡ names_of vs → map (λ n. n.now) names ≡ names_of vs
+names_done vs i names past all =
+    sym (append-nil (map (λ n. n.now) names))
+    ∙ ap (λ us. map (λ n. n.now) names ++ names_of us) (sym (drop_all i vs past)) ∙ all

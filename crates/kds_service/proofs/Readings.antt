@@ -1,5 +1,6 @@
 -- What the streams of a service say of the journal that they show.
-use Rattle.std.proofs.Common.{◌≡◌, ◌≢◌, ℕ, zero, suc, ◌+◌, ◌<◌, ◌≤◌, Bool, true, false, ◌==◌, cond, List, [], ◌∷◌, length, map, slice_get, Option, Some}
+use Rattle.std.proofs.Common.{◌≡◌, ◌≢◌, ℕ, zero, suc, ◌+◌, ◌<◌, ◌≤◌, Bool, true, false, ◌==◌, cond, List, [], ◌∷◌}
+use Rattle.std.proofs.Common.{length, map, slice_get, Option, Some}
 use Rattle.std.proofs.Common.{None, refl, sym, ap, subst, ◌∙◌, arith}
 use Rattle.std.specs.Prelude.{if◌then◌else◌, is_some, nat_le, not}
 use Rattle.std.specs.Cmp.Lexicographic.{bytes_decides, nat_list_eq_equiv}
@@ -26,23 +27,29 @@ not_chosen false x y h = refl
 -- ---- the live streams
 
 -- no live stream has a number above that of the last one that was made
-pub up_to : (n : ℕ) (vs : List StreamValue) (log : Journal) → AreShown log vs → ((s : ℕ) → n < s → IsFresh log s) → AreUpTo n vs
+pub up_to : (n : ℕ) (vs : List StreamValue) (log : Journal) → AreShown log vs → ((s : ℕ) → n < s → IsFresh log s)
+    → AreUpTo n vs
 up_to n [] log shown unmade = tt
 up_to n (v ∷ vs) log shown unmade =
     let low =
-    either_way (nat_le v.no n) (λ e. le_so v.no n e) (λ e. absurd (apart (is_live log v.no) shown.0.stored.live (unmade v.no (above_so v.no n e)).gone)) in
+    either_way (nat_le v.no n) (λ e. le_so v.no n e)
+    (λ e. absurd (apart (is_live log v.no) shown.0.stored.live (unmade v.no (above_so v.no n e)).gone)) in
     (low, up_to n vs log shown.1 unmade)
 
-none_live : (log : Journal) (low count : ℕ) → ((s : ℕ) → low < s → is_live log s ≡ false) → filter (is_live log) (numbers_from (low + 1) count) ≡ []
+none_live : (log : Journal) (low count : ℕ) → ((s : ℕ) → low < s → is_live log s ≡ false)
+    → filter (is_live log) (numbers_from (low + 1) count) ≡ []
 none_live log low zero dead = refl
 none_live log low (suc count) dead =
-    ap (λ b. cond b ((low + 1) ∷ filter (is_live log) (numbers_from (low + 1 + 1) count)) (filter (is_live log) (numbers_from (low + 1 + 1) count)))
+    ap (λ b. cond b ((low + 1) ∷ filter (is_live log) (numbers_from (low + 1 + 1) count))
+    (filter (is_live log) (numbers_from (low + 1 + 1) count)))
     (dead (low + 1) (omega arith))
     ∙ none_live log (low + 1) count (λ s above. dead s (omega arith))
 
 -- of the numbers above the lowest those of these streams are live, and no others
-live_above : (log : Journal) (low count : ℕ) (vs : List StreamValue) → IsRising low (numbers_of vs) → AreUpTo (low + count) vs → AreShown log vs
-    → ((s : ℕ) → low < s → is_among (numbers_of vs) s ≡ false → is_live log s ≡ false) → filter (is_live log) (numbers_from (low + 1) count) ≡ numbers_of vs
+live_above : (log : Journal) (low count : ℕ) (vs : List StreamValue) → IsRising low (numbers_of vs)
+    → AreUpTo (low + count) vs → AreShown log vs
+    → ((s : ℕ) → low < s → is_among (numbers_of vs) s ≡ false → is_live log s ≡ false)
+    → filter (is_live log) (numbers_from (low + 1) count) ≡ numbers_of vs
 live_above log low count [] rising below shown others = none_live log low count (λ s above. others s above refl)
 live_above log low zero (v ∷ vs) rising below shown others = absurd (omega (arith, rising.0, below.0))
 live_above log low (suc count) (v ∷ vs) rising below shown others =
@@ -52,16 +59,22 @@ live_above log low (suc count) (v ∷ vs) rising below shown others =
     let same = eqb-true v.no (low + 1) e in
     let live : is_live log (low + 1) ≡ true = ap (is_live log) (sym same) ∙ shown.0.stored.live in
     let after =
-    live_above log (low + 1) count vs (subst (λ n. IsRising n (numbers_of vs)) same rising.1) (subst (λ n. AreUpTo n vs) (end low count) below.1) shown.1
+    live_above log (low + 1) count vs (subst (λ n. IsRising n (numbers_of vs)) same rising.1)
+    (subst (λ n. AreUpTo n vs) (end low count) below.1) shown.1
     (λ s above out. others s (omega arith) (or_from (v.no == s) (is_among (numbers_of vs) s)
     (is_other v.no s (λ is. absurd (omega (arith, same, above, is)))) out)) in
-    ap (λ b. cond b ((low + 1) ∷ rest) rest) live ∙ ap (λ ns. (low + 1) ∷ ns) after ∙ ap (λ n. n ∷ numbers_of vs) (sym same))
+    ap (λ b. cond b ((low + 1) ∷ rest) rest) live ∙ ap (λ ns. (low + 1) ∷ ns) after
+    ∙ ap (λ n. n ∷ numbers_of vs) (sym same))
     (λ e.
     let past = later v.no low e rising.0 in
     let dead : is_live log (low + 1) ≡ false =
-    others (low + 1) (omega arith) (not_below (low + 1) (low + 1) (numbers_of (v ∷ vs)) (omega arith) (past, rising.1)) in
+    others (low + 1) (omega arith) (not_below (low + 1) (low + 1) (numbers_of (v ∷ vs)) (omega arith) (
+      past,
+      rising.1,
+    )) in
     let after =
-    live_above log (low + 1) count (v ∷ vs) (past, rising.1) (subst (λ n. AreUpTo n (v ∷ vs)) (end low count) below) shown
+    live_above log (low + 1) count (v ∷ vs) (past, rising.1) (subst (λ n. AreUpTo n (v ∷ vs)) (end low count) below)
+    shown
     (λ s above out. others s (omega arith) out) in
     ap (λ b. cond b ((low + 1) ∷ rest) rest) dead ∙ after)
   where
@@ -79,7 +92,8 @@ pub live_are : (w : ServiceValue) (log : Journal) → ShowsAll w log → live_st
 live_are w log all =
     ap (λ n. filter (is_live log) (numbers_from 1 n)) all.made
     ∙ live_above log 0 w.made w.streams all.rising
-    (subst (λ n. AreUpTo n w.streams) (from_zero w.made) (up_to w.made w.streams log all.shown all.unmade)) all.shown (λ s above out. all.others s out)
+    (subst (λ n. AreUpTo n w.streams) (from_zero w.made) (up_to w.made w.streams log all.shown all.unmade)) all.shown
+    (λ s above out. all.others s out)
 
 pub live_count : (w : ServiceValue) (log : Journal) → ShowsAll w log → length (live_streams log) ≡ length w.streams
 live_count w log all = ap length (live_are w log all) ∙ length-map w.streams (λ v. v.no)
@@ -88,7 +102,8 @@ live_count w log all = ap length (live_are w log all) ∙ length-map w.streams (
 
 opens : (log : Journal) (vs : List StreamValue) → AreShown log vs → open_in log (numbers_of vs) ≡ open_total vs
 opens log [] shown = refl
-opens log (v ∷ vs) shown = omega (arith, ap (λ xs. length (filter is_open xs)) shown.0.stored.shards_are, opens log vs shown.1)
+opens log (v ∷ vs) shown =
+    omega (arith, ap (λ xs. length (filter is_open xs)) shown.0.stored.shards_are, opens log vs shown.1)
 
 pub open_are : (w : ServiceValue) (log : Journal) → ShowsAll w log → open_count log ≡ open_total w.streams
 open_are w log all = ap (open_in log) (live_are w log all) ∙ opens log w.streams all.shown
@@ -99,7 +114,8 @@ open_are w log all = ap (open_in log) (live_are w log all) ∙ opens log w.strea
 pub hit : {X : Type 0} (p : X → Bool) (n : ℕ) (x : X) (xs : List X) → p x ≡ true → position_from p n (x ∷ xs) ≡ Some n
 hit p n x xs e = ap (λ b. cond b (Some n) (position_from p (n + 1) xs)) e
 
-pub missed : {X : Type 0} (p : X → Bool) (n : ℕ) (x : X) (xs : List X) → p x ≡ false → position_from p n (x ∷ xs) ≡ position_from p (n + 1) xs
+pub missed : {X : Type 0} (p : X → Bool) (n : ℕ) (x : X) (xs : List X) → p x ≡ false
+    → position_from p n (x ∷ xs) ≡ position_from p (n + 1) xs
 missed p n x xs e = ap (λ b. cond b (Some n) (position_from p (n + 1) xs)) e
 
 -- a search from n on answers n or more
@@ -110,75 +126,98 @@ from_on p n j (x ∷ xs) is =
     (λ e. let rest = from_on p (n + 1) j xs (sym (missed p n x xs e) ∙ is) in omega (arith, rest))
 
 -- the first place is found exactly where the first passes
-pub first_passes : {X : Type 0} (p : X → Bool) (n : ℕ) (x : X) (xs : List X) → position_from p n (x ∷ xs) ≡ Some (n + 0) → p x ≡ true
-first_passes p n x xs is = either_way (p x) (λ e. e) (λ e. absurd (short n (from_on p (n + 1) (n + 0) xs (sym (missed p n x xs e) ∙ is))))
+pub first_passes : {X : Type 0} (p : X → Bool) (n : ℕ) (x : X) (xs : List X) → position_from p n (x ∷ xs) ≡ Some (n + 0)
+    → p x ≡ true
+first_passes p n x xs is =
+    either_way (p x) (λ e. e) (λ e. absurd (short n (from_on p (n + 1) (n + 0) xs (sym (missed p n x xs e) ∙ is))))
   where
     short : (n : ℕ) → n + 1 ≤ n + 0 → ⊥
     short n h = absurd (omega (arith, h))
 
-pub later_fails : {X : Type 0} (p : X → Bool) (n i : ℕ) (x : X) (xs : List X) → position_from p n (x ∷ xs) ≡ Some (n + suc i)
+pub later_fails : {X : Type 0} (p : X → Bool) (n i : ℕ) (x : X) (xs : List X)
+    → position_from p n (x ∷ xs) ≡ Some (n + suc i)
     → (p x ≡ false) × (position_from p (n + 1) xs ≡ Some (n + 1 + i))
 later_fails p n i x xs is =
     let one : n + suc i ≡ n + 1 + i = omega arith in
-    either_way (p x) (λ e. absurd (past n i (same_some n (n + suc i) (sym (hit p n x xs e) ∙ is)))) (λ e. (e, sym (missed p n x xs e) ∙ is ∙ ap Some one))
+    either_way (p x) (λ e. absurd (past n i (same_some n (n + suc i) (sym (hit p n x xs e) ∙ is))))
+    (λ e. (e, sym (missed p n x xs e) ∙ is ∙ ap Some one))
   where
     past : (n i : ℕ) → n ≡ n + suc i → ⊥
     past n i h = absurd (omega (arith, h))
 
 -- what is found passes
-pub found_passes : {X Y : Type 0} (f : X → Y) (p : Y → Bool) (n i : ℕ) (xs : List X) (x : X) → position_from p n (map f xs) ≡ Some (n + i)
+pub found_passes : {X Y : Type 0} (f : X → Y) (p : Y → Bool) (n i : ℕ) (xs : List X) (x : X)
+    → position_from p n (map f xs) ≡ Some (n + i)
     → slice_get xs i ≡ Some x → p (f x) ≡ true
 found_passes f p n i [] x is here = absurd (none-some x here)
-found_passes f p n zero (y ∷ ys) x is here = ap (λ z. p (f z)) (sym (same_some y x here)) ∙ first_passes p n (f y) (map f ys) is
-found_passes f p n (suc i) (y ∷ ys) x is here = found_passes f p (n + 1) i ys x (later_fails p n i (f y) (map f ys) is).1 here
+found_passes f p n zero (y ∷ ys) x is here =
+    ap (λ z. p (f z)) (sym (same_some y x here)) ∙ first_passes p n (f y) (map f ys) is
+found_passes f p n (suc i) (y ∷ ys) x is here =
+    found_passes f p (n + 1) i ys x (later_fails p n i (f y) (map f ys) is).1 here
 
 pub none_passes : {X : Type 0} (p : X → Bool) (n : ℕ) (x : X) (xs : List X) → position_from p n (x ∷ xs) ≡ None
     → (p x ≡ false) × (position_from p (n + 1) xs ≡ None)
-none_passes p n x xs none = either_way (p x) (λ e. absurd (none-some n (sym none ∙ hit p n x xs e))) (λ e. (e, sym (missed p n x xs e) ∙ none))
+none_passes p n x xs none =
+    either_way (p x) (λ e. absurd (none-some n (sym none ∙ hit p n x xs e))) (λ e. (e, sym (missed p n x xs e) ∙ none))
 
-same_names : (log : Journal) (v : StreamValue) (name : List ℕ) → Shows v log → same_name (name_of log v.no) name ≡ same_name name v.name
+same_names : (log : Journal) (v : StreamValue) (name : List ℕ) → Shows v log
+    → same_name (name_of log v.no) name ≡ same_name name v.name
 same_names log v name shown = ap (λ n. same_name n name) shown.stored.named ∙ nat_list_eq_equiv.symm v.name name
 
 module _ (log : Journal) (name : List ℕ) where
   here_or_rest : (v : StreamValue) (vs : List StreamValue) (b : Bool) → Shows v log → same_name name v.name ≡ b
-      → find (λ s. same_name (name_of log s) name) (numbers_of (v ∷ vs)) ≡ cond b (Some v.no) (find (λ s. same_name (name_of log s) name) (numbers_of vs))
-  here_or_rest v vs b shown e = ap (λ b. cond b (Some v.no) (find (λ s. same_name (name_of log s) name) (numbers_of vs))) (same_names log v name shown ∙ e)
+      → find (λ s. same_name (name_of log s) name) (numbers_of (v ∷ vs))
+      ≡ cond b (Some v.no) (find (λ s. same_name (name_of log s) name) (numbers_of vs))
+  here_or_rest v vs b shown e =
+      ap (λ b. cond b (Some v.no) (find (λ s. same_name (name_of log s) name) (numbers_of vs)))
+      (same_names log v name shown ∙ e)
 
-  named_from : (n i : ℕ) (vs : List StreamValue) (x : StreamValue) → AreShown log vs → position_from (same_name name) n (names_of vs) ≡ Some (n + i)
+  named_from : (n i : ℕ) (vs : List StreamValue) (x : StreamValue) → AreShown log vs
+      → position_from (same_name name) n (names_of vs) ≡ Some (n + i)
       → slice_get vs i ≡ Some x → find (λ s. same_name (name_of log s) name) (numbers_of vs) ≡ Some x.no
   named_from n i [] x shown is here = absurd (none-some x here)
   named_from n zero (v ∷ vs) x shown is here =
-      here_or_rest v vs true shown.0 (first_passes (same_name name) n v.name (names_of vs) is) ∙ ap (λ (u : StreamValue). Some u.no) (same_some v x here)
+      here_or_rest v vs true shown.0 (first_passes (same_name name) n v.name (names_of vs) is)
+      ∙ ap (λ (u : StreamValue). Some u.no) (same_some v x here)
   named_from n (suc i) (v ∷ vs) x shown is here =
       let rest = later_fails (same_name name) n i v.name (names_of vs) is in
       here_or_rest v vs false shown.0 rest.0 ∙ named_from (n + 1) i vs x shown.1 rest.1 here
 
-  none_named_from : (n : ℕ) (vs : List StreamValue) → AreShown log vs → position_from (same_name name) n (names_of vs) ≡ None
+  none_named_from : (n : ℕ) (vs : List StreamValue) → AreShown log vs → position_from (same_name name) n (names_of vs)
+      ≡ None
       → find (λ s. same_name (name_of log s) name) (numbers_of vs) ≡ None
   none_named_from n [] shown none = refl
   none_named_from n (v ∷ vs) shown none =
       let rest = none_passes (same_name name) n v.name (names_of vs) none in
       here_or_rest v vs false shown.0 rest.0 ∙ none_named_from (n + 1) vs shown.1 rest.1
 
-pub named_at : (w : ServiceValue) (log : Journal) (name : List ℕ) (i : ℕ) (x : StreamValue) → ShowsAll w log → place_of w.streams name ≡ Some i
+pub named_at : (w : ServiceValue) (log : Journal) (name : List ℕ) (i : ℕ) (x : StreamValue) → ShowsAll w log
+    → place_of w.streams name ≡ Some i
     → slice_get w.streams i ≡ Some x → stream_named log name ≡ Some x.no
 named_at w log name i x all is here =
-    ap (find (λ s. same_name (name_of log s) name)) (live_are w log all) ∙ named_from log name 0 i w.streams x all.shown (is ∙ ap Some (from_zero i)) here
+    ap (find (λ s. same_name (name_of log s) name)) (live_are w log all)
+    ∙ named_from log name 0 i w.streams x all.shown (is ∙ ap Some (from_zero i)) here
 
-pub none_named : (w : ServiceValue) (log : Journal) (name : List ℕ) → ShowsAll w log → place_of w.streams name ≡ None → stream_named log name ≡ None
-none_named w log name all none = ap (find (λ s. same_name (name_of log s) name)) (live_are w log all) ∙ none_named_from log name 0 w.streams all.shown none
+pub none_named : (w : ServiceValue) (log : Journal) (name : List ℕ) → ShowsAll w log → place_of w.streams name ≡ None
+    → stream_named log name ≡ None
+none_named w log name all none = ap (find (λ s. same_name (name_of log s) name)) (live_are w log all)
+    ∙ none_named_from log name 0 w.streams all.shown none
 
 -- a place that was found is that of a stream
-at_place : (n i : ℕ) (vs : List StreamValue) (name : List ℕ) → position_from (same_name name) n (names_of vs) ≡ Some (n + i)
+at_place : (n i : ℕ) (vs : List StreamValue) (name : List ℕ) → position_from (same_name name) n (names_of vs)
+    ≡ Some (n + i)
     → (x : StreamValue) × (slice_get vs i ≡ Some x)
 at_place n i [] name is = absurd (none-some (n + i) is)
 at_place n zero (v ∷ vs) name is = (v, refl)
-at_place n (suc i) (v ∷ vs) name is = at_place (n + 1) i vs name (later_fails (same_name name) n i v.name (names_of vs) is).1
+at_place n (suc i) (v ∷ vs) name is =
+    at_place (n + 1) i vs name (later_fails (same_name name) n i v.name (names_of vs) is).1
 
-pub some_named : (w : ServiceValue) (log : Journal) (name : List ℕ) → ShowsAll w log → is_some (stream_named log name) ≡ is_some (place_of w.streams name)
+pub some_named : (w : ServiceValue) (log : Journal) (name : List ℕ) → ShowsAll w log
+    → is_some (stream_named log name) ≡ is_some (place_of w.streams name)
 some_named w log name all = by (place_of w.streams name) refl
   where
-    by : (o : Option ℕ) → place_of w.streams name ≡ o → is_some (stream_named log name) ≡ is_some (place_of w.streams name)
+    by : (o : Option ℕ) → place_of w.streams name ≡ o
+        → is_some (stream_named log name) ≡ is_some (place_of w.streams name)
     by None e = ap is_some (none_named w log name all e) ∙ ap is_some (sym e)
     by (Some i) e =
         let x = at_place 0 i w.streams name (e ∙ ap Some (from_zero i)) in
@@ -186,7 +225,8 @@ some_named w log name all = by (place_of w.streams name) refl
 
 -- ---- the stream of a number
 
-pub number_at : (n i s : ℕ) (vs : List StreamValue) (x : StreamValue) → position_from (λ m. m == s) n (numbers_of vs) ≡ Some (n + i) → slice_get vs i ≡ Some x
+pub number_at : (n i s : ℕ) (vs : List StreamValue) (x : StreamValue)
+    → position_from (λ m. m == s) n (numbers_of vs) ≡ Some (n + i) → slice_get vs i ≡ Some x
     → s ≡ x.no
 number_at n i s vs x is here = sym (eqb-true x.no s (found_passes (λ v. v.no) (λ m. m == s) n i vs x is here))
 
@@ -198,31 +238,38 @@ not_among n s (m ∷ ns) none =
 
 -- ---- how many shards the other streams have open
 
-beside : (log : Journal) (s : ℕ) (vs : List StreamValue) → AreShown log vs → open_in log (filter (λ t. not (t == s)) (numbers_of vs)) ≡ open_beside vs s
+beside : (log : Journal) (s : ℕ) (vs : List StreamValue) → AreShown log vs
+    → open_in log (filter (λ t. not (t == s)) (numbers_of vs)) ≡ open_beside vs s
 beside log s [] shown = refl
 beside log s (v ∷ vs) shown = by (v.no == s) (beside log s vs shown.1)
   where
     by : (b : Bool) → open_in log (filter (λ t. not (t == s)) (numbers_of vs)) ≡ open_beside vs s
-        → open_in log (cond (not b) (v.no ∷ filter (λ t. not (t == s)) (numbers_of vs)) (filter (λ t. not (t == s)) (numbers_of vs)))
+        → open_in log (cond (not b) (v.no ∷ filter (λ t. not (t == s)) (numbers_of vs))
+        (filter (λ t. not (t == s)) (numbers_of vs)))
         ≡ (if b then 0 else length (filter is_open v.tree)) + open_beside vs s
     by true rest = omega (arith, rest)
     by false rest = omega (arith, ap (λ xs. length (filter is_open xs)) shown.0.stored.shards_are, rest)
 
-pub beside_is : (w : ServiceValue) (log : Journal) (s : ℕ) → ShowsAll w log → open_elsewhere log s ≡ open_beside w.streams s
-beside_is w log s all = ap (λ ns. open_in log (filter (λ t. not (t == s)) ns)) (live_are w log all) ∙ beside log s w.streams all.shown
+pub beside_is : (w : ServiceValue) (log : Journal) (s : ℕ) → ShowsAll w log
+    → open_elsewhere log s ≡ open_beside w.streams s
+beside_is w log s all = ap (λ ns. open_in log (filter (λ t. not (t == s)) ns)) (live_are w log all)
+    ∙ beside log s w.streams all.shown
 
 -- those and its own are all
 all_beside : (s : ℕ) (vs : List StreamValue) → IsRising s (numbers_of vs) → open_beside vs s ≡ open_total vs
 all_beside s [] rising = refl
 all_beside s (v ∷ vs) rising =
-    let own : open_unless v s ≡ length (filter is_open v.tree) = not_chosen (v.no == s) 0 _ (is_other v.no s (λ e. absurd (omega (arith, rising.0, e)))) in
+    let own : open_unless v s ≡ length (filter is_open v.tree) =
+    not_chosen (v.no == s) 0 _ (is_other v.no s (λ e. absurd (omega (arith, rising.0, e)))) in
     omega (arith, own, all_beside s vs (rising_from s v.no (numbers_of vs) (omega (arith, rising.0)) rising.1))
 
-pub own_and_beside : (i low : ℕ) (vs : List StreamValue) (x : StreamValue) → IsRising low (numbers_of vs) → slice_get vs i ≡ Some x
+pub own_and_beside : (i low : ℕ) (vs : List StreamValue) (x : StreamValue) → IsRising low (numbers_of vs)
+    → slice_get vs i ≡ Some x
     → open_total vs ≡ open_beside vs x.no + length (filter is_open x.tree)
 own_and_beside i low [] x rising here = absurd (none-some x here)
 own_and_beside zero low (v ∷ vs) x rising here =
-    subst (λ (u : StreamValue). open_total (v ∷ vs) ≡ open_beside (v ∷ vs) u.no + length (filter is_open u.tree)) (same_some v x here) own
+    subst (λ (u : StreamValue). open_total (v ∷ vs) ≡ open_beside (v ∷ vs) u.no + length (filter is_open u.tree))
+    (same_some v x here) own
   where
     own : open_total (v ∷ vs) ≡ open_beside (v ∷ vs) v.no + length (filter is_open v.tree)
     own =
@@ -236,5 +283,8 @@ own_and_beside (suc i) low (v ∷ vs) x rising here =
 
 -- ---- the stream of a name has just this name
 
-pub has_name : (name : List ℕ) (i : ℕ) (vs : List StreamValue) (x : StreamValue) → place_of vs name ≡ Some i → slice_get vs i ≡ Some x → name ≡ x.name
-has_name name i vs x is here = (bytes_decides name x.name).0 (found_passes (λ v. v.name) (same_name name) 0 i vs x (is ∙ ap Some (from_zero i)) here)
+pub has_name : (name : List ℕ) (i : ℕ) (vs : List StreamValue) (x : StreamValue) → place_of vs name ≡ Some i
+    → slice_get vs i ≡ Some x → name ≡ x.name
+has_name name i vs x is here =
+    (bytes_decides name x.name).0
+    (found_passes (λ v. v.name) (same_name name) 0 i vs x (is ∙ ap Some (from_zero i)) here)

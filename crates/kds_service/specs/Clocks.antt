@@ -6,7 +6,12 @@ use Rattle.kds_service.specs.Shown.{AreAt, ServiceValue}
 
 -- the stream at a later clock, which remembers the earlier one
 abbrev pub advanced : ℕ → StreamValue → StreamValue
-advanced c v = record v { clock = c; cut = later_cut v.cut (cut_at c v.hours); clock_before = v.clock; cut_before = v.cut }
+advanced c v = record v {
+  clock = c;
+  cut = later_cut v.cut (cut_at c v.hours);
+  clock_before = v.clock;
+  cut_before = v.cut;
+}
 
 -- the stream at the clock that it remembers
 abbrev pub retreated : StreamValue → StreamValue
@@ -38,4 +43,8 @@ turn_after count n = next_of count (in_turn count n)
 abbrev pub settled_in_turn : ServiceValue → ServiceValue
 settled_in_turn w =
     let count = length w.streams in
-    record w { clock_before = w.clock; streams = settled_in (in_turn count w.turn) w.streams; turn = turn_after count w.turn }
+    record w {
+      clock_before = w.clock;
+      streams = settled_in (in_turn count w.turn) w.streams;
+      turn = turn_after count w.turn;
+    }

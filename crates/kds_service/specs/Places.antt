@@ -1,5 +1,6 @@
 -- Where a stream stands among those of the service, and how much they are together.
-use Rattle.std.specs.Prelude.{ℕ, ◌≡◌, ◌+◌, ◌==◌, Bool, ◌||◌, nat_le, nat_lt, if◌then◌else◌, List, [], ◌∷◌, length, Option, Some, None}
+use Rattle.std.specs.Prelude.{ℕ, ◌≡◌, ◌+◌, ◌==◌, Bool, ◌||◌, nat_le, nat_lt, if◌then◌else◌, List, [], ◌∷◌, length}
+use Rattle.std.specs.Prelude.{Option, Some, None}
 use Rattle.std.specs.List.{filter, position_from}
 use Rattle.std.specs.Map.{keys_of, values_of}
 use Rattle.kds_defs.specs.declared.command.Command.{Command}

@@ -1,5 +1,6 @@
 -- Which journals the streams of a service show.
-use Rattle.std.specs.Prelude.{ℕ, ◌≡◌, ◌+◌, ◌==◌, ◌||◌, ◌<◌, ◌++◌, Bool, false, List, [], ◌∷◌, map, remove, slice_get, slice_set, Result, Some}
+use Rattle.std.specs.Prelude.{ℕ, ◌≡◌, ◌+◌, ◌==◌, ◌||◌, ◌<◌, ◌++◌, Bool, false, List, [], ◌∷◌, map, remove, slice_get}
+use Rattle.std.specs.Prelude.{slice_set, Result, Some}
 use Rattle.std.specs.List.{AllByRecursion}
 use Rattle.kds_defs.specs.declared.command.Command.{Command}
 use Rattle.kds_defs.specs.declared.reply.Refusal.{Refusal}
@@ -84,12 +85,14 @@ module _ (c b n : ℕ) (vs : List StreamValue) (log : Journal) where
 
   -- with the line of the end of the stream at this place, once that stream is away
   abbrev pub StaysShownWithout : ℕ → StreamValue → ℕ → Type 0
-  StaysShownWithout i x by = slice_get vs i ≡ Some x → ShowsAll (service c b n (remove vs i)) (plain_line c by (entry.Gone x.no) ∷ log)
+  StaysShownWithout i x by = slice_get vs i ≡ Some x
+      → ShowsAll (service c b n (remove vs i)) (plain_line c by (entry.Gone x.no) ∷ log)
 
 -- the command, at the service's clock, is answered so and leads from one to the other
 abbrev pub Leads : ServiceValue → ServiceValue → Command → Result Reply Refusal → Type 0
 Leads old new what gives = (log : Journal) (by : ℕ) → ShowsAll old log
-    → (gives ≡ answer_of (decide log old.clock by what)) × ShowsAll new (with_lines (lines_of (decide log old.clock by what)) log)
+    → (gives ≡ answer_of (decide log old.clock by what))
+    × ShowsAll new (with_lines (lines_of (decide log old.clock by what)) log)
 
 -- the same of the streams alone, of a command that makes none
 abbrev pub LeadsTo : ℕ → List StreamValue → List StreamValue → Command → Result Reply Refusal → Type 0

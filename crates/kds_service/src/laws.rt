@@ -4,7 +4,8 @@ ghost use Rattle.std.specs.Prelude.{◌≡◌, ◌∷◌, [], ℕ, List, None};
 ghost use Rattle.kds_defs.specs.Journal.{Journal, Line};
 ghost use Rattle.kds_defs.specs.Subjects.{stream_of};
 ghost use Rattle.kds_stream.specs.Value.{StreamValue};
-ghost use Rattle.kds_service.specs.Shown.{ServiceValue, ShowsAll, StaysShown, StaysShownWith, StaysShownWithout, service};
+ghost use Rattle.kds_service.specs.Shown.{ServiceValue, ShowsAll, StaysShown, StaysShownWith, StaysShownWithout};
+ghost use Rattle.kds_service.specs.Shown.{service};
 
 use kds_stream::other_lines;
 
@@ -31,7 +32,8 @@ pub fn others()
 /// a further line is about a lease and has the service's clock as its time. The streams then also show the journal with
 /// the further line.
 pub fn lease_lines()
-    ensures { (w : ServiceValue) (log : Journal) (line : Line) → ShowsAll w log → line.clock ≡ w.clock → stream_of line.what ≡ None → ShowsAll w (line ∷ log) }
+    ensures { (w : ServiceValue) (log : Journal) (line : Line) → ShowsAll w log → line.clock ≡ w.clock
+        → stream_of line.what ≡ None → ShowsAll w (line ∷ log) }
 {
     other_lines();
 }

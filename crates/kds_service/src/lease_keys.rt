@@ -78,9 +78,11 @@ pub fn read(
     limit: u32,
 ) -> Result<(Items<Stored>, bool), Memory>
     requires { is_listed_in (values streams.now) key.now ≡ true }
-    ensures batch { InJournalsOf (values streams.now) (λ log c. IfOk result (λ r. r.0 ≡ map stored (batch log c key.now.stream key.now.shard position limit))) }
+    ensures batch { InJournalsOf (values streams.now)
+        (λ log c. IfOk result (λ r. r.0 ≡ map stored (batch log c key.now.stream key.now.shard position limit))) }
     ensures numbers { IfOk result (λ r. AllByRecursion (λ x. x.seq < 2 ^ 64 - 1) r.0) }
-    ensures end { InJournalsOf (values streams.now) (λ log c. IfOk result (λ r. r.1 ≡ read_ends log c key.now.stream key.now.shard position limit)) }
+    ensures end { InJournalsOf (values streams.now)
+        (λ log c. IfOk result (λ r. r.1 ≡ read_ends log c key.now.stream key.now.shard position limit)) }
 {
     match find(streams, key.stream) {
         Some(stream) => stream.read(alloc, key.shard, position, limit),

@@ -49,8 +49,10 @@ fn first_after(
     after: &Option<Name>,
     limit: u32,
 ) -> Result<(Items<Name>, bool), Memory>
-    ensures names { IfOk result (λ r. r.0 ≡ take limit (filter (is_after_name after.now) (map (λ n. n.now) names.now))) }
-    ensures more { IfOk result (λ r. r.1 ≡ are_more limit (filter (is_after_name after.now) (map (λ n. n.now) names.now))) }
+    ensures names { IfOk result
+        (λ r. r.0 ≡ take limit (filter (is_after_name after.now) (map (λ n. n.now) names.now))) }
+    ensures more { IfOk result
+        (λ r. r.1 ≡ are_more limit (filter (is_after_name after.now) (map (λ n. n.now) names.now))) }
 {
     let mut first = Items::new(alloc);
     for name in names {

@@ -30,7 +30,8 @@ pub fn serve(
     requires lawful { IsLawfulCommand what }
     requires own { is_service what ≡ true }
     ensures leads { (before : ℕ)
-        → IfOk result (Leads (service clock before made.old (values streams.old)) (service clock before made.new (values streams.new)) what) }
+        → IfOk result (Leads (service clock before made.old (values streams.old))
+        (service clock before made.new (values streams.new)) what) }
     ensures placed { ArePlaced clock streams.new.entries }
     ensures kept { OnErr result ((values streams.new ≡ values streams.old) × (made.new ≡ made.old)) }
 {

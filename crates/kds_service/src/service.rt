@@ -48,7 +48,13 @@ impl Model for Service {
 
     ghost Value = { ServiceValue };
 
-    ghost view = { λ s. record { clock = s.clock; clock_before = s.clock_before; made = s.made; streams = values s.streams; turn = s.turn } };
+    ghost view = { λ s. record {
+      clock = s.clock;
+      clock_before = s.clock_before;
+      made = s.made;
+      streams = values s.streams;
+      turn = s.turn;
+    } };
 
     ghost invariant = { λ s. ArePlaced s.clock s.streams.entries };
 }
@@ -72,7 +78,11 @@ impl Service {
     /// Raises the clock of the service and of every stream to `clock`. The newly trimmed records aren't removed yet.
     pub fn advance(&mut self, clock: Moment)
         requires { self.old.clock ≤ clock }
-        ensures value { self.new ≡ record self.old { clock = clock; clock_before = self.old.clock; streams = map (advanced clock) self.old.streams } }
+        ensures value { self.new ≡ record self.old {
+          clock = clock;
+          clock_before = self.old.clock;
+          streams = map (advanced clock) self.old.streams;
+        } }
         ensures shows { (log : Journal) → ShowsAll self.old log → ShowsAll self.new log }
         ensures back { CanGoBack self.new }
         ensures shows_back { (log : Journal) → ShowsAll self.old log → ShowsAll (gone_back self.new) log }
@@ -131,7 +141,8 @@ impl Service {
 
     /// Returns the shard with this key, or `None` if and only if its stream isn't live or the shard was never made.
     pub fn shard(&self, key: ShardRef) -> Option<&Shard>
-        ensures { (log : Journal) → ShowsAll self.now log → option_map (λ x. x.now) result ≡ option_map shown (live_shard log key) }
+        ensures { (log : Journal) → ShowsAll self.now log
+            → option_map (λ x. x.now) result ≡ option_map shown (live_shard log key) }
     {
         lease_keys::shard(&self.streams, &key)
     }
@@ -139,7 +150,8 @@ impl Service {
     /// Returns the keys of the listed (unexpired) shards of all streams, sorted by stream number, and within a stream
     /// by shard number.
     pub fn listed(&self) -> Result<Items<ShardRef>, Memory>
-        ensures { (log : Journal) → ShowsAll self.now log → IfOk result (λ keys. keys ≡ listed_in log self.now.clock (live_streams log)) }
+        ensures { (log : Journal) → ShowsAll self.now log
+            → IfOk result (λ keys. keys ≡ listed_in log self.now.clock (live_streams log)) }
     {
         lease_keys::listed(*self.streams.allocator(), &self.streams)
     }
@@ -169,7 +181,8 @@ impl Service {
         ensures batch { (log : Journal) → ShowsAll self.now log
             → IfOk result (λ r. r.0 ≡ map stored (batch log self.now.clock key.stream key.shard position limit)) }
         ensures numbers { IfOk result (λ r. AllByRecursion (λ x. x.seq < 2 ^ 64 - 1) r.0) }
-        ensures end { (log : Journal) → ShowsAll self.now log → IfOk result (λ r. r.1 ≡ read_ends log self.now.clock key.stream key.shard position limit) }
+        ensures end { (log : Journal) → ShowsAll self.now log
+            → IfOk result (λ r. r.1 ≡ read_ends log self.now.clock key.stream key.shard position limit) }
     {
         lease_keys::read(
             *self.streams.allocator(),

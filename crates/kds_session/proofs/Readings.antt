@@ -1,5 +1,6 @@
 -- Bytes fall into messages in one way at most, and more bytes change no message that was read.
-use Rattle.std.proofs.Common.{◌≡◌, ◌≢◌, ℕ, ◌+◌, ◌-◌, ◌<◌, ◌≤◌, Option, Some, None, List, [], ◌∷◌, ◌++◌, length, take, drop, sym, ap, ◌∙◌, subst, arith, refl, inl, inr, Bool, true, false}
+use Rattle.std.proofs.Common.{◌≡◌, ◌≢◌, ℕ, ◌+◌, ◌-◌, ◌<◌, ◌≤◌, Option, Some, None, List, [], ◌∷◌, ◌++◌, length, take}
+use Rattle.std.proofs.Common.{drop, sym, ap, ◌∙◌, subst, arith, refl, inl, inr, Bool, true, false}
 use Rattle.std.specs.Prelude.{MatchBool, ◌==◌, ◌||◌, nat_le}
 use Rattle.std.proofs.lemmas.Bool.Decides.{nat_tests}
 use Rattle.std.proofs.lemmas.List.{append_assoc, append-nil, length-append, take-append-le, drop-append-le, length-drop}
@@ -10,7 +11,8 @@ use Rattle.kds_head.specs.declared.found.Found.TheVariants.{Need, Refused, Whole
 use Rattle.kds_head.specs.declared.numbers.TheConstants.{HEAD_BYTES, BODY_BYTES}
 use Rattle.kds_head.specs.Find.{IsFound, IsWithinLimits}
 use Rattle.kds_session.specs.declared.limits.TheConstants.{REQUESTS}
-use Rattle.kds_session.specs.Messages.{Message, message_at, Begins, size, rest_of, Ending, boundary, inside, closed, refused, IsWhole, IsShort, IsUnfinished, Ends, Falls, closes}
+use Rattle.kds_session.specs.Messages.{Message, message_at, Begins, size, rest_of, Ending, boundary, inside, closed}
+use Rattle.kds_session.specs.Messages.{refused, IsWhole, IsShort, IsUnfinished, Ends, Falls, closes}
 use Rattle.kds_session.specs.declared.limits.TheConstants.{UNREAD_BYTES}
 use Rattle.kds_session.specs.Standing.{GoesOn, going, end_in}
 use Rattle.kds_session.specs.Steps.{IsKept}
@@ -59,7 +61,8 @@ unfinished_begins laws bytes m (inr short) b =
     absurd (omega (arith, s, short.1.short, b.0.whole))
 
 pub ends_begins : HeadLaws → (bytes : List ℕ) (e : Ending) (m : Message) → Ends bytes e → Begins bytes m → ⊥
-ends_begins laws bytes boundary m e b = let some = some_size laws bytes m b in absurd (omega (arith, some, b.0.whole, ap length e))
+ends_begins laws bytes boundary m e b = let some = some_size laws bytes m b in
+    absurd (omega (arith, some, b.0.whole, ap length e))
 ends_begins laws bytes inside m e b = unfinished_begins laws bytes m e.1 b
 ends_begins laws bytes (refused s) m e b = refused_whole s m.head (laws.one bytes _ _ e b.0.found)
 ends_begins laws bytes closed m e b = e
@@ -69,7 +72,8 @@ unfinished_refused laws bytes s (inl need) f = need_refused s (laws.one bytes _ 
 unfinished_refused laws bytes s (inr short) f = refused_whole s short.0 (laws.one bytes _ _ f short.1.found)
 
 empty_refused : HeadLaws → (bytes : List ℕ) (s : ℕ) → bytes ≡ [] → IsFound bytes (Refused s) → ⊥
-empty_refused laws bytes s e f = need_refused s (laws.one [] Need (Refused s) laws.none (subst (λ (z : List ℕ). IsFound z (Refused s)) e f))
+empty_refused laws bytes s e f =
+    need_refused s (laws.one [] Need (Refused s) laws.none (subst (λ (z : List ℕ). IsFound z (Refused s)) e f))
 
 one_ending : HeadLaws → (bytes : List ℕ) (e f : Ending) → Ends bytes e → Ends bytes f → e ≡ f
 one_ending laws bytes boundary boundary a b = refl
@@ -89,18 +93,25 @@ one_ending laws bytes closed f a b = absurd a
 cons_same : (m n : Message) (ms ns : List Message) → m ≡ n → ms ≡ ns → m ∷ ms ≡ n ∷ ns
 cons_same m n ms ns e f = cc
 
-pub one_way : HeadLaws → (before : ℕ) (bytes : List ℕ) (ms ns : List Message) (e f : Ending) → Falls before bytes ms e → Falls before bytes ns f → (ms ≡ ns) × (e ≡ f)
+pub one_way : HeadLaws → (before : ℕ) (bytes : List ℕ) (ms ns : List Message) (e f : Ending) → Falls before bytes ms e
+    → Falls before bytes ns f → (ms ≡ ns) × (e ≡ f)
 one_way laws before bytes [] [] e f a b = (refl, one_ending laws bytes e f a b)
 one_way laws before bytes [] (n ∷ ns) e f a b = absurd (ends_begins laws bytes e n a b.0)
 one_way laws before bytes (m ∷ ms) [] e f a b = absurd (ends_begins laws bytes f m b a.0)
 one_way laws before bytes (m ∷ ms) (n ∷ ns) e f a b =
     let same = same_message laws bytes m n a.0 b.0 in
-    let after : MatchBool (closes (before + 1) m.head) ((ns ≡ []) × (f ≡ closed)) (Falls (before + 1) (rest_of bytes m) ns f)
-    = subst (λ (k : Message). MatchBool (closes (before + 1) k.head) ((ns ≡ []) × (f ≡ closed)) (Falls (before + 1) (rest_of bytes k) ns f)) (sym same) b.1 in
-    let later = by_close (closes (before + 1) m.head) ms ns e f (Falls (before + 1) (rest_of bytes m) ms e) (Falls (before + 1) (rest_of bytes m) ns f) (one_way laws (before + 1) (rest_of bytes m) ms ns e f) a.1 after in
+    let after : MatchBool (closes (before + 1) m.head) ((ns ≡ [])
+    × (f ≡ closed)) (Falls (before + 1) (rest_of bytes m) ns f)
+    = subst (λ (k : Message).
+    MatchBool (closes (before + 1) k.head) ((ns ≡ []) × (f ≡ closed)) (Falls (before + 1) (rest_of bytes k) ns f))
+    (sym same) b.1 in
+    let later = by_close (closes (before + 1) m.head) ms ns e f (Falls (before + 1) (rest_of bytes m) ms e)
+    (Falls (before + 1) (rest_of bytes m) ns f) (one_way laws (before + 1) (rest_of bytes m) ms ns e f) a.1 after in
     (cons_same m n ms ns same later.0, later.1)
   where
-    by_close : (close : Bool) (ms ns : List Message) (e f : Ending) (P Q : Type 0) → (P → Q → (ms ≡ ns) × (e ≡ f)) → MatchBool close ((ms ≡ []) × (e ≡ closed)) P → MatchBool close ((ns ≡ []) × (f ≡ closed)) Q → (ms ≡ ns) × (e ≡ f)
+    by_close : (close : Bool) (ms ns : List Message) (e f : Ending) (P Q : Type 0) → (P → Q → (ms ≡ ns) × (e ≡ f))
+        → MatchBool close ((ms ≡ []) × (e ≡ closed)) P → MatchBool close ((ns ≡ []) × (f ≡ closed)) Q
+        → (ms ≡ ns) × (e ≡ f)
     by_close true ms ns e f P Q go a b = (a.0 ∙ sym b.0, a.1 ∙ sym b.1)
     by_close false ms ns e f P Q go a b = go a b
 
@@ -110,9 +121,11 @@ one_way laws before bytes (m ∷ ms) (n ∷ ns) e f a b =
 pub begins_at : (bytes : List ℕ) (head : Head) → IsWhole bytes head → Begins bytes (message_at bytes head)
 begins_at bytes head whole = (whole, refl)
 
-body_more : (bytes more : List ℕ) (head : Head) → size head ≤ length bytes → take head.body (drop head.length bytes) ≡ take head.body (drop head.length (bytes ++ more))
+body_more : (bytes more : List ℕ) (head : Head) → size head ≤ length bytes
+    → take head.body (drop head.length bytes) ≡ take head.body (drop head.length (bytes ++ more))
 body_more bytes more head whole =
-    let first : drop head.length (bytes ++ more) ≡ drop head.length bytes ++ more = drop-append-le head.length bytes more (omega (arith, whole)) in
+    let first : drop head.length (bytes ++ more) ≡ drop head.length bytes ++ more =
+    drop-append-le head.length bytes more (omega (arith, whole)) in
     let room : head.body ≤ length (drop head.length bytes) = omega (arith, whole, length-drop head.length bytes) in
     sym (ap (λ z. take head.body z) first ∙ take-append-le head.body (drop head.length bytes) more room)
 
@@ -122,7 +135,8 @@ begins_more laws bytes more m b = (
     found = laws.stays bytes more (Whole m.head) b.0.found (λ e. need_whole m.head (sym e));
     whole = omega (arith, b.0.whole, length-append bytes more);
   },
-  b.1 ∙ ap (λ (z : List ℕ). let x : Message = record { head = m.head; body = z } in x) (body_more bytes more m.head b.0.whole),
+  b.1 ∙ ap (λ (z : List ℕ). let x : Message = record { head = m.head; body = z } in
+      x) (body_more bytes more m.head b.0.whole),
 )
 
 rest_more : (bytes more : List ℕ) (m : Message) → Begins bytes m → rest_of (bytes ++ more) m ≡ rest_of bytes m ++ more
@@ -145,36 +159,46 @@ of_false false P Q e q = q
 -- ---- a connection that goes on
 
 -- more bytes are fed
-pub goes_fed : (fed : List ℕ) (done : List Message) (left : ℕ) (unread bytes : List ℕ) → GoesOn fed done left unread → GoesOn (fed ++ bytes) done left (unread ++ bytes)
+pub goes_fed : (fed : List ℕ) (done : List Message) (left : ℕ) (unread bytes : List ℕ) → GoesOn fed done left unread
+    → GoesOn (fed ++ bytes) done left (unread ++ bytes)
 goes_fed fed done left unread bytes g = record {
   count = g.count;
   some_left = g.some_left;
   onward = λ more ms e f.
       subst (λ (z : List ℕ). Falls 0 z (done ++ ms) e) (sym (append_assoc fed bytes more))
-      (g.onward (bytes ++ more) ms e (subst (λ (z : List ℕ). Falls (length done) z ms e) (append_assoc unread bytes more) f));
+      (g.onward (bytes ++ more) ms e
+      (subst (λ (z : List ℕ). Falls (length done) z ms e) (append_assoc unread bytes more) f));
   back = λ more all e f.
       let b = g.back (bytes ++ more) all e (subst (λ (z : List ℕ). Falls 0 z all e) (append_assoc fed bytes more) f) in
       (b.0, b.1, subst (λ (z : List ℕ). Falls (length done) z b.0 e) (sym (append_assoc unread bytes more)) b.2);
 }
 
-not_last : (n left : ℕ) (close : Bool) → n + left ≡ REQUESTS → 0 < left → (close || n + 1 == REQUESTS) ≡ false → 1 < left
+not_last : (n left : ℕ) (close : Bool) → n + left ≡ REQUESTS → 0 < left → (close || n + 1 == REQUESTS) ≡ false
+    → 1 < left
 not_last n left true e some h = absurd (cc)
 not_last n left false e some h = grind (arith, nat_tests)
 
 -- The unread bytes begin with a message that doesn't close the connection. So what they fall into begins with it.
-past : HeadLaws → (n : ℕ) (unread more : List ℕ) (m : Message) (ms : List Message) (e : Ending) → Begins unread m → closes (n + 1) m.head ≡ false
-    → Falls n (unread ++ more) ms e → (rest : List Message) × (ms ≡ m ∷ rest) × Falls (n + 1) (rest_of unread m ++ more) rest e
-past laws n unread more m [] e b close f = absurd (ends_begins laws (unread ++ more) e m f (begins_more laws unread more m b))
+past : HeadLaws → (n : ℕ) (unread more : List ℕ) (m : Message) (ms : List Message) (e : Ending) → Begins unread m
+    → closes (n + 1) m.head ≡ false
+    → Falls n (unread ++ more) ms e → (rest : List Message) × (ms ≡ m ∷ rest)
+    × Falls (n + 1) (rest_of unread m ++ more) rest e
+past laws n unread more m [] e b close f =
+    absurd (ends_begins laws (unread ++ more) e m f (begins_more laws unread more m b))
 past laws n unread more m (k ∷ ms) e b close f =
     let same = same_message laws (unread ++ more) k m f.0 (begins_more laws unread more m b) in
-    let after = subst (λ (x : Message). MatchBool (closes (n + 1) x.head) ((ms ≡ []) × (e ≡ closed)) (Falls (n + 1) (rest_of (unread ++ more) x) ms e)) same f.1 in (
+    let after = subst (λ (x : Message).
+    MatchBool (closes (n + 1) x.head) ((ms ≡ [])
+    × (e ≡ closed)) (Falls (n + 1) (rest_of (unread ++ more) x) ms e)) same f.1 in (
       ms,
       cons_same k m ms ms same refl,
-      subst (λ (z : List ℕ). Falls (n + 1) z ms e) (rest_more unread more m b) (of_false (closes (n + 1) m.head) _ _ close after),
+      subst (λ (z : List ℕ). Falls (n + 1) z ms e) (rest_more unread more m b)
+          (of_false (closes (n + 1) m.head) _ _ close after),
     )
 
 -- one more message is done
-pub goes_past : HeadLaws → (fed : List ℕ) (done : List Message) (left : ℕ) (unread : List ℕ) (m : Message) → GoesOn fed done left unread → Begins unread m
+pub goes_past : HeadLaws → (fed : List ℕ) (done : List Message) (left : ℕ) (unread : List ℕ) (m : Message)
+    → GoesOn fed done left unread → Begins unread m
     → closes (length done + 1) m.head ≡ false → GoesOn fed (done ++ m ∷ []) (left - 1) (rest_of unread m)
 goes_past laws fed done left unread m g b more_come =
     let len : length (done ++ m ∷ []) ≡ length done + 1 = length-append done (m ∷ []) in
@@ -184,8 +208,12 @@ goes_past laws fed done left unread m g b more_come =
       some_left = omega (arith, left_some);
       onward = λ more ms e f.
           let f' : Falls (length done + 1) (rest_of (unread ++ more) m) ms e
-          = subst (λ (n : ℕ). Falls n (rest_of (unread ++ more) m) ms e) len (subst (λ (z : List ℕ). Falls (length (done ++ m ∷ [])) z ms e) (sym (rest_more unread more m b)) f) in
-          let whole = g.onward more (m ∷ ms) e (begins_more laws unread more m b, match_false (closes (length done + 1) m.head) _ _ more_come f') in
+          = subst (λ (n : ℕ). Falls n (rest_of (unread ++ more) m) ms e) len
+          (subst (λ (z : List ℕ). Falls (length (done ++ m ∷ [])) z ms e) (sym (rest_more unread more m b)) f) in
+          let whole = g.onward more (m ∷ ms) e (
+            begins_more laws unread more m b,
+            match_false (closes (length done + 1) m.head) _ _ more_come f',
+          ) in
           subst (λ (z : List Message). Falls 0 (fed ++ more) z e) (sym (append_assoc done (m ∷ []) ms)) whole;
       back = λ more all e f.
           let b1 = g.back more all e f in
@@ -197,42 +225,54 @@ goes_past laws fed done left unread m g b more_come =
     }
 
 -- the last message is done
-pub goes_last : HeadLaws → (fed : List ℕ) (done : List Message) (left : ℕ) (unread : List ℕ) (m : Message) → GoesOn fed done left unread → Begins unread m
+pub goes_last : HeadLaws → (fed : List ℕ) (done : List Message) (left : ℕ) (unread : List ℕ) (m : Message)
+    → GoesOn fed done left unread → Begins unread m
     → closes (length done + 1) m.head ≡ true → (more : List ℕ) → Falls 0 (fed ++ more) (done ++ m ∷ []) closed
 goes_last laws fed done left unread m g b close more =
-    g.onward more (m ∷ []) closed (begins_more laws unread more m b, match_true (closes (length done + 1) m.head) _ _ close (refl, refl))
+    g.onward more (m ∷ []) closed (
+      begins_more laws unread more m b,
+      match_true (closes (length done + 1) m.head) _ _ close (refl, refl),
+    )
 
 -- the connection is refused
-pub goes_refused : HeadStays → (fed : List ℕ) (done : List Message) (left : ℕ) (unread : List ℕ) (s : ℕ) → GoesOn fed done left unread → IsFound unread (Refused s)
+pub goes_refused : HeadStays → (fed : List ℕ) (done : List Message) (left : ℕ) (unread : List ℕ) (s : ℕ)
+    → GoesOn fed done left unread → IsFound unread (Refused s)
     → (more : List ℕ) → Falls 0 (fed ++ more) done (refused s)
 goes_refused stays fed done left unread s g f more =
     subst (λ (z : List Message). Falls 0 (fed ++ more) z (refused s)) (append-nil done)
     (g.onward more [] (refused s) (stays unread more (Refused s) f (λ e. need_refused s (sym e))))
 
-at_end : (fed : List ℕ) (done : List Message) (left : ℕ) (unread : List ℕ) (e : Ending) → GoesOn fed done left unread → Ends unread e → Falls 0 fed done e
+at_end : (fed : List ℕ) (done : List Message) (left : ℕ) (unread : List ℕ) (e : Ending) → GoesOn fed done left unread
+    → Ends unread e → Falls 0 fed done e
 at_end fed done left unread e g f =
     subst (λ (z : List ℕ). Falls 0 z done e) (append-nil fed)
-    (subst (λ (z : List Message). Falls 0 (fed ++ []) z e) (append-nil done) (g.onward [] [] e (subst (λ (z : List ℕ). Ends z e) (sym (append-nil unread)) f)))
+    (subst (λ (z : List Message). Falls 0 (fed ++ []) z e) (append-nil done)
+    (g.onward [] [] e (subst (λ (z : List ℕ). Ends z e) (sym (append-nil unread)) f)))
 
 -- the bytes end here
-pub goes_ending : (fed : List ℕ) (done : List Message) (left : ℕ) (unread : List ℕ) → GoesOn fed done left unread → IsUnfinished unread → Falls 0 fed done (end_in going unread)
+pub goes_ending : (fed : List ℕ) (done : List Message) (left : ℕ) (unread : List ℕ) → GoesOn fed done left unread
+    → IsUnfinished unread → Falls 0 fed done (end_in going unread)
 goes_ending fed done left [] g u = at_end fed done left [] boundary g refl
 goes_ending fed done left (x ∷ xs) g u = at_end fed done left (x ∷ xs) inside g (omega arith, u)
 
 -- ---- the test of a body
 
-pub whole_by : (bytes : List ℕ) (head : Head) → IsFound bytes (Whole head) → nat_le (size head) (length bytes) ≡ true → IsWhole bytes head
+pub whole_by : (bytes : List ℕ) (head : Head) → IsFound bytes (Whole head) → nat_le (size head) (length bytes) ≡ true
+    → IsWhole bytes head
 whole_by bytes head f e = record { found = f; whole = le_so _ _ e }
 
-pub short_by : (bytes : List ℕ) (head : Head) → IsFound bytes (Whole head) → nat_le (size head) (length bytes) ≡ false → IsShort bytes head
+pub short_by : (bytes : List ℕ) (head : Head) → IsFound bytes (Whole head) → nat_le (size head) (length bytes) ≡ false
+    → IsShort bytes head
 short_by bytes head f e = record { found = f; short = above_so _ _ e }
 
 -- ---- the bytes of an unfinished message
 
-few_bytes : (n size length body : ℕ) → n < size → size ≡ length + body → length ≤ HEAD_BYTES → body ≤ BODY_BYTES → n < HEAD_BYTES + BODY_BYTES
+few_bytes : (n size length body : ℕ) → n < size → size ≡ length + body → length ≤ HEAD_BYTES → body ≤ BODY_BYTES
+    → n < HEAD_BYTES + BODY_BYTES
 few_bytes n size length body h e a b = omega (arith, h, e, a, b)
 
-pub unfinished_short : ((bytes : List ℕ) (found : Found) → IsFound bytes found → IsWithinLimits bytes found) → (bytes : List ℕ) → IsUnfinished bytes → length bytes < HEAD_BYTES + BODY_BYTES
+pub unfinished_short : ((bytes : List ℕ) (found : Found) → IsFound bytes found → IsWithinLimits bytes found)
+    → (bytes : List ℕ) → IsUnfinished bytes → length bytes < HEAD_BYTES + BODY_BYTES
 unfinished_short limits bytes (inl need) = let few = limits bytes Need need in omega (arith, few)
 unfinished_short limits bytes (inr short) =
     let within = limits bytes (Whole short.0) short.1.found in
@@ -240,9 +280,13 @@ unfinished_short limits bytes (inr short) =
 
 -- ---- a head that is kept
 
-pub kept_more : HeadStays → (bytes more new : List ℕ) (kept : Option Head) → new ≡ bytes ++ more → IsKept bytes kept → IsKept new kept
+pub kept_more : HeadStays → (bytes more new : List ℕ) (kept : Option Head) → new ≡ bytes ++ more → IsKept bytes kept
+    → IsKept new kept
 kept_more stays bytes more new None e k = tt
-kept_more stays bytes more new (Some h) e k = subst (λ (z : List ℕ). IsFound z (Whole h)) (sym e) (stays bytes more (Whole h) k (λ e. need_whole h (sym e)))
+kept_more stays bytes more new (Some h) e k =
+    subst (λ (z : List ℕ). IsFound z (Whole h)) (sym e) (stays bytes more (Whole h) k (λ e. need_whole h (sym e)))
 
-pub fed_fits : (bytes more new : List ℕ) → new ≡ bytes ++ more → length more ≤ UNREAD_BYTES - length bytes → length bytes ≤ UNREAD_BYTES → length new ≤ UNREAD_BYTES
-fed_fits bytes more new e room few = let n : length new ≡ length bytes + length more = ap length e ∙ length-append bytes more in omega (arith, n, room, few)
+pub fed_fits : (bytes more new : List ℕ) → new ≡ bytes ++ more → length more ≤ UNREAD_BYTES - length bytes
+    → length bytes ≤ UNREAD_BYTES → length new ≤ UNREAD_BYTES
+fed_fits bytes more new e room few = let n : length new ≡ length bytes + length more =
+    ap length e ∙ length-append bytes more in omega (arith, n, room, few)

@@ -20,10 +20,12 @@ WholeText = (s : SessionState) (past : Traffic) → StandsFor s past → IsQuiet
 
 -- Once the session isn't live, it doesn't matter which bytes follow.
 abbrev pub NothingFollows : Type 0
-NothingFollows = (s : SessionState) (past : Traffic) → StandsFor s past → s.standing ≢ Live → (more : List ℕ) → StandsFor s (fed_more more past)
+NothingFollows = (s : SessionState) (past : Traffic) → StandsFor s past → s.standing ≢ Live → (more : List ℕ)
+    → StandsFor s (fed_more more past)
 
 -- These are first commands of all messages, and with these answers and any later ones this is a front of their text.
-pub record IsFirstPart (ms : List Message) (ending : Ending) (given : List Command) (told : Answers) (text : List ℕ) : Type 0 where
+pub record IsFirstPart (ms : List Message) (ending : Ending) (given : List Command) (told : Answers) (text : List ℕ) :
+    Type 0 where
   pub first : (coming : List Command) × (commands ms ≡ given ++ coming)
   pub front : (later : Answers) → (rest : List ℕ) × (responses 0 ms (told ++ later) ++ end_text ending ≡ text ++ rest)
 

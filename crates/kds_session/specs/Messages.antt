@@ -1,6 +1,7 @@
 -- How the bytes of a connection fall into messages. They follow one another, each with a head and a body
 -- (RFC 9112, sections 2.1 and 9.3.2).
-use Rattle.std.specs.Prelude.{◌≡◌, ℕ, ◌+◌, ◌<◌, ◌≤◌, ◌⊎◌, ◌==◌, ◌||◌, Bool, MatchBool, List, [], ◌∷◌, length, take, drop}
+use Rattle.std.specs.Prelude.{◌≡◌, ℕ, ◌+◌, ◌<◌, ◌≤◌, ◌⊎◌, ◌==◌, ◌||◌, Bool, MatchBool, List, [], ◌∷◌, length, take}
+use Rattle.std.specs.Prelude.{drop}
 use Rattle.kds_head.specs.declared.found.Head.{Head}
 use Rattle.kds_head.specs.declared.found.Found.TheVariants.{Need, Refused, Whole}
 use Rattle.kds_head.specs.Find.{IsFound}
@@ -61,4 +62,5 @@ closes number head = head.close || number == REQUESTS
 abbrev pub Falls : ℕ → List ℕ → List Message → Ending → Type 0
 Falls before bytes [] ending = Ends bytes ending
 Falls before bytes (m ∷ ms) ending =
-    Begins bytes m × MatchBool (closes (before + 1) m.head) ((ms ≡ []) × (ending ≡ closed)) (Falls (before + 1) (rest_of bytes m) ms ending)
+    Begins bytes m × MatchBool (closes (before + 1) m.head) ((ms ≡ []) × (ending ≡ closed))
+    (Falls (before + 1) (rest_of bytes m) ms ending)

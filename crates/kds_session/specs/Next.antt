@@ -22,7 +22,8 @@ GivesNext old new next = (past : Traffic) → StandsFor old past → IsNext next
 
 -- Of the commands of all bytes that were fed it is the one that follows those given, and none where there is none.
 abbrev pub FollowsThose : SessionState → Option Command → Type 0
-FollowsThose old next = (past : Traffic) → StandsFor old past → (ms : List Message) (ending : Ending) → Falls 0 past.fed ms ending
+FollowsThose old next = (past : Traffic) → StandsFor old past → (ms : List Message) (ending : Ending)
+    → Falls 0 past.fed ms ending
     → next ≡ slice_get (commands ms) (length past.given)
 
 -- a command waits exactly where one was given

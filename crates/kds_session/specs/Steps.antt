@@ -40,11 +40,23 @@ IsKnown (front.Whole head) = Unit {0}
 
 -- what a reading of these unread bytes comes to: a session with its responses as output
 abbrev pub read_state : List ℕ → Reading → SessionState
-read_state bytes r = record { unread = drop r.read bytes; output = r.answers; left = r.left; standing = r.standing; waiting = r.waiting }
+read_state bytes r = record {
+  unread = drop r.read bytes;
+  output = r.answers;
+  left = r.left;
+  standing = r.standing;
+  waiting = r.waiting;
+}
 
 -- a session after what it has read on
 abbrev pub with_reading : SessionState → Reading → SessionState
-with_reading s r = record { unread = drop r.read s.unread; output = s.output ++ r.answers; left = r.left; standing = r.standing; waiting = r.waiting }
+with_reading s r = record {
+  unread = drop r.read s.unread;
+  output = s.output ++ r.answers;
+  left = r.left;
+  standing = r.standing;
+  waiting = r.waiting;
+}
 
 -- the session is live, and no command waits
 pub record IsFree (s : SessionState) : Type 0 where

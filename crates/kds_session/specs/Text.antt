@@ -1,5 +1,6 @@
 -- What messages ask for, and the text of the responses to them.
-use Rattle.std.specs.Prelude.{◌≡◌, ℕ, ◌+◌, ◌==◌, Bool, true, false, List, [], ◌∷◌, ◌++◌, length, Result, Ok, Err, if◌then◌else◌}
+use Rattle.std.specs.Prelude.{◌≡◌, ℕ, ◌+◌, ◌==◌, Bool, true, false, List, [], ◌∷◌, ◌++◌, length, Result, Ok, Err}
+use Rattle.std.specs.Prelude.{if◌then◌else◌}
 use Rattle.kds_defs.specs.declared.command.Command.{Command}
 use Rattle.kds_defs.specs.declared.reply.Refusal.{Refusal}
 use Rattle.kds_defs.specs.declared.reply.Reply.{Reply}
@@ -50,7 +51,8 @@ respond (Ok what) close (answer ∷ answers) later = answered (reply_of answer) 
 -- The responses to messages that follow so many others of a connection: the k-th command has the k-th answer.
 abbrev pub responses : ℕ → List Message → Answers → List ℕ
 responses before [] answers = []
-responses before (m ∷ ms) answers = respond (asked_by m) (closes (before + 1) m.head) answers (responses (before + 1) ms)
+responses before (m ∷ ms) answers =
+    respond (asked_by m) (closes (before + 1) m.head) answers (responses (before + 1) ms)
 
 -- what is written at the end
 abbrev pub end_text : Ending → List ℕ

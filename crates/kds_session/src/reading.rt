@@ -1,7 +1,8 @@
 //! Reads messages from a session's unread bytes until a message contains a command. The unread bytes are those that
 //! were fed to the session and not yet consumed. A message without a valid command is a faulty request, and is answered
 //! with an error.
-ghost use Rattle.std.specs.Prelude.{◌≡◌, ◌<◌, ◌≤◌, ◌^◌, ◌++◌, ◌||◌, [], ℕ, List, drop, length, take, nat_le, true, false, None, IfOk, IfSome, IsUtf8, OnOk};
+ghost use Rattle.std.specs.Prelude.{◌≡◌, ◌<◌, ◌≤◌, ◌^◌, ◌++◌, ◌||◌, [], ℕ, List, drop, length, take, nat_le, true};
+ghost use Rattle.std.specs.Prelude.{false, None, IfOk, IfSome, IsUtf8, OnOk};
 ghost use Rattle.kds_defs.specs.declared.command.Command.{Command};
 ghost use Rattle.kds_head.specs.Response.{is_refusal, response_text};
 ghost use Rattle.kds_json.specs.Asked.{IsRequest};
@@ -82,7 +83,13 @@ impl Reading {
     /// Returns the progress at the start, when no byte has been consumed yet. The connection is live and allows `left`
     /// further requests.
     pub fn new(alloc: Global, left: u32) -> Reading
-        ensures { result ≡ record { read = 0; left = left; answers = []; standing = Standing.Live; waiting = Waiting.Nothing } }
+        ensures { result ≡ record {
+          read = 0;
+          left = left;
+          answers = [];
+          standing = Standing.Live;
+          waiting = Waiting.Nothing;
+        } }
     {
         Reading {
             read: 0,
@@ -137,7 +144,8 @@ impl Reading {
         requires whole { IsWhole (drop self.old.read bytes.now) head.now }
         requires free { IsFree (read_state bytes.now self.old) }
         ensures after { IfOk result (Steps (read_state bytes.now self.old) (read_state bytes.now self.new)) }
-        ensures plain { IfOk result (λ step. IsPlainly step (read_state bytes.now self.old) (read_state bytes.now self.new)) }
+        ensures plain { IfOk result
+            (λ step. IsPlainly step (read_state bytes.now self.old) (read_state bytes.now self.new)) }
         ensures room { OnOk result (self.new.read ≤ length bytes.now) }
     {
         one_finding();
@@ -177,7 +185,8 @@ impl Reading {
         requires free { IsFree (read_state bytes.now self.old) }
         requires kept { IsKept (drop self.old.read bytes.now) kept.old }
         ensures after { IfOk result (Steps (read_state bytes.now self.old) (read_state bytes.now self.new)) }
-        ensures plain { IfOk result (λ step. IsPlainly step (read_state bytes.now self.old) (read_state bytes.now self.new)) }
+        ensures plain { IfOk result
+            (λ step. IsPlainly step (read_state bytes.now self.old) (read_state bytes.now self.new)) }
         ensures room { OnOk result (self.new.read ≤ length bytes.now) }
         ensures kept { OnOk result (IsKept (drop self.new.read bytes.now) kept.new) }
     {

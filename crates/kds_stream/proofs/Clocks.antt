@@ -1,5 +1,6 @@
 -- What a later clock, and the trim of the logs, leave a stream to show.
-use Rattle.std.proofs.Common.{◌≡◌, ℕ, zero, suc, ◌+◌, ◌≤◌, Bool, true, false, List, [], ◌∷◌, length, Option, refl, sym, ap, ◌∙◌, arith}
+use Rattle.std.proofs.Common.{◌≡◌, ℕ, zero, suc, ◌+◌, ◌≤◌, Bool, true, false, List, [], ◌∷◌, length, Option, refl, sym}
+use Rattle.std.proofs.Common.{ap, ◌∙◌, arith}
 use Rattle.std.specs.Prelude.{cond, not, nat_le, nat_lt, ◌&&◌}
 use Rattle.std.proofs.lemmas.Bool.Decides.{nat_tests}
 use Rattle.kds_base.proofs.Facts.{all_filter}
@@ -16,15 +17,20 @@ use Rattle.kds_stream.specs.Value.{IsStream, StreamValue, cut_at, later_cut}
 
 -- ---- what is kept at a floor is kept at a higher one
 
-pub kept_higher : (floor higher : ℕ) (log : Journal) (s n : ℕ) (ls : List LogValue) → floor ≤ higher → AreKept floor log s n ls → AreKept higher log s n ls
+pub kept_higher : (floor higher : ℕ) (log : Journal) (s n : ℕ) (ls : List LogValue) → floor ≤ higher
+    → AreKept floor log s n ls → AreKept higher log s n ls
 kept_higher floor higher log s n [] le h = tt
-kept_higher floor higher log s n (l ∷ ls) le h =
-    (record { from = h.0.from; early = omega (arith, le, h.0.early); rest = h.0.rest }, kept_higher floor higher log s (n + 1) ls le h.1)
+kept_higher floor higher log s n (l ∷ ls) le h = (
+  record { from = h.0.from; early = omega (arith, le, h.0.early); rest = h.0.rest },
+  kept_higher floor higher log s (n + 1) ls le h.1,
+)
 
-pub shows_advanced : (v : StreamValue) (log : Journal) (clock : ℕ) (cut : Option ℕ) → cut ≡ later_cut v.cut (cut_at clock v.hours) → v.clock ≤ clock → Shows v log
+pub shows_advanced : (v : StreamValue) (log : Journal) (clock : ℕ) (cut : Option ℕ)
+    → cut ≡ later_cut v.cut (cut_at clock v.hours) → v.clock ≤ clock → Shows v log
     → Shows (record v { clock = clock; cut = cut; clock_before = v.clock; cut_before = v.cut }) log
 shows_advanced v log clock cut is later shown =
-    let higher : floor_of v.cut ≤ floor_of cut = omega (arith, ap floor_of is, later_floor v.cut (cut_at clock v.hours)) in
+    let higher : floor_of v.cut ≤ floor_of cut =
+    omega (arith, ap floor_of is, later_floor v.cut (cut_at clock v.hours)) in
     record {
       stored = record {
         live = shown.stored.live;
@@ -34,14 +40,17 @@ shows_advanced v log clock cut is later shown =
         hours_are = shown.stored.hours_are;
         shards_are = shown.stored.shards_are;
         next_is = shown.stored.next_is;
-        floor_is = advanced_floor log v.clock clock v.no v.hours v.cut later shown.stored.hours_are shown.stored.floor_is ∙ ap floor_of (sym is);
+        floor_is = advanced_floor log v.clock clock v.no v.hours v.cut later shown.stored.hours_are
+            shown.stored.floor_is ∙ ap floor_of (sym is);
         kept = kept_higher (floor_of v.cut) (floor_of cut) log v.no 0 v.logs higher shown.stored.kept;
         none_beyond = shown.stored.none_beyond;
       };
       rates = shown.rates;
     }
 
-pub stream_advanced : (v : StreamValue) (clock : ℕ) (cut : Option ℕ) → cut ≡ later_cut v.cut (cut_at clock v.hours) → v.clock ≤ clock → IsStream v → IsStream (record v { clock = clock; cut = cut; clock_before = v.clock; cut_before = v.cut })
+pub stream_advanced : (v : StreamValue) (clock : ℕ) (cut : Option ℕ) → cut ≡ later_cut v.cut (cut_at clock v.hours)
+    → v.clock ≤ clock → IsStream v
+    → IsStream (record v { clock = clock; cut = cut; clock_before = v.clock; cut_before = v.cut })
 stream_advanced v clock cut later_is later is = record {
   as_many = is.as_many;
   few = is.few;
@@ -61,33 +70,42 @@ stream_advanced v clock cut later_is later is = record {
 
 left_twice_by : (b c : Bool) (r : Logged) (rs : List Logged) (f p g : ℕ) → is_left g 0 r ≡ b → is_left f p r ≡ c → g ≤ f
     → left_among f p (left_among g 0 rs) ≡ left_among f p rs
-    → left_among f p (cond b (r ∷ left_among g 0 rs) (left_among g 0 rs)) ≡ cond c (r ∷ left_among f p rs) (left_among f p rs)
-left_twice_by true c r rs f p g isb isc le h = ap (λ d. cond d (r ∷ left_among f p (left_among g 0 rs)) (left_among f p (left_among g 0 rs))) isc ∙ ap (λ xs. cond c (r ∷ xs) xs) h
+    → left_among f p (cond b (r ∷ left_among g 0 rs) (left_among g 0 rs))
+    ≡ cond c (r ∷ left_among f p rs) (left_among f p rs)
+left_twice_by true c r rs f p g isb isc le h =
+    ap (λ d. cond d (r ∷ left_among f p (left_among g 0 rs)) (left_among f p (left_among g 0 rs))) isc
+    ∙ ap (λ xs. cond c (r ∷ xs) xs) h
 left_twice_by false true r rs f p g isb isc le h = absurd (late r.arrival r.seq f p g isb isc le)
   where
-    late : (arrival seq f p g : ℕ) → (not (nat_lt arrival g) && nat_le 0 seq) ≡ false → (not (nat_lt arrival f) && nat_le p seq) ≡ true → g ≤ f → ⊥
+    late : (arrival seq f p g : ℕ) → (not (nat_lt arrival g) && nat_le 0 seq) ≡ false
+        → (not (nat_lt arrival f) && nat_le p seq) ≡ true → g ≤ f → ⊥
     late arrival seq f p g isb isc le = grind (arith, nat_tests)
 left_twice_by false false r rs f p g isb isc le h = h
 
 -- records that are trimmed at a lower floor first
 pub left_twice : (f p g : ℕ) (rs : List Logged) → g ≤ f → left_among f p (left_among g 0 rs) ≡ left_among f p rs
 left_twice f p g [] le = refl
-left_twice f p g (r ∷ rs) le = left_twice_by (is_left g 0 r) (is_left f p r) r rs f p g refl refl le (left_twice f p g rs le)
+left_twice f p g (r ∷ rs) le =
+    left_twice_by (is_left g 0 r) (is_left f p r) r rs f p g refl refl le (left_twice f p g rs le)
 
 -- ---- a settled stream
 
-kept_settled : (floor : ℕ) (log : Journal) (s n i : ℕ) (ls : List LogValue) → AreKept floor log s n ls → AreKept floor log s n (settled_at floor i ls)
+kept_settled : (floor : ℕ) (log : Journal) (s n i : ℕ) (ls : List LogValue) → AreKept floor log s n ls
+    → AreKept floor log s n (settled_at floor i ls)
 kept_settled floor log s n i [] h = tt
 kept_settled floor log s n zero (l ∷ ls) h =
-    let same : left_among floor 0 l.kept ≡ left_among floor 0 (records log s n) = ap (left_among floor 0) h.0.rest ∙ left_twice floor 0 h.0.from (records log s n) h.0.early in
+    let same : left_among floor 0 l.kept ≡ left_among floor 0 (records log s n) =
+    ap (left_among floor 0) h.0.rest ∙ left_twice floor 0 h.0.from (records log s n) h.0.early in
     (record { from = floor; early = omega arith; rest = same }, h.1)
 kept_settled floor log s n (suc i) (l ∷ ls) h = (h.0, kept_settled floor log s (n + 1) i ls h.1)
 
 -- the stream where the log at a place is settled, whatever clock it remembers and whose turn it is
 abbrev pub settled_place : StreamValue → ℕ → ℕ → Option ℕ → ℕ → StreamValue
-settled_place v i clock cut turn = record v { logs = settled_at (floor_of v.cut) i v.logs; clock_before = clock; cut_before = cut; turn = turn }
+settled_place v i clock cut turn =
+    record v { logs = settled_at (floor_of v.cut) i v.logs; clock_before = clock; cut_before = cut; turn = turn }
 
-pub shows_settled : (v : StreamValue) (i clock : ℕ) (cut : Option ℕ) (turn : ℕ) (log : Journal) → Shows v log → Shows (settled_place v i clock cut turn) log
+pub shows_settled : (v : StreamValue) (i clock : ℕ) (cut : Option ℕ) (turn : ℕ) (log : Journal) → Shows v log
+    → Shows (settled_place v i clock cut turn) log
 shows_settled v i clock cut turn log shown = record {
   stored = record {
     live = shown.stored.live;
@@ -112,7 +130,8 @@ settled_stream v i turn is = record {
   numbers = all-settled (IsBelow v.next) (floor_of v.cut) i (λ l h. h) v.logs is.numbers;
   endings = is.endings;
   arrivals =
-      all-settled (HasArrived v.clock) (floor_of v.cut) i (λ l h. all_filter (λ (r : Logged). r.arrival ≤ v.clock) (is_left (floor_of v.cut) 0) l.kept h) v.logs
+      all-settled (HasArrived v.clock) (floor_of v.cut) i
+      (λ l h. all_filter (λ (r : Logged). r.arrival ≤ v.clock) (is_left (floor_of v.cut) 0) l.kept h) v.logs
       (arrived_later v.clock_before v.clock v.logs is.order is.arrivals);
   order = omega arith;
   trims = is.trims;

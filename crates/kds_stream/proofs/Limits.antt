@@ -19,7 +19,9 @@ abbrev pub limits_line : StreamValue → ℕ → Bool → Line
 limits_line v by on = plain_line v.clock by (entry.Enforced v.no on)
 
 pub enforce_done : (v : StreamValue) (log : Journal) (by : ℕ) (on : Bool) → Shows v log
-    → (Ok reply.Done ≡ answer_of (enforce log v.clock by v.no on)) × Shows (record v { enforced = on; clock_before = v.clock; cut_before = v.cut }) (with_lines (lines_of (enforce log v.clock by v.no on)) log)
+    → (Ok reply.Done ≡ answer_of (enforce log v.clock by v.no on))
+    × Shows (record v { enforced = on; clock_before = v.clock; cut_before = v.cut })
+    (with_lines (lines_of (enforce log v.clock by v.no on)) log)
 enforce_done v log by on shown = (
   refl,
   record {
@@ -35,6 +37,10 @@ enforce_done v log by on shown = (
       kept = kept_along (floor_of v.cut) log (limits_line v by on ∷ log) v.no 0 v.logs (λ sh. refl) shown.stored.kept;
       none_beyond = shown.stored.none_beyond;
     };
-    rates = record { enforced_is = chosen (v.no == v.no) on (is_enforced log v.no) (is_itself v.no); stand = shown.rates.stand; none_beyond = shown.rates.none_beyond };
+    rates = record {
+      enforced_is = chosen (v.no == v.no) on (is_enforced log v.no) (is_itself v.no);
+      stand = shown.rates.stand;
+      none_beyond = shown.rates.none_beyond;
+    };
   },
 )

@@ -1,5 +1,6 @@
 -- Which shards are listed, and what iterators and reads of them are answered.
-use Rattle.std.proofs.Common.{◌≡◌, ℕ, ◌<◌, Bool, true, false, List, [], length, get_or, map, Option, Some, None, refl, sym, ap, ◌∙◌, arith}
+use Rattle.std.proofs.Common.{◌≡◌, ℕ, ◌<◌, Bool, true, false, List, [], length, get_or, map, Option, Some, None, refl}
+use Rattle.std.proofs.Common.{sym, ap, ◌∙◌, arith}
 use Rattle.std.specs.Prelude.{slice_get, is_none, is_some, not, ◌&&◌, ◌||◌, if◌then◌else◌, Result, Ok, Err}
 use Rattle.std.specs.Option.{option_map}
 use Rattle.std.proofs.lemmas.Option.{slice_get_within}
@@ -17,9 +18,12 @@ use Rattle.kds_defs.specs.declared.reply.Stored.{Stored}
 use Rattle.kds_defs.specs.Decision.{Decision, Accepted}
 use Rattle.kds_defs.specs.Histories.{answer_of}
 use Rattle.kds_defs.specs.Journal.{Journal}
-use Rattle.kds_defs.specs.Listings.{are_none, behind, ends_at, get_iterator, get_records, is_closed_at, is_good_start, is_old, iterator_at, position_of, records_reply}
-use Rattle.kds_defs.specs.Records.{Logged, batch, first_at, left_among, left_from, next_number, numbers_of, place_after, stored}
-use Rattle.kds_defs.specs.Shards.{Closing, ShardState, children, children_among, ending, is_closed_below, is_listed, is_listed_state, shard_at, shown}
+use Rattle.kds_defs.specs.Listings.{are_none, behind, ends_at, get_iterator, get_records, is_closed_at, is_good_start}
+use Rattle.kds_defs.specs.Listings.{is_old, iterator_at, position_of, records_reply}
+use Rattle.kds_defs.specs.Records.{Logged, batch, first_at, left_among, left_from, next_number, numbers_of, place_after}
+use Rattle.kds_defs.specs.Records.{stored}
+use Rattle.kds_defs.specs.Shards.{Closing, ShardState, children, children_among, ending, is_closed_below, is_listed}
+use Rattle.kds_defs.specs.Shards.{is_listed_state, shard_at, shown}
 use Rattle.kds_defs.specs.Streams.{floor_of, trim_floor}
 use Rattle.kds_log.specs.Log.{LogValue, first_arrival}
 use Rattle.kds_stream.proofs.ReadLemmas.{are_none_by, batch_is, behind_first, left_is}
@@ -29,16 +33,19 @@ use Rattle.kds_stream.specs.Value.{IsStream, StreamValue, is_listed_at, listed_a
 
 -- ---- an answer, of one of two equal values
 
-pub answer_along : (decided : StreamValue → Decision) (u w : StreamValue) (a : Result Reply Refusal) → u ≡ w → a ≡ answer_of (decided u) → a ≡ answer_of (decided w)
+pub answer_along : (decided : StreamValue → Decision) (u w : StreamValue) (a : Result Reply Refusal) → u ≡ w
+    → a ≡ answer_of (decided u) → a ≡ answer_of (decided w)
 answer_along decided u w a is h = h ∙ ap (λ x. answer_of (decided x)) is
 
 -- ---- listed shards
 
-pub unlisted : (floor : ℕ) (o : Option ShardState) → None ≡ option_map shown (listed_at floor o) → is_listed_at floor o ≡ false
+pub unlisted : (floor : ℕ) (o : Option ShardState) → None ≡ option_map shown (listed_at floor o)
+    → is_listed_at floor o ≡ false
 unlisted floor None h = refl
 unlisted floor (Some x) h = by (is_closed_below floor x) refl h
   where
-    by : (b : Bool) → is_closed_below floor x ≡ b → None ≡ option_map shown (if b then None else Some x) → not (is_closed_below floor x) ≡ false
+    by : (b : Bool) → is_closed_below floor x ≡ b → None ≡ option_map shown (if b then None else Some x)
+        → not (is_closed_below floor x) ≡ false
     by true e h = ap not e
     by false e h = absurd cc
 
@@ -49,15 +56,18 @@ pub record HasState (floor : ℕ) (o : Option ShardState) (y : Shard) : Type 0 w
   pub is_shown : y ≡ shown state
   pub listed : is_listed_at floor o ≡ true
 
-pub has_state : (floor : ℕ) (o : Option ShardState) (y : Shard) → Some y ≡ option_map shown (listed_at floor o) → HasState floor o y
+pub has_state : (floor : ℕ) (o : Option ShardState) (y : Shard) → Some y ≡ option_map shown (listed_at floor o)
+    → HasState floor o y
 has_state floor None y h = absurd cc
 has_state floor (Some x) y h = by (is_closed_below floor x) refl h
   where
-    by : (b : Bool) → is_closed_below floor x ≡ b → Some y ≡ option_map shown (if b then None else Some x) → HasState floor (Some x) y
+    by : (b : Bool) → is_closed_below floor x ≡ b → Some y ≡ option_map shown (if b then None else Some x)
+        → HasState floor (Some x) y
     by true e h = absurd cc
     by false e h = record { state = x; at = refl; is_shown = same_some y (shown x) h; listed = ap not e }
 
-pub is_listed_some : (floor : ℕ) (o : Option ShardState) → is_some (option_map shown (listed_at floor o)) ≡ is_listed_at floor o
+pub is_listed_some : (floor : ℕ) (o : Option ShardState) → is_some (option_map shown (listed_at floor o))
+    ≡ is_listed_at floor o
 is_listed_some floor None = refl
 is_listed_some floor (Some x) = by (is_closed_below floor x)
   where
@@ -66,14 +76,16 @@ is_listed_some floor (Some x) = by (is_closed_below floor x)
     by false = refl
 
 -- a listed shard has a log
-pub made_within : (v : StreamValue) (sh : ℕ) → IsStream v → is_listed_at (floor_of v.cut) (slice_get v.tree sh) ≡ true → sh < length v.logs
+pub made_within : (v : StreamValue) (sh : ℕ) → IsStream v → is_listed_at (floor_of v.cut) (slice_get v.tree sh) ≡ true
+    → sh < length v.logs
 made_within v sh is h = by (slice_get v.tree sh) refl h
   where
     by : (o : Option ShardState) → slice_get v.tree sh ≡ o → is_listed_at (floor_of v.cut) o ≡ true → sh < length v.logs
     by None e h = absurd cc
     by (Some x) e h = omega (arith, slice_get_within v.tree sh x e, is.as_many)
 
-pub listed_within : (v : StreamValue) (sh : ℕ) (y : Shard) → IsStream v → Some y ≡ option_map shown (listed_at (floor_of v.cut) (slice_get v.tree sh)) → sh < length v.logs
+pub listed_within : (v : StreamValue) (sh : ℕ) (y : Shard) → IsStream v
+    → Some y ≡ option_map shown (listed_at (floor_of v.cut) (slice_get v.tree sh)) → sh < length v.logs
 listed_within v sh y is h = made_within v sh is (has_state (floor_of v.cut) (slice_get v.tree sh) y h).listed
 
 -- a test that something is none
@@ -96,10 +108,14 @@ module _ (v : StreamValue) (log : Journal) (show : Shows v log) where
 
   -- ---- iterators
 
-  pub iterator_unlisted : (sh : ℕ) (from : Start) → None ≡ option_map shown (listed_at (floor_of v.cut) (slice_get v.tree sh)) → Err refusal.NoShard ≡ answer_of (get_iterator log v.clock v.no sh from)
-  iterator_unlisted sh from h = sym (ap answer_of (refused_if _ _ _ (ap not (listed_is sh ∙ unlisted (floor_of v.cut) (slice_get v.tree sh) h))))
+  pub iterator_unlisted : (sh : ℕ) (from : Start)
+      → None ≡ option_map shown (listed_at (floor_of v.cut) (slice_get v.tree sh))
+      → Err refusal.NoShard ≡ answer_of (get_iterator log v.clock v.no sh from)
+  iterator_unlisted sh from h =
+      sym (ap answer_of (refused_if _ _ _ (ap not (listed_is sh ∙ unlisted (floor_of v.cut) (slice_get v.tree sh) h))))
 
-  pub position_is : (sh : ℕ) (from : Start) (l : LogValue) → sh < length v.logs → l ≡ get_or v.logs sh l → position_of log v.clock v.no sh from ≡ position_from v.next (left_among (floor_of v.cut) 0 l.kept) from
+  pub position_is : (sh : ℕ) (from : Start) (l : LogValue) → sh < length v.logs → l ≡ get_or v.logs sh l
+      → position_of log v.clock v.no sh from ≡ position_from v.next (left_among (floor_of v.cut) 0 l.kept) from
   position_is sh (start.At q) l below is = refl
   position_is sh (start.After q) l below is = refl
   position_is sh start.TrimHorizon l below is = refl
@@ -108,8 +124,13 @@ module _ (v : StreamValue) (log : Journal) (show : Shows v log) where
       ap (λ rs. first_at rs moment (next_number log v.no)) (left_is v log show sh l below is 0)
       ∙ ap (λ n. first_at (left_among (floor_of v.cut) 0 l.kept) moment n) show.stored.next_is
 
-  iterator_by : (sh : ℕ) (from : Start) (y : Shard) (l : LogValue) (below : sh < length v.logs) (is : l ≡ get_or v.logs sh l) (b : Bool) (has : HasState (floor_of v.cut) (slice_get v.tree sh) y) → is_good_start from v.next has.state ≡ b
-      → answer_of (get_iterator log v.clock v.no sh from) ≡ (if b then Ok (reply.Iterator (iterator_at v.clock v.no sh (position_from v.next (left_among (floor_of v.cut) 0 l.kept) from))) else Err refusal.BadNumber)
+  iterator_by : (sh : ℕ) (from : Start) (y : Shard) (l : LogValue) (below : sh < length v.logs)
+      (is : l ≡ get_or v.logs sh l) (b : Bool) (has : HasState (floor_of v.cut) (slice_get v.tree sh) y)
+      → is_good_start from v.next has.state ≡ b
+      → answer_of (get_iterator log v.clock v.no sh from)
+      ≡ (if b then Ok (reply.Iterator
+      (iterator_at v.clock v.no sh (position_from v.next (left_among (floor_of v.cut) 0 l.kept) from))) else Err
+      refusal.BadNumber)
   iterator_by sh from y l below is true has good =
       ap answer_of
       (passed_if _ _ _ (ap not (listed_is sh ∙ has.listed))
@@ -130,20 +151,30 @@ module _ (v : StreamValue) (log : Journal) (show : Shows v log) where
   chosen_none true n h = absurd cc
   chosen_none false n h = refl
 
-  pub iterator_done : (sh : ℕ) (from : Start) (y : Shard) (l : LogValue) (p : ℕ) → sh < length v.logs → l ≡ get_or v.logs sh l → Some y ≡ option_map shown (listed_at (floor_of v.cut) (slice_get v.tree sh))
-      → ((x : ShardState) → y ≡ shown x → Some p ≡ (if is_good_start from v.next x then Some (position_from v.next (left_among (floor_of v.cut) 0 l.kept) from) else None))
+  pub iterator_done : (sh : ℕ) (from : Start) (y : Shard) (l : LogValue) (p : ℕ) → sh < length v.logs
+      → l ≡ get_or v.logs sh l → Some y ≡ option_map shown (listed_at (floor_of v.cut) (slice_get v.tree sh))
+      → ((x : ShardState) → y ≡ shown x
+      → Some p ≡ (if is_good_start from v.next x then Some
+      (position_from v.next (left_among (floor_of v.cut) 0 l.kept) from) else None))
       → Ok (reply.Iterator (iterator_at v.clock v.no sh p)) ≡ answer_of (get_iterator log v.clock v.no sh from)
   iterator_done sh from y l p below at is good =
       let has = has_state (floor_of v.cut) (slice_get v.tree sh) y is in
-      let begun = chosen_some (is_good_start from v.next has.state) (position_from v.next (left_among (floor_of v.cut) 0 l.kept) from) p (good has.state has.is_shown) in
-      sym (iterator_by sh from y l below at true has begun.0 ∙ ap (λ n. Ok (reply.Iterator (iterator_at v.clock v.no sh n))) (sym begun.1))
+      let begun = chosen_some (is_good_start from v.next has.state)
+      (position_from v.next (left_among (floor_of v.cut) 0 l.kept) from) p (good has.state has.is_shown) in
+      sym (iterator_by sh from y l below at true has begun.0
+      ∙ ap (λ n. Ok (reply.Iterator (iterator_at v.clock v.no sh n))) (sym begun.1))
 
-  pub iterator_bad : (sh : ℕ) (from : Start) (y : Shard) (l : LogValue) → sh < length v.logs → l ≡ get_or v.logs sh l → Some y ≡ option_map shown (listed_at (floor_of v.cut) (slice_get v.tree sh))
-      → ((x : ShardState) → y ≡ shown x → None ≡ (if is_good_start from v.next x then Some (position_from v.next (left_among (floor_of v.cut) 0 l.kept) from) else None))
+  pub iterator_bad : (sh : ℕ) (from : Start) (y : Shard) (l : LogValue) → sh < length v.logs → l ≡ get_or v.logs sh l
+      → Some y ≡ option_map shown (listed_at (floor_of v.cut) (slice_get v.tree sh))
+      → ((x : ShardState) → y ≡ shown x
+      → None ≡ (if is_good_start from v.next x then Some
+      (position_from v.next (left_among (floor_of v.cut) 0 l.kept) from) else None))
       → Err refusal.BadNumber ≡ answer_of (get_iterator log v.clock v.no sh from)
   iterator_bad sh from y l below at is good =
       let has = has_state (floor_of v.cut) (slice_get v.tree sh) y is in
-      sym (iterator_by sh from y l below at false has (chosen_none (is_good_start from v.next has.state) (position_from v.next (left_among (floor_of v.cut) 0 l.kept) from) (good has.state has.is_shown)))
+      sym (iterator_by sh from y l below at false has
+      (chosen_none (is_good_start from v.next has.state)
+      (position_from v.next (left_among (floor_of v.cut) 0 l.kept) from) (good has.state has.is_shown)))
 
   -- ---- the end of a shard
 
@@ -151,44 +182,77 @@ module _ (v : StreamValue) (log : Journal) (show : Shows v log) where
   closed_by None = refl
   closed_by (Some closing) = refl
 
-  pub ends_is : (sh place : ℕ) (y : Shard) (x : ShardState) (l : LogValue) (left : Option ℕ) → slice_get v.tree sh ≡ Some x → y ≡ shown x → sh < length v.logs → l ≡ get_or v.logs sh l → left ≡ first_arrival (left_among (floor_of v.cut) place l.kept)
+  pub ends_is : (sh place : ℕ) (y : Shard) (x : ShardState) (l : LogValue) (left : Option ℕ)
+      → slice_get v.tree sh ≡ Some x → y ≡ shown x → sh < length v.logs → l ≡ get_or v.logs sh l
+      → left ≡ first_arrival (left_among (floor_of v.cut) place l.kept)
       → ends_at log v.clock v.no sh place ≡ (is_some y.end && is_none left)
   ends_is sh place y x l left at is_shown below is first =
       ap (λ o. is_closed_at o && are_none (left_from log v.clock v.no sh place)) (shard_is sh ∙ at)
-      ∙ ap (λ b. b && are_none (left_from log v.clock v.no sh place)) (sym (ap (λ (z : Shard). is_some z.end) is_shown ∙ closed_by x.closing))
+      ∙ ap (λ b. b && are_none (left_from log v.clock v.no sh place))
+      (sym (ap (λ (z : Shard). is_some z.end) is_shown ∙ closed_by x.closing))
       ∙ ap (λ rs. is_some y.end && are_none rs) (left_is v log show sh l below is place)
       ∙ ap (λ b. is_some y.end && b) (are_none_by (left_among (floor_of v.cut) place l.kept) ∙ ap is_none (sym first))
 
   -- ---- a read
 
-  module _ (sh position limit place : ℕ) (l : LogValue) (left : Option ℕ) (below : sh < length v.logs) (at : l ≡ get_or v.logs sh l)
-      (after : place ≡ place_after position (numbers_of (batch_among (floor_of v.cut) position limit l.kept))) (first : left ≡ first_arrival (left_among (floor_of v.cut) place l.kept)) where
+  module _ (sh position limit place : ℕ) (l : LogValue) (left : Option ℕ) (below : sh < length v.logs)
+      (at : l ≡ get_or v.logs sh l)
+      (after : place ≡ place_after position (numbers_of (batch_among (floor_of v.cut) position limit l.kept)))
+      (first : left ≡ first_arrival (left_among (floor_of v.cut) place l.kept)) where
     place_is : place_after position (numbers_of (batch log v.clock v.no sh position limit)) ≡ place
-    place_is = ap (λ rs. place_after position (numbers_of rs)) (batch_is v log show sh l below at position limit) ∙ sym after
+    place_is = ap (λ rs. place_after position (numbers_of rs)) (batch_is v log show sh l below at position limit)
+        ∙ sym after
 
-    pub read_end : (y : Shard) (end : Bool) → Some y ≡ option_map shown (slice_get v.tree sh) → end ≡ (is_some y.end && is_none left) → end ≡ ends_at log v.clock v.no sh (place_after position (numbers_of (batch log v.clock v.no sh position limit)))
+    pub read_end : (y : Shard) (end : Bool) → Some y ≡ option_map shown (slice_get v.tree sh)
+        → end ≡ (is_some y.end && is_none left)
+        → end ≡ ends_at log v.clock v.no sh
+        (place_after position (numbers_of (batch log v.clock v.no sh position limit)))
     read_end y end is ended = by (slice_get v.tree sh) refl is
       where
-        by : (o : Option ShardState) → slice_get v.tree sh ≡ o → Some y ≡ option_map shown o → end ≡ ends_at log v.clock v.no sh (place_after position (numbers_of (batch log v.clock v.no sh position limit)))
+        by : (o : Option ShardState) → slice_get v.tree sh ≡ o → Some y ≡ option_map shown o
+            → end ≡ ends_at log v.clock v.no sh
+            (place_after position (numbers_of (batch log v.clock v.no sh position limit)))
         by None e h = absurd cc
-        by (Some x) e h = ended ∙ sym (ends_is sh place y x l left e (same_some y (shown x) h) below at first) ∙ ap (ends_at log v.clock v.no sh) (sym place_is)
+        by (Some x) e h = ended ∙ sym (ends_is sh place y x l left e (same_some y (shown x) h) below at first)
+            ∙ ap (ends_at log v.clock v.no sh) (sym place_is)
 
-    pub read_no_end : (end : Bool) → None ≡ option_map shown (slice_get v.tree sh) → end ≡ false → end ≡ ends_at log v.clock v.no sh (place_after position (numbers_of (batch log v.clock v.no sh position limit)))
+    pub read_no_end : (end : Bool) → None ≡ option_map shown (slice_get v.tree sh) → end ≡ false
+        → end ≡ ends_at log v.clock v.no sh
+        (place_after position (numbers_of (batch log v.clock v.no sh position limit)))
     read_no_end end is open_still = by (slice_get v.tree sh) refl is
       where
-        by : (o : Option ShardState) → slice_get v.tree sh ≡ o → None ≡ option_map shown o → end ≡ ends_at log v.clock v.no sh (place_after position (numbers_of (batch log v.clock v.no sh position limit)))
+        by : (o : Option ShardState) → slice_get v.tree sh ≡ o → None ≡ option_map shown o
+            → end ≡ ends_at log v.clock v.no sh
+            (place_after position (numbers_of (batch log v.clock v.no sh position limit)))
         by (Some x) e h = absurd cc
-        by None e h = open_still ∙ sym (ap (λ o. is_closed_at o && are_none (left_from log v.clock v.no sh (place_after position (numbers_of (batch log v.clock v.no sh position limit))))) (shard_is sh ∙ e))
+        by None e h = open_still
+            ∙ sym (ap (λ o. is_closed_at o
+            && are_none (left_from log v.clock v.no sh
+            (place_after position (numbers_of (batch log v.clock v.no sh position limit))))) (shard_is sh ∙ e))
 
   -- ---- records
 
-  pub records_expired : (iter : Iter) (limit : ℕ) → true ≡ is_old v.clock iter.issued → Err refusal.Expired ≡ answer_of (get_records log v.clock iter limit)
+  pub records_expired : (iter : Iter) (limit : ℕ) → true ≡ is_old v.clock iter.issued
+      → Err refusal.Expired ≡ answer_of (get_records log v.clock iter limit)
   records_expired iter limit old = sym (ap answer_of (refused_if _ _ _ (sym old)))
 
-  records_by : (iter : Iter) (limit : ℕ) → iter.stream ≡ v.no → get_records log v.clock (record { stream = v.no; shard = iter.shard; position = iter.position; issued = iter.issued }) limit ≡ get_records log v.clock iter limit
-  records_by iter limit is = ap (λ s. let i : Iter = record { stream = s; shard = iter.shard; position = iter.position; issued = iter.issued } in get_records log v.clock i limit) (sym is)
+  records_by : (iter : Iter) (limit : ℕ) → iter.stream ≡ v.no
+      → get_records log v.clock (record {
+        stream = v.no;
+        shard = iter.shard;
+        position = iter.position;
+        issued = iter.issued;
+      }) limit ≡ get_records log v.clock iter limit
+  records_by iter limit is =
+      ap (λ s. let i : Iter = record {
+        stream = s;
+        shard = iter.shard;
+        position = iter.position;
+        issued = iter.issued;
+      } in get_records log v.clock i limit) (sym is)
 
-  pub records_unlisted : (iter : Iter) (limit : ℕ) → iter.stream ≡ v.no → false ≡ is_old v.clock iter.issued → None ≡ option_map shown (listed_at (floor_of v.cut) (slice_get v.tree iter.shard))
+  pub records_unlisted : (iter : Iter) (limit : ℕ) → iter.stream ≡ v.no → false ≡ is_old v.clock iter.issued
+      → None ≡ option_map shown (listed_at (floor_of v.cut) (slice_get v.tree iter.shard))
       → Err refusal.NoShard ≡ answer_of (get_records log v.clock iter limit)
   records_unlisted iter limit own young h =
       sym (ap answer_of (sym (records_by iter limit own)
@@ -198,22 +262,38 @@ module _ (v : StreamValue) (log : Journal) (show : Shows v log) where
 
   -- the reply, by whether the shard ends
   reply_by : (b : Bool) (sh place : ℕ) (rs : List Logged) → ends_at log v.clock v.no sh place ≡ b
-      → records_reply log v.clock v.no sh rs place ≡ Accepted [] (if b then reply.Records (map stored rs) None (behind v.clock (left_from log v.clock v.no sh place)) (map shown (children log v.no sh)) else reply.Records (map stored rs) (Some (iterator_at v.clock v.no sh place)) (behind v.clock (left_from log v.clock v.no sh place)) [])
-  reply_by b sh place rs is = ap (λ c. Accepted [] (if c then reply.Records (map stored rs) None (behind v.clock (left_from log v.clock v.no sh place)) (map shown (children log v.no sh)) else reply.Records (map stored rs) (Some (iterator_at v.clock v.no sh place)) (behind v.clock (left_from log v.clock v.no sh place)) [])) is
+      → records_reply log v.clock v.no sh rs place
+      ≡ Accepted [] (if b then reply.Records (map stored rs) None
+      (behind v.clock (left_from log v.clock v.no sh place)) (map shown (children log v.no sh)) else reply.Records
+      (map stored rs) (Some (iterator_at v.clock v.no sh place))
+      (behind v.clock (left_from log v.clock v.no sh place)) [])
+  reply_by b sh place rs is =
+      ap (λ c. Accepted [] (if c then reply.Records (map stored rs) None
+      (behind v.clock (left_from log v.clock v.no sh place)) (map shown (children log v.no sh)) else reply.Records
+      (map stored rs) (Some (iterator_at v.clock v.no sh place))
+      (behind v.clock (left_from log v.clock v.no sh place)) [])) is
 
-  module _ (iter : Iter) (limit place : ℕ) (y : Shard) (l : LogValue) (left : Option ℕ) (items : List Stored) (ago : ℕ) (own : iter.stream ≡ v.no) (young : false ≡ is_old v.clock iter.issued)
-      (is : Some y ≡ option_map shown (listed_at (floor_of v.cut) (slice_get v.tree iter.shard))) (below : iter.shard < length v.logs) (at : l ≡ get_or v.logs iter.shard l)
-      (taken : items ≡ map stored (batch_among (floor_of v.cut) iter.position limit l.kept)) (after : place ≡ place_after iter.position (numbers_of (batch_among (floor_of v.cut) iter.position limit l.kept)))
-      (first : left ≡ first_arrival (left_among (floor_of v.cut) place l.kept)) (since : ago ≡ behind_by v.clock left) where
-    replied : get_records log v.clock iter limit ≡ records_reply log v.clock v.no iter.shard (batch_among (floor_of v.cut) iter.position limit l.kept) place
+  module _ (iter : Iter) (limit place : ℕ) (y : Shard) (l : LogValue) (left : Option ℕ) (items : List Stored) (ago : ℕ)
+      (own : iter.stream ≡ v.no) (young : false ≡ is_old v.clock iter.issued)
+      (is : Some y ≡ option_map shown (listed_at (floor_of v.cut) (slice_get v.tree iter.shard)))
+      (below : iter.shard < length v.logs) (at : l ≡ get_or v.logs iter.shard l)
+      (taken : items ≡ map stored (batch_among (floor_of v.cut) iter.position limit l.kept))
+      (after : place ≡ place_after iter.position
+      (numbers_of (batch_among (floor_of v.cut) iter.position limit l.kept)))
+      (first : left ≡ first_arrival (left_among (floor_of v.cut) place l.kept))
+      (since : ago ≡ behind_by v.clock left) where
+    replied : get_records log v.clock iter limit
+        ≡ records_reply log v.clock v.no iter.shard (batch_among (floor_of v.cut) iter.position limit l.kept) place
     replied =
         let has = has_state (floor_of v.cut) (slice_get v.tree iter.shard) y is in
         sym (records_by iter limit own)
         ∙ passed_if _ _ _ (sym young)
         ∙ passed_if _ _ _ (ap not show.stored.live)
         ∙ passed_if _ _ _ (ap not (listed_is iter.shard ∙ has.listed))
-        ∙ ap (λ rs. records_reply log v.clock v.no iter.shard rs (place_after iter.position (numbers_of rs))) (batch_is v log show iter.shard l below at iter.position limit)
-        ∙ ap (λ p. records_reply log v.clock v.no iter.shard (batch_among (floor_of v.cut) iter.position limit l.kept) p) (sym after)
+        ∙ ap (λ rs. records_reply log v.clock v.no iter.shard rs (place_after iter.position (numbers_of rs)))
+        (batch_is v log show iter.shard l below at iter.position limit)
+        ∙ ap (λ p. records_reply log v.clock v.no iter.shard (batch_among (floor_of v.cut) iter.position limit l.kept)
+        p) (sym after)
 
     ends : ends_at log v.clock v.no iter.shard place ≡ (is_some y.end && is_none left)
     ends =
@@ -221,21 +301,31 @@ module _ (v : StreamValue) (log : Journal) (show : Shows v log) where
         ends_is iter.shard place y has.state l left has.at has.is_shown below at first
 
     behind_is : behind v.clock (left_from log v.clock v.no iter.shard place) ≡ ago
-    behind_is = ap (behind v.clock) (left_is v log show iter.shard l below at place) ∙ behind_first v.clock (left_among (floor_of v.cut) place l.kept) ∙ ap (behind_by v.clock) (sym first) ∙ sym since
+    behind_is = ap (behind v.clock) (left_is v log show iter.shard l below at place)
+        ∙ behind_first v.clock (left_among (floor_of v.cut) place l.kept) ∙ ap (behind_by v.clock) (sym first)
+        ∙ sym since
 
-    pub records_end : (after_it : List Shard) → true ≡ (is_some y.end && is_none left) → after_it ≡ map shown (children_among iter.shard v.tree)
+    pub records_end : (after_it : List Shard) → true ≡ (is_some y.end && is_none left)
+        → after_it ≡ map shown (children_among iter.shard v.tree)
         → Ok (reply.Records items None ago after_it) ≡ answer_of (get_records log v.clock iter limit)
     records_end after_it ended are =
-        sym (ap answer_of (replied ∙ reply_by true iter.shard place (batch_among (floor_of v.cut) iter.position limit l.kept) (ends ∙ sym ended))
-        ∙ ap (λ xs. Ok (reply.Records xs None (behind v.clock (left_from log v.clock v.no iter.shard place)) (map shown (children log v.no iter.shard)))) (sym taken)
+        sym (ap answer_of (replied
+        ∙ reply_by true iter.shard place (batch_among (floor_of v.cut) iter.position limit l.kept) (ends
+        ∙ sym ended))
+        ∙ ap (λ xs. Ok (reply.Records xs None (behind v.clock (left_from log v.clock v.no iter.shard place))
+        (map shown (children log v.no iter.shard)))) (sym taken)
         ∙ ap (λ n. Ok (reply.Records items None n (map shown (children log v.no iter.shard)))) behind_is
         ∙ ap (λ xs. Ok (reply.Records items None ago (map shown (children_among iter.shard xs)))) show.stored.shards_are
         ∙ ap (λ xs. Ok (reply.Records items None ago xs)) (sym are))
 
     pub records_more : (none : List Shard) → false ≡ (is_some y.end && is_none left) → none ≡ []
-        → Ok (reply.Records items (Some (iterator_at v.clock v.no iter.shard place)) ago none) ≡ answer_of (get_records log v.clock iter limit)
+        → Ok (reply.Records items (Some (iterator_at v.clock v.no iter.shard place)) ago none)
+        ≡ answer_of (get_records log v.clock iter limit)
     records_more none ended are =
-        sym (ap answer_of (replied ∙ reply_by false iter.shard place (batch_among (floor_of v.cut) iter.position limit l.kept) (ends ∙ sym ended))
-        ∙ ap (λ xs. Ok (reply.Records xs (Some (iterator_at v.clock v.no iter.shard place)) (behind v.clock (left_from log v.clock v.no iter.shard place)) [])) (sym taken)
+        sym (ap answer_of (replied
+        ∙ reply_by false iter.shard place (batch_among (floor_of v.cut) iter.position limit l.kept) (ends
+        ∙ sym ended))
+        ∙ ap (λ xs. Ok (reply.Records xs (Some (iterator_at v.clock v.no iter.shard place))
+        (behind v.clock (left_from log v.clock v.no iter.shard place)) [])) (sym taken)
         ∙ ap (λ n. Ok (reply.Records items (Some (iterator_at v.clock v.no iter.shard place)) n [])) behind_is
         ∙ ap (λ xs. Ok (reply.Records items (Some (iterator_at v.clock v.no iter.shard place)) ago xs)) (sym are))

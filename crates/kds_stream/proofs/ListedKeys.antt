@@ -1,5 +1,6 @@
 -- The keys of the listed shards, one shard after another.
-use Rattle.std.proofs.Common.{◌≡◌, ℕ, zero, suc, ◌+◌, Bool, true, false, List, [], ◌∷◌, ◌++◌, drop, Some, None, refl, sym, ap, ◌∙◌, arith}
+use Rattle.std.proofs.Common.{◌≡◌, ℕ, zero, suc, ◌+◌, Bool, true, false, List, [], ◌∷◌, ◌++◌, drop, Some, None, refl}
+use Rattle.std.proofs.Common.{sym, ap, ◌∙◌, arith}
 use Rattle.std.specs.Prelude.{cond, not, slice_get, if◌then◌else◌}
 use Rattle.std.specs.Option.{option_map}
 use Rattle.std.proofs.lemmas.List.{append_assoc}
@@ -15,10 +16,12 @@ module _ (floor s : ℕ) where
   abbrev pub keys_among : List ShardState → List ShardRef
   keys_among xs = refs_of s (listed_among floor xs)
 
-  first_some : (x : ShardState) (xs : List ShardState) (y : Shard) (b : Bool) → Some y ≡ option_map shown (if b then None else Some x)
+  first_some : (x : ShardState) (xs : List ShardState) (y : Shard) (b : Bool)
+      → Some y ≡ option_map shown (if b then None else Some x)
       → refs_of s (cond (not b) (x ∷ listed_among floor xs) (listed_among floor xs)) ≡ ref s y.no ∷ keys_among xs
   first_some x xs y true h = absurd cc
-  first_some x xs y false h = let e : y ≡ shown x = same y (shown x) h in ap (λ (z : Shard). ref s z.no ∷ keys_among xs) (sym e)
+  first_some x xs y false h = let e : y ≡ shown x = same y (shown x) h in
+      ap (λ (z : Shard). ref s z.no ∷ keys_among xs) (sym e)
     where
       same : (a b : Shard) → Some a ≡ Some b → a ≡ b
       same a b h = cc
@@ -28,19 +31,22 @@ module _ (floor s : ℕ) where
   first_none x xs true h = refl
   first_none x xs false h = absurd cc
 
-  next_some : (i : ℕ) (xs : List ShardState) (y : Shard) → Some y ≡ option_map shown (listed_at floor (slice_get xs i)) → keys_among (drop i xs) ≡ ref s y.no ∷ keys_among (drop (suc i) xs)
+  next_some : (i : ℕ) (xs : List ShardState) (y : Shard) → Some y ≡ option_map shown (listed_at floor (slice_get xs i))
+      → keys_among (drop i xs) ≡ ref s y.no ∷ keys_among (drop (suc i) xs)
   next_some i [] y h = absurd cc
   next_some zero (x ∷ xs) y h = first_some x xs y (is_closed_below floor x) h
   next_some (suc i) (x ∷ xs) y h = next_some i xs y h
 
-  next_none : (i : ℕ) (xs : List ShardState) → None ≡ option_map shown (listed_at floor (slice_get xs i)) → keys_among (drop i xs) ≡ keys_among (drop (suc i) xs)
+  next_none : (i : ℕ) (xs : List ShardState) → None ≡ option_map shown (listed_at floor (slice_get xs i))
+      → keys_among (drop i xs) ≡ keys_among (drop (suc i) xs)
   next_none zero [] h = refl
   next_none (suc i) [] h = refl
   next_none zero (x ∷ xs) h = first_none x xs (is_closed_below floor x) h
   next_none (suc i) (x ∷ xs) h = next_none i xs h
 
   -- the keys so far and those that are left, before and after a shard
-  pub more_keys : (i : ℕ) (xs : List ShardState) (y : Shard) (keys new : List ShardRef) → Some y ≡ option_map shown (listed_at floor (slice_get xs i)) → new ≡ keys ++ (ref s y.no ∷ [])
+  pub more_keys : (i : ℕ) (xs : List ShardState) (y : Shard) (keys new : List ShardRef)
+      → Some y ≡ option_map shown (listed_at floor (slice_get xs i)) → new ≡ keys ++ (ref s y.no ∷ [])
       → new ++ keys_among (drop (i + 1) xs) ≡ keys ++ keys_among (drop i xs)
   more_keys i xs y keys new h pushed =
       let one : i + 1 ≡ suc i = omega arith in
@@ -49,7 +55,9 @@ module _ (floor s : ℕ) where
       ∙ ap (λ j. keys ++ ref s y.no ∷ keys_among (drop j xs)) one
       ∙ ap (λ ks. keys ++ ks) (sym (next_some i xs y h))
 
-  pub same_keys : (i : ℕ) (xs : List ShardState) (keys : List ShardRef) → None ≡ option_map shown (listed_at floor (slice_get xs i)) → keys ++ keys_among (drop (i + 1) xs) ≡ keys ++ keys_among (drop i xs)
+  pub same_keys : (i : ℕ) (xs : List ShardState) (keys : List ShardRef)
+      → None ≡ option_map shown (listed_at floor (slice_get xs i))
+      → keys ++ keys_among (drop (i + 1) xs) ≡ keys ++ keys_among (drop i xs)
   same_keys i xs keys h =
       let one : i + 1 ≡ suc i = omega arith in
       ap (λ j. keys ++ keys_among (drop j xs)) one ∙ ap (λ ks. keys ++ ks) (sym (next_none i xs h))

@@ -1,5 +1,6 @@
 -- The logs of a stream: one record more, and the trim.
-use Rattle.std.proofs.Common.{◌≡◌, ℕ, zero, suc, ◌≤◌, List, [], ◌∷◌, ◌++◌, length, get_or, map, take, drop, Option, Some, None, refl, ap, ◌∙◌, arith}
+use Rattle.std.proofs.Common.{◌≡◌, ℕ, zero, suc, ◌≤◌, List, [], ◌∷◌, ◌++◌, length, get_or, map, take, drop, Option}
+use Rattle.std.proofs.Common.{Some, None, refl, ap, ◌∙◌, arith}
 use Rattle.std.specs.List.{AllByRecursion}
 use Rattle.std.proofs.lemmas.List.{append_assoc, map-append, take_at}
 use Rattle.kds_base.proofs.Facts.{all_weaker}
@@ -10,12 +11,16 @@ use Rattle.kds_stream_logs.specs.Logs.{HasArrived, IsBelow, IsUnder, empty_log, 
 -- ---- facts of each
 
 -- what arrived at or before a moment arrived at or before a later one
-pub arrived_later : (moment later : ℕ) (ls : List LogValue) → moment ≤ later → AllByRecursion (HasArrived moment) ls → AllByRecursion (HasArrived later) ls
+pub arrived_later : (moment later : ℕ) (ls : List LogValue) → moment ≤ later → AllByRecursion (HasArrived moment) ls
+    → AllByRecursion (HasArrived later) ls
 arrived_later moment later ls le h =
-    all_weaker (HasArrived moment) (HasArrived later) (λ l a. all_weaker (λ (r : Logged). r.arrival ≤ moment) (λ (r : Logged). r.arrival ≤ later) (λ r early. omega (arith, early)) l.kept a) ls h
+    all_weaker (HasArrived moment) (HasArrived later)
+    (λ l a. all_weaker (λ (r : Logged). r.arrival ≤ moment) (λ (r : Logged). r.arrival ≤ later)
+    (λ r early. omega (arith, early)) l.kept a) ls h
 
 -- numbers below one are below a greater one
-pub below_higher : (next higher : ℕ) (ls : List LogValue) → next ≤ higher → AllByRecursion (IsBelow next) ls → AllByRecursion (IsBelow higher) ls
+pub below_higher : (next higher : ℕ) (ls : List LogValue) → next ≤ higher → AllByRecursion (IsBelow next) ls
+    → AllByRecursion (IsBelow higher) ls
 below_higher next higher ls le h = all_weaker (IsBelow next) (IsBelow higher) (λ l a. under l.last a) ls h
   where
     under : (last : Option ℕ) → IsUnder next last → IsUnder higher last
@@ -23,13 +28,15 @@ below_higher next higher ls le h = all_weaker (IsBelow next) (IsBelow higher) (�
     under (Some n) a = omega arith
 
 -- a list that is written over the whole of another
-pub written_back : {A : Type 0} (n : ℕ) (new old : List A) → length new ≡ n → take n (new ++ drop (length new) old) ≡ new
+pub written_back : {A : Type 0} (n : ℕ) (new old : List A) → length new ≡ n
+    → take n (new ++ drop (length new) old) ≡ new
 written_back n new old h = take_at new (drop (length new) old) n h
 
 -- ---- one record more in the log at a place
 
 -- the log at a place
-pub log_at : (ls : List LogWithRoom) (i : ℕ) (l : LogWithRoom) → l ≡ get_or ls i l → log_of l ≡ get_or (map log_of ls) i (log_of l)
+pub log_at : (ls : List LogWithRoom) (i : ℕ) (l : LogWithRoom) → l ≡ get_or ls i l
+    → log_of l ≡ get_or (map log_of ls) i (log_of l)
 log_at [] i l is = refl
 log_at (x ∷ ls) zero l is = ap log_of is
 log_at (x ∷ ls) (suc i) l is = log_at ls i l is
@@ -41,7 +48,8 @@ length-appended (suc i) r (l ∷ ls) = ap suc (length-appended i r ls)
 
 -- the logs with a record more in the one at a place, and without what is trimmed there, where they were lent to the
 -- call that puts it there
-pub put_back : (n sh i floor : ℕ) (r : Logged) (new items lent : List LogWithRoom) → length new ≡ n → map log_of new ≡ settled_at floor i (with_appended i r (map log_of lent)) → lent ≡ items → i ≡ sh
+pub put_back : (n sh i floor : ℕ) (r : Logged) (new items lent : List LogWithRoom) → length new ≡ n
+    → map log_of new ≡ settled_at floor i (with_appended i r (map log_of lent)) → lent ≡ items → i ≡ sh
     → map log_of (take n (new ++ drop (length new) items)) ≡ settled_at floor sh (with_appended sh r (map log_of items))
 put_back n sh i floor r new items lent len is same at =
     ap (map log_of) (written_back n new items len)
@@ -51,18 +59,24 @@ put_back n sh i floor r new items lent len is same at =
 
 -- ---- further logs, in memory that was reserved
 
-pub one_more_log : (new reserved : List LogWithRoom) (before : List LogValue) (l : LogWithRoom) → new ≡ reserved ++ l ∷ [] → map log_of reserved ≡ before → log_of l ≡ empty_log → map log_of new ≡ before ++ (empty_log ∷ [])
+pub one_more_log : (new reserved : List LogWithRoom) (before : List LogValue) (l : LogWithRoom)
+    → new ≡ reserved ++ l ∷ [] → map log_of reserved ≡ before → log_of l ≡ empty_log
+    → map log_of new ≡ before ++ (empty_log ∷ [])
 one_more_log new reserved before l pushed same is =
     ap (map log_of) pushed ∙ map-append log_of reserved (l ∷ []) ∙ ap (λ (ls : List LogValue). ls ++ log_of l ∷ []) same
     ∙ ap (λ (x : LogValue). before ++ x ∷ []) is
 
-pub two_more : (new one reserved : List LogWithRoom) (before : List LogValue) (l m : LogWithRoom) → new ≡ one ++ m ∷ [] → one ≡ reserved ++ l ∷ [] → map log_of reserved ≡ before → log_of l ≡ empty_log → log_of m ≡ empty_log → map log_of new ≡ before ++ (empty_log ∷ empty_log ∷ [])
+pub two_more : (new one reserved : List LogWithRoom) (before : List LogValue) (l m : LogWithRoom) → new ≡ one ++ m ∷ []
+    → one ≡ reserved ++ l ∷ [] → map log_of reserved ≡ before → log_of l ≡ empty_log → log_of m ≡ empty_log
+    → map log_of new ≡ before ++ (empty_log ∷ empty_log ∷ [])
 two_more new one reserved before l m second first same is other =
     one_more_log new one (before ++ (empty_log ∷ [])) m second (one_more_log one reserved before l first same is) other
     ∙ append_assoc before (empty_log ∷ []) (empty_log ∷ [])
 
 -- what holds of each log holds after, if it holds of the one with the record more
-pub all-appended : (P Q : LogValue → Type 0) (i : ℕ) (r : Logged) → ((l : LogValue) → P l → Q l) → ((l : LogValue) → P l → Q (record { kept = l.kept ++ r ∷ []; last = Some r.seq })) → (ls : List LogValue) → AllByRecursion P ls → AllByRecursion Q (with_appended i r ls)
+pub all-appended : (P Q : LogValue → Type 0) (i : ℕ) (r : Logged) → ((l : LogValue) → P l → Q l)
+    → ((l : LogValue) → P l → Q (record { kept = l.kept ++ r ∷ []; last = Some r.seq })) → (ls : List LogValue)
+    → AllByRecursion P ls → AllByRecursion Q (with_appended i r ls)
 all-appended P Q i r others here [] h = tt
 all-appended P Q zero r others here (l ∷ ls) h = (here l h.0, all_weaker P Q others ls h.1)
 all-appended P Q (suc i) r others here (l ∷ ls) h = (others l h.0, all-appended P Q i r others here ls h.1)
@@ -75,7 +89,8 @@ length-settled floor zero (l ∷ ls) = refl
 length-settled floor (suc n) (l ∷ ls) = ap suc (length-settled floor n ls)
 
 -- what holds of each log, whatever is trimmed, holds after
-pub all-settled : (P : LogValue → Type 0) (floor n : ℕ) → ((l : LogValue) → P l → P (settled_log floor l)) → (ls : List LogValue) → AllByRecursion P ls → AllByRecursion P (settled_at floor n ls)
+pub all-settled : (P : LogValue → Type 0) (floor n : ℕ) → ((l : LogValue) → P l → P (settled_log floor l))
+    → (ls : List LogValue) → AllByRecursion P ls → AllByRecursion P (settled_at floor n ls)
 all-settled P floor n f [] h = tt
 all-settled P floor zero f (l ∷ ls) h = (f l h.0, h.1)
 all-settled P floor (suc n) f (l ∷ ls) h = (h.0, all-settled P floor n f ls h.1)

@@ -1,5 +1,6 @@
 -- A new stream: it is one, and what it shows.
-use Rattle.std.proofs.Common.{◌≡◌, ℕ, zero, suc, ◌+◌, ◌*◌, ◌/◌, ◌^◌, ◌≤◌, false, List, [], ◌∷◌, length, Option, refl, sym, ap, subst, ◌∙◌, arith}
+use Rattle.std.proofs.Common.{◌≡◌, ℕ, zero, suc, ◌+◌, ◌*◌, ◌/◌, ◌^◌, ◌≤◌, false, List, [], ◌∷◌, length, Option, refl}
+use Rattle.std.proofs.Common.{sym, ap, subst, ◌∙◌, arith}
 use Rattle.std.specs.Prelude.{◌==◌, replicate}
 use Rattle.std.specs.List.{AllByRecursion, filter}
 use Rattle.std.proofs.lemmas.List.{length-replicate}
@@ -38,10 +39,13 @@ pub all_replicate : {A : Type 0} (P : A → Type 0) (n : ℕ) (x : A) → P x �
 all_replicate P zero x h = tt
 all_replicate P (suc n) x h = (h, all_replicate P n x h)
 
-kept_none : (floor : ℕ) (log : Journal) (s n count : ℕ) → ((sh : ℕ) → records log s sh ≡ []) → AreKept floor log s n (replicate count empty_log)
+kept_none : (floor : ℕ) (log : Journal) (s n count : ℕ) → ((sh : ℕ) → records log s sh ≡ [])
+    → AreKept floor log s n (replicate count empty_log)
 kept_none floor log s n zero none = tt
-kept_none floor log s n (suc count) none =
-    (record { from = 0; early = omega arith; rest = ap (left_among 0 0) (sym (none n)) }, kept_none floor log s (n + 1) count none)
+kept_none floor log s n (suc count) none = (
+  record { from = 0; early = omega arith; rest = ap (left_among 0 0) (sym (none n)) },
+  kept_none floor log s (n + 1) count none,
+)
 
 -- ---- the stream
 
@@ -56,7 +60,8 @@ few_made : (count : ℕ) → IsShardCount count → length (filter is_open (made
 few_made count h = omega (arith, h.1, open_first 0 1 (uniform count), length_uniform (2 ^ 128 / count) 0 count)
 
 -- a stream as it is made
-abbrev pub new_value : ℕ → ℕ → List ℕ → List ShardState → List LogValue → List WindowValue → Option ℕ → Option ℕ → StreamValue
+abbrev pub new_value : ℕ → ℕ → List ℕ → List ShardState → List LogValue → List WindowValue → Option ℕ → Option ℕ
+    → StreamValue
 new_value s made name tree logs windows cut cut_before = record {
   no = s;
   name = name;
@@ -74,39 +79,52 @@ new_value s made name tree logs windows cut cut_before = record {
   turn = 0;
 }
 
-pub new_stream : (s : ℕ) (name : List ℕ) (made count : ℕ) (tree : List ShardState) (logs : List LogValue) (windows : List WindowValue)
+pub new_stream : (s : ℕ) (name : List ℕ) (made count : ℕ) (tree : List ShardState) (logs : List LogValue)
+    (windows : List WindowValue)
     → (cut cut_before : Option ℕ) → IsShardCount count → tree ≡ made_shards count 1 → logs ≡ replicate count empty_log
-    → length windows ≡ count → AllByRecursion IsUnused windows → cut ≡ cut_at made FIRST_HOURS → cut_before ≡ cut_at made FIRST_HOURS
+    → length windows ≡ count → AllByRecursion IsUnused windows → cut ≡ cut_at made FIRST_HOURS
+    → cut_before ≡ cut_at made FIRST_HOURS
     → IsStream (new_value s made name tree logs windows cut cut_before)
-new_stream s name made count tree logs windows cut cut_before counted shards_are logs_are many unused is is_before = record {
-  as_many = ap length logs_are ∙ length-replicate count empty_log ∙ sym (length-made count 1) ∙ ap length (sym shards_are);
-  few = subst (λ (xs : List ShardState). length (filter is_open xs) ≤ OPEN_SHARDS) (sym shards_are) (few_made count counted);
-  lasting = (omega arith, omega arith);
-  numbers = subst (AllByRecursion (IsBelow 1)) (sym logs_are) (all_replicate (IsBelow 1) count empty_log tt);
-  endings = subst (AllByRecursion (EndsUnder 1)) (sym shards_are) (all_first 1 0 1 (uniform count));
-  arrivals = subst (AllByRecursion (HasArrived made)) (sym logs_are) (all_replicate (HasArrived made) count empty_log tt);
-  order = omega arith;
-  trims = trims_new made cut is;
-  trims_before = trims_new made cut_before is_before;
-  rated = record { as_many = many ∙ sym (length-made count 1) ∙ ap length (sym shards_are); counted = counted_unused made windows unused };
-  drawn = omega arith;
-  fits = omega arith;
-}
+new_stream s name made count tree logs windows cut cut_before counted shards_are logs_are many unused is is_before =
+    record {
+      as_many = ap length logs_are ∙ length-replicate count empty_log ∙ sym (length-made count 1)
+          ∙ ap length (sym shards_are);
+      few = subst (λ (xs : List ShardState). length (filter is_open xs) ≤ OPEN_SHARDS) (sym shards_are)
+          (few_made count counted);
+      lasting = (omega arith, omega arith);
+      numbers = subst (AllByRecursion (IsBelow 1)) (sym logs_are) (all_replicate (IsBelow 1) count empty_log tt);
+      endings = subst (AllByRecursion (EndsUnder 1)) (sym shards_are) (all_first 1 0 1 (uniform count));
+      arrivals = subst (AllByRecursion (HasArrived made)) (sym logs_are)
+          (all_replicate (HasArrived made) count empty_log tt);
+      order = omega arith;
+      trims = trims_new made cut is;
+      trims_before = trims_new made cut_before is_before;
+      rated = record {
+        as_many = many ∙ sym (length-made count 1) ∙ ap length (sym shards_are);
+        counted = counted_unused made windows unused;
+      };
+      drawn = omega arith;
+      fits = omega arith;
+    }
 
 module _ (log : Journal) (by s : ℕ) (name : List ℕ) (made count : ℕ) (fresh : IsFresh log s) where
   drawn : next_number (plain_line made by (entry.Made s name count) ∷ log) s ≡ 1
   drawn = omega (arith, fresh.undrawn)
 
-  floor_made : (cut : Option ℕ) → cut ≡ cut_at made FIRST_HOURS → trim_floor (plain_line made by (entry.Made s name count) ∷ log) made s ≡ floor_of cut
+  floor_made : (cut : Option ℕ) → cut ≡ cut_at made FIRST_HOURS
+      → trim_floor (plain_line made by (entry.Made s name count) ∷ log) made s ≡ floor_of cut
   floor_made cut is =
-      first_floor log (plain_line made by (entry.Made s name count)) s (or_left (s == s) (was_made log s) (is_itself s)) fresh.unmade fresh.no_floor
+      first_floor log (plain_line made by (entry.Made s name count)) s (or_left (s == s) (was_made log s) (is_itself s))
+      fresh.unmade fresh.no_floor
       ∙ ap (λ h. floor_at made (h * HOUR)) (chosen (s == s) FIRST_HOURS (hours log s) (is_itself s))
       ∙ sym (cut_floor made FIRST_HOURS)
       ∙ ap floor_of (sym is)
 
-  pub shows_new : (tree : List ShardState) (logs : List LogValue) (windows : List WindowValue) (cut cut_before : Option ℕ) → tree ≡ made_shards count 1
+  pub shows_new : (tree : List ShardState) (logs : List LogValue) (windows : List WindowValue)
+      (cut cut_before : Option ℕ) → tree ≡ made_shards count 1
       → logs ≡ replicate count empty_log → AllByRecursion IsUnused windows → cut ≡ cut_at made FIRST_HOURS
-      → Shows (new_value s made name tree logs windows cut cut_before) (plain_line made by (entry.Made s name count) ∷ log)
+      → Shows (new_value s made name tree logs windows cut cut_before) (plain_line made by (entry.Made s name count)
+      ∷ log)
   shows_new tree logs windows cut cut_before shards_are logs_are unused is = record {
     stored = record {
       live = or_left (s == s) (is_live log s) (is_itself s);

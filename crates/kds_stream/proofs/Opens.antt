@@ -1,5 +1,6 @@
 -- How many shards a split and a merge leave open.
-use Rattle.std.proofs.Common.{◌≡◌, ℕ, zero, suc, ◌+◌, ◌<◌, ◌≤◌, Bool, true, false, List, [], ◌∷◌, ◌++◌, length, Option, Some, None, refl, sym, ap, ◌∙◌, arith, length-append}
+use Rattle.std.proofs.Common.{◌≡◌, ℕ, zero, suc, ◌+◌, ◌<◌, ◌≤◌, Bool, true, false, List, [], ◌∷◌, ◌++◌, length, Option}
+use Rattle.std.proofs.Common.{Some, None, refl, sym, ap, ◌∙◌, arith, length-append}
 use Rattle.std.specs.Prelude.{cond, not, slice_get, if◌then◌else◌}
 use Rattle.std.specs.List.{filter}
 use Rattle.std.proofs.lemmas.List.Elements.{filter-append}
@@ -7,7 +8,8 @@ use Rattle.kds_base.specs.Span.{joined, lower_part, upper_part}
 use Rattle.kds_base.proofs.Facts.{both_left}
 use Rattle.kds_defs.specs.declared.limits.TheConstants.{OPEN_SHARDS}
 use Rattle.kds_defs.specs.declared.reply.Refusal.{Refusal}
-use Rattle.kds_defs.specs.Shards.{Closing, ShardState, is_open, merged_shards, new_shard, range_of, split_shards, with_closed}
+use Rattle.kds_defs.specs.Shards.{Closing, ShardState, is_open, merged_shards, new_shard, range_of, split_shards}
+use Rattle.kds_defs.specs.Shards.{with_closed}
 use Rattle.kds_defs.specs.StreamCommands.{is_open_at}
 use Rattle.kds_tree.specs.Tree.{merge_refusal, split_refusal}
 
@@ -20,7 +22,8 @@ one_more : (b : Bool) (x : ShardState) (xs : List ShardState) → b ≡ true →
 one_more true x xs h = refl
 one_more false x xs h = absurd cc
 
-at_least : (b : Bool) (x : ShardState) (xs ys : List ShardState) → length xs ≤ length ys → length (cond b (x ∷ xs) xs) ≤ length (cond b (x ∷ ys) ys)
+at_least : (b : Bool) (x : ShardState) (xs ys : List ShardState) → length xs ≤ length ys
+    → length (cond b (x ∷ xs) xs) ≤ length (cond b (x ∷ ys) ys)
 at_least true x xs ys h = omega arith
 at_least false x xs ys h = h
 
@@ -29,20 +32,26 @@ no_less true x xs = omega arith
 no_less false x xs = omega arith
 
 -- closing one leaves no more open
-open_closed : (sh : ℕ) (closing : Closing) (xs : List ShardState) → open_among (with_closed sh closing xs) ≤ open_among xs
+open_closed : (sh : ℕ) (closing : Closing) (xs : List ShardState)
+    → open_among (with_closed sh closing xs) ≤ open_among xs
 open_closed sh closing [] = omega arith
 open_closed zero closing (x ∷ xs) = no_less (is_open x) x (filter is_open xs)
-open_closed (suc sh) closing (x ∷ xs) = at_least (is_open x) x (filter is_open (with_closed sh closing xs)) (filter is_open xs) (open_closed sh closing xs)
+open_closed (suc sh) closing (x ∷ xs) =
+    at_least (is_open x) x (filter is_open (with_closed sh closing xs)) (filter is_open xs) (open_closed sh closing xs)
 
-both_more : (b : Bool) (x : ShardState) (xs ys : List ShardState) → suc (length xs) ≡ length ys → suc (length (cond b (x ∷ xs) xs)) ≡ length (cond b (x ∷ ys) ys)
+both_more : (b : Bool) (x : ShardState) (xs ys : List ShardState) → suc (length xs) ≡ length ys
+    → suc (length (cond b (x ∷ xs) xs)) ≡ length (cond b (x ∷ ys) ys)
 both_more true x xs ys h = ap suc h
 both_more false x xs ys h = h
 
 -- and one less where it was open
-open_fewer : (sh : ℕ) (closing : Closing) (xs : List ShardState) → is_open_at (slice_get xs sh) ≡ true → suc (open_among (with_closed sh closing xs)) ≡ open_among xs
+open_fewer : (sh : ℕ) (closing : Closing) (xs : List ShardState) → is_open_at (slice_get xs sh) ≡ true
+    → suc (open_among (with_closed sh closing xs)) ≡ open_among xs
 open_fewer sh closing [] h = absurd cc
 open_fewer zero closing (x ∷ xs) h = sym (one_more (is_open x) x (filter is_open xs) h)
-open_fewer (suc sh) closing (x ∷ xs) h = both_more (is_open x) x (filter is_open (with_closed sh closing xs)) (filter is_open xs) (open_fewer sh closing xs h)
+open_fewer (suc sh) closing (x ∷ xs) h =
+    both_more (is_open x) x (filter is_open (with_closed sh closing xs)) (filter is_open xs)
+    (open_fewer sh closing xs h)
 
 open-append : (xs ys : List ShardState) → open_among (xs ++ ys) ≡ open_among xs + open_among ys
 open-append xs ys = ap length (filter-append is_open xs ys) ∙ length-append (filter is_open xs) (filter is_open ys)
@@ -56,17 +65,31 @@ passed false r o h = absurd cc
 splits_open : (xs : List ShardState) (sh at : ℕ) → split_refusal xs sh at ≡ None → is_open_at (slice_get xs sh) ≡ true
 splits_open xs sh at passes = (passed _ _ _ (passed _ _ _ passes).1).0
 
-merges_open : (xs : List ShardState) (sh other : ℕ) → merge_refusal xs sh other ≡ None → is_open_at (slice_get xs sh) ≡ true
+merges_open : (xs : List ShardState) (sh other : ℕ) → merge_refusal xs sh other ≡ None
+    → is_open_at (slice_get xs sh) ≡ true
 merges_open xs sh other passes = both_left _ _ (passed _ _ _ (passed _ _ _ passes).1).0
 
 -- ---- the limit
 
-pub few_split : (xs : List ShardState) (sh at start : ℕ) (closing : Closing) → open_among xs < OPEN_SHARDS → split_refusal xs sh at ≡ None → open_among (split_shards sh at closing start xs) ≤ OPEN_SHARDS
+pub few_split : (xs : List ShardState) (sh at start : ℕ) (closing : Closing) → open_among xs < OPEN_SHARDS
+    → split_refusal xs sh at ≡ None → open_among (split_shards sh at closing start xs) ≤ OPEN_SHARDS
 few_split xs sh at start closing few passes =
-    let children = new_shard (length xs) (lower_part (range_of (slice_get xs sh)) at) (Some sh) None start ∷ new_shard (length xs + 1) (upper_part (range_of (slice_get xs sh)) at) (Some sh) None start ∷ [] in
-    omega (arith, open-append (with_closed sh closing xs) children, open_fewer sh closing xs (splits_open xs sh at passes))
+    let children = new_shard (length xs) (lower_part (range_of (slice_get xs sh)) at) (Some sh) None start
+    ∷ new_shard (length xs + 1) (upper_part (range_of (slice_get xs sh)) at) (Some sh) None start ∷ [] in
+    omega (
+      arith,
+      open-append (with_closed sh closing xs) children,
+      open_fewer sh closing xs (splits_open xs sh at passes),
+    )
 
-pub few_merged : (xs : List ShardState) (sh other start : ℕ) (closing : Closing) → open_among xs ≤ OPEN_SHARDS → merge_refusal xs sh other ≡ None → open_among (merged_shards sh other closing start xs) ≤ OPEN_SHARDS
+pub few_merged : (xs : List ShardState) (sh other start : ℕ) (closing : Closing) → open_among xs ≤ OPEN_SHARDS
+    → merge_refusal xs sh other ≡ None → open_among (merged_shards sh other closing start xs) ≤ OPEN_SHARDS
 few_merged xs sh other start closing few passes =
-    let child = new_shard (length xs) (joined (range_of (slice_get xs sh)) (range_of (slice_get xs other))) (Some sh) (Some other) start ∷ [] in
-    omega (arith, open-append (with_closed other closing (with_closed sh closing xs)) child, open_closed other closing (with_closed sh closing xs), open_fewer sh closing xs (merges_open xs sh other passes))
+    let child = new_shard (length xs) (joined (range_of (slice_get xs sh)) (range_of (slice_get xs other))) (Some sh)
+    (Some other) start ∷ [] in
+    omega (
+      arith,
+      open-append (with_closed other closing (with_closed sh closing xs)) child,
+      open_closed other closing (with_closed sh closing xs),
+      open_fewer sh closing xs (merges_open xs sh other passes),
+    )

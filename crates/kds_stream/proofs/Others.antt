@@ -13,13 +13,15 @@ use Rattle.kds_stream.specs.Value.{StreamValue}
 
 -- ---- logs that keep the records of one journal keep those of another with the same records
 
-pub kept_along : (floor : ℕ) (log log' : Journal) (s n : ℕ) (ls : List LogValue) → ((sh : ℕ) → records log' s sh ≡ records log s sh)
+pub kept_along : (floor : ℕ) (log log' : Journal) (s n : ℕ) (ls : List LogValue)
+    → ((sh : ℕ) → records log' s sh ≡ records log s sh)
     → AreKept floor log s n ls → AreKept floor log' s n ls
 kept_along floor log log' s n [] same h = tt
 kept_along floor log log' s n (l ∷ ls) same h =
     (subst (λ rs. IsKept floor rs l.kept) (sym (same n)) h.0, kept_along floor log log' s (n + 1) ls same h.1)
 
-pub shows_other : (v : StreamValue) (log : Journal) (line : Line) → Shows v log → line.clock ≡ v.clock → stream_of line.what ≢ Some v.no → Shows v (line ∷ log)
+pub shows_other : (v : StreamValue) (log : Journal) (line : Line) → Shows v log → line.clock ≡ v.clock
+    → stream_of line.what ≢ Some v.no → Shows v (line ∷ log)
 shows_other v log line shown at other =
     let same = same_stream log line v.no other in
     record {
@@ -38,7 +40,8 @@ shows_other v log line shown at other =
       rates =
           record {
             enforced_is = same.enforced_is ∙ shown.rates.enforced_is;
-            stand = stand_along (puts log v.no) (puts (line ∷ log) v.no) 0 v.windows (λ sh any. sym (same.puts_are sh)) shown.rates.stand;
+            stand = stand_along (puts log v.no) (puts (line ∷ log) v.no) 0 v.windows (λ sh any. sym (same.puts_are sh))
+                shown.rates.stand;
             none_beyond = λ sh beyond. same.puts_are sh ∙ shown.rates.none_beyond sh beyond;
           };
     }

@@ -1,5 +1,6 @@
 -- A put: its decision, what the stream shows after it, and that it is a stream still.
-use Rattle.std.proofs.Common.{◌≡◌, ◌≢◌, ℕ, zero, suc, ◌+◌, ◌^◌, ◌<◌, ◌≤◌, Bool, true, false, List, [], ◌∷◌, ◌++◌, length, Option, Some, None, refl, sym, ap, subst, ◌∙◌, arith}
+use Rattle.std.proofs.Common.{◌≡◌, ◌≢◌, ℕ, zero, suc, ◌+◌, ◌^◌, ◌<◌, ◌≤◌, Bool, true, false, List, [], ◌∷◌, ◌++◌}
+use Rattle.std.proofs.Common.{length, Option, Some, None, refl, sym, ap, subst, ◌∙◌, arith}
 use Rattle.std.specs.Prelude.{◌==◌, ◌&&◌, not, nat_le, nat_lt, if◌then◌else◌, Result, Ok, Err}
 use Rattle.std.specs.List.{AllByRecursion, filter}
 use Rattle.std.proofs.lemmas.Bool.Decides.{nat_tests}
@@ -41,38 +42,62 @@ one_more false n m h e = absurd cc
 
 -- ---- what a call owes, of one of two equal values
 
-pub led_along : (decided : StreamValue → Decision) (u u' w : StreamValue) (log : Journal) (a : Result Reply Refusal) → u ≡ u' → (a ≡ answer_of (decided u)) × Shows w (with_lines (lines_of (decided u)) log) → (a ≡ answer_of (decided u')) × Shows w (with_lines (lines_of (decided u')) log)
-led_along decided u u' w log a is h = (h.0 ∙ ap (λ x. answer_of (decided x)) is, subst (λ x. Shows w (with_lines (lines_of (decided x)) log)) is h.1)
+pub led_along : (decided : StreamValue → Decision) (u u' w : StreamValue) (log : Journal) (a : Result Reply Refusal)
+    → u ≡ u' → (a ≡ answer_of (decided u)) × Shows w (with_lines (lines_of (decided u)) log)
+    → (a ≡ answer_of (decided u')) × Shows w (with_lines (lines_of (decided u')) log)
+led_along decided u u' w log a is h =
+    (h.0 ∙ ap (λ x. answer_of (decided x)) is, subst (λ x. Shows w (with_lines (lines_of (decided x)) log)) is h.1)
 
 -- ---- the record that a put stores
 
 abbrev pub put_record : StreamValue → NewItem → Logged
-put_record v item = record { seq = v.next; arrival = v.clock; bytes = length item.payload + length item.key; key = item.key; payload = item.payload }
+put_record v item = record {
+  seq = v.next;
+  arrival = v.clock;
+  bytes = length item.payload + length item.key;
+  key = item.key;
+  payload = item.payload;
+}
 
 -- a record that arrived at the floor or later is kept with the others
-left_one : (from : ℕ) (rs : List Logged) (r : Logged) → from ≤ r.arrival → left_among from 0 (rs ++ r ∷ []) ≡ left_among from 0 rs ++ r ∷ []
+left_one : (from : ℕ) (rs : List Logged) (r : Logged) → from ≤ r.arrival
+    → left_among from 0 (rs ++ r ∷ []) ≡ left_among from 0 rs ++ r ∷ []
 left_one from rs r le =
-    filter-append (is_left from 0) rs (r ∷ []) ∙ ap (λ xs. left_among from 0 rs ++ xs) (chosen (is_left from 0 r) (r ∷ []) [] (late from r.arrival r.seq le))
+    filter-append (is_left from 0) rs (r ∷ [])
+    ∙ ap (λ xs. left_among from 0 rs ++ xs) (chosen (is_left from 0 r) (r ∷ []) [] (late from r.arrival r.seq le))
   where
     late : (from arrival seq : ℕ) → from ≤ arrival → (not (nat_lt arrival from) && nat_le 0 seq) ≡ true
     late from arrival seq h = grind (arith, nat_tests)
 
 -- the logs with the record keep the records of a journal that has it too
-kept_put : (floor : ℕ) (log log' : Journal) (s n i at : ℕ) (r : Logged) (ls : List LogValue) → floor ≤ r.arrival → at ≡ n + i → records log' s at ≡ records log s at ++ r ∷ [] → ((sh : ℕ) → at ≢ sh → records log' s sh ≡ records log s sh)
+kept_put : (floor : ℕ) (log log' : Journal) (s n i at : ℕ) (r : Logged) (ls : List LogValue) → floor ≤ r.arrival
+    → at ≡ n + i → records log' s at ≡ records log s at ++ r ∷ []
+    → ((sh : ℕ) → at ≢ sh → records log' s sh ≡ records log s sh)
     → AreKept floor log s n ls → AreKept floor log' s n (with_appended i r ls)
 kept_put floor log log' s n i at r [] late is here others h = tt
 kept_put floor log log' s n zero at r (l ∷ ls) late is here others h =
     let e : at ≡ n = omega (arith, is) in
-    let here' : records log' s n ≡ records log s n ++ r ∷ [] = subst (λ m. records log' s m ≡ records log s m ++ r ∷ []) e here in
-    let rest : l.kept ++ r ∷ [] ≡ left_among h.0.from 0 (records log s n ++ r ∷ []) = ap (λ rs. rs ++ r ∷ []) h.0.rest ∙ sym (left_one h.0.from (records log s n) r (omega (arith, late, h.0.early))) in
-    (record { from = h.0.from; early = h.0.early; rest = rest ∙ ap (left_among h.0.from 0) (sym here') }, kept_after floor log log' s (n + 1) ls (λ sh beyond. others sh (omega (arith, e, beyond))) h.1)
+    let here' : records log' s n ≡ records log s n ++ r ∷ [] =
+    subst (λ m. records log' s m ≡ records log s m ++ r ∷ []) e here in
+    let rest : l.kept ++ r ∷ [] ≡ left_among h.0.from 0 (records log s n ++ r ∷ []) =
+    ap (λ rs. rs ++ r ∷ []) h.0.rest
+    ∙ sym (left_one h.0.from (records log s n) r (omega (arith, late, h.0.early))) in (
+      record { from = h.0.from; early = h.0.early; rest = rest ∙ ap (left_among h.0.from 0) (sym here') },
+      kept_after floor log log' s (n + 1) ls (λ sh beyond. others sh (omega (arith, e, beyond))) h.1,
+    )
   where
-    kept_after : (floor : ℕ) (log log' : Journal) (s n : ℕ) (ls : List LogValue) → ((sh : ℕ) → n ≤ sh → records log' s sh ≡ records log s sh) → AreKept floor log s n ls → AreKept floor log' s n ls
+    kept_after : (floor : ℕ) (log log' : Journal) (s n : ℕ) (ls : List LogValue)
+        → ((sh : ℕ) → n ≤ sh → records log' s sh ≡ records log s sh) → AreKept floor log s n ls
+        → AreKept floor log' s n ls
     kept_after floor log log' s n [] same h = tt
-    kept_after floor log log' s n (l ∷ ls) same h =
-        (subst (λ rs. IsKept floor rs l.kept) (sym (same n (omega arith))) h.0, kept_after floor log log' s (n + 1) ls (λ sh beyond. same sh (omega (arith, beyond))) h.1)
-kept_put floor log log' s n (suc i) at r (l ∷ ls) late is here others h =
-    (subst (λ rs. IsKept floor rs l.kept) (sym (others n (λ e. absurd (apart at n i is e)))) h.0, kept_put floor log log' s (n + 1) i at r ls late (omega (arith, is)) here others h.1)
+    kept_after floor log log' s n (l ∷ ls) same h = (
+      subst (λ rs. IsKept floor rs l.kept) (sym (same n (omega arith))) h.0,
+      kept_after floor log log' s (n + 1) ls (λ sh beyond. same sh (omega (arith, beyond))) h.1,
+    )
+kept_put floor log log' s n (suc i) at r (l ∷ ls) late is here others h = (
+  subst (λ rs. IsKept floor rs l.kept) (sym (others n (λ e. absurd (apart at n i is e)))) h.0,
+  kept_put floor log log' s (n + 1) i at r ls late (omega (arith, is)) here others h.1,
+)
   where
     apart : (at n i : ℕ) → at ≡ n + suc i → at ≡ n → ⊥
     apart at n i is e = omega (arith, is, e)
@@ -88,25 +113,32 @@ module _ (v : StreamValue) (log : Journal) (by n : ℕ) (item : NewItem) (same :
   home_so = ap (λ xs. home_among (filter is_open xs) item.hash) same
 
   -- the puts of a shard after its line
-  pub puts_more : (sh : ℕ) → puts (put_line log v.clock by v.no n item ∷ log) v.no sh ≡ with_put (home_among (filter is_open v.tree) item.hash) (put_of v item) (puts log v.no) sh
+  pub puts_more : (sh : ℕ) → puts (put_line log v.clock by v.no n item ∷ log) v.no sh
+      ≡ with_put (home_among (filter is_open v.tree) item.hash) (put_of v item) (puts log v.no) sh
   puts_more sh =
-      ap (λ b. if b && (home log v.no item.hash == sh) then put_of v item ∷ puts log v.no sh else puts log v.no sh) (is_itself v.no)
+      ap (λ b. if b && (home log v.no item.hash == sh) then put_of v item ∷ puts log v.no sh else puts log v.no sh)
+      (is_itself v.no)
       ∙ ap (λ h. if h == sh then put_of v item ∷ puts log v.no sh else puts log v.no sh) home_so
 
   pub rates_put : (windows : List WindowValue) → home_among (filter is_open v.tree) item.hash < length v.tree
-      → ShowsRates log v.no v.enforced (length v.tree) v.windows → StandFor (with_put (home_among (filter is_open v.tree) item.hash) (put_of v item) (puts log v.no)) 0 windows
+      → ShowsRates log v.no v.enforced (length v.tree) v.windows
+      → StandFor (with_put (home_among (filter is_open v.tree) item.hash) (put_of v item) (puts log v.no)) 0 windows
       → ShowsRates (put_line log v.clock by v.no n item ∷ log) v.no v.enforced (length v.tree) windows
   rates_put windows within rates stand = record {
     enforced_is = rates.enforced_is;
-    stand = stand_along (with_put (home_among (filter is_open v.tree) item.hash) (put_of v item) (puts log v.no)) (puts (put_line log v.clock by v.no n item ∷ log) v.no) 0 windows (λ sh any. sym (puts_more sh)) stand;
+    stand = stand_along (with_put (home_among (filter is_open v.tree) item.hash) (put_of v item) (puts log v.no))
+        (puts (put_line log v.clock by v.no n item ∷ log) v.no) 0 windows (λ sh any. sym (puts_more sh)) stand;
     none_beyond = λ sh beyond.
         puts_more sh
-        ∙ sym (put_elsewhere (home_among (filter is_open v.tree) item.hash) sh (put_of v item) (puts log v.no) (is_other _ sh (λ e. absurd (omega (arith, within, beyond, e)))))
+        ∙ sym (put_elsewhere (home_among (filter is_open v.tree) item.hash) sh (put_of v item) (puts log v.no)
+        (is_other _ sh (λ e. absurd (omega (arith, within, beyond, e)))))
         ∙ rates.none_beyond sh beyond;
   }
 
 -- the test of the decision, where the limits and the puts of the item's home are known
-pub held_is : (log : Journal) (c s : ℕ) (xs : List ShardState) (item : NewItem) (on : Bool) (sh bytes : ℕ) (ps : List SizedPut) → shards log s ≡ xs → is_enforced log s ≡ on → sh ≡ home_among (filter is_open xs) item.hash → bytes ≡ item_bytes item → ps ≡ puts log s sh
+pub held_is : (log : Journal) (c s : ℕ) (xs : List ShardState) (item : NewItem) (on : Bool) (sh bytes : ℕ)
+    (ps : List SizedPut) → shards log s ≡ xs → is_enforced log s ≡ on → sh ≡ home_among (filter is_open xs) item.hash
+    → bytes ≡ item_bytes item → ps ≡ puts log s sh
     → is_held_back log c s item ≡ (on && is_throttled ps c bytes)
 held_is log c s xs item on sh bytes ps same enforces at counted are =
     let home_is : home log s item.hash ≡ sh = ap (λ ys. home_among (filter is_open ys) item.hash) same ∙ sym at in
@@ -118,13 +150,20 @@ held_is log c s xs item on sh bytes ps same enforces at counted are =
 -- ---- the decision
 
 module _ (v : StreamValue) (log : Journal) (by : ℕ) (item : NewItem) (shown : Shows v log) where
-  pub put_throttled : (sh : ℕ) → sh ≡ home_among (filter is_open v.tree) item.hash → is_held_back log v.clock v.no item ≡ true
-      → (Err (refusal.Throttled sh) ≡ answer_of (put log v.clock by v.no item)) × Shows v (with_lines (lines_of (put log v.clock by v.no item)) log)
+  pub put_throttled : (sh : ℕ) → sh ≡ home_among (filter is_open v.tree) item.hash
+      → is_held_back log v.clock v.no item ≡ true
+      → (Err (refusal.Throttled sh) ≡ answer_of (put log v.clock by v.no item))
+      × Shows v (with_lines (lines_of (put log v.clock by v.no item)) log)
   put_throttled sh at held =
-      let both = after_refused _ (refusal.Throttled (home log v.no item.hash)) log (λ l. Shows v l) (refused_if _ _ _ held) shown in
-      (ap (λ n. Err (refusal.Throttled n)) (at ∙ sym (home_so v log by 0 item shown.stored.shards_are)) ∙ both.0, both.1)
+      let both = after_refused _ (refusal.Throttled (home log v.no item.hash)) log (λ l. Shows v l)
+      (refused_if _ _ _ held) shown in (
+        ap (λ n. Err (refusal.Throttled n)) (at ∙ sym (home_so v log by 0 item shown.stored.shards_are)) ∙ both.0,
+        both.1,
+      )
 
-  pub put_spent : is_held_back log v.clock v.no item ≡ false → v.next ≡ last_number → (Err refusal.Spent ≡ answer_of (put log v.clock by v.no item)) × Shows v (with_lines (lines_of (put log v.clock by v.no item)) log)
+  pub put_spent : is_held_back log v.clock v.no item ≡ false → v.next ≡ last_number
+      → (Err refusal.Spent ≡ answer_of (put log v.clock by v.no item))
+      × Shows v (with_lines (lines_of (put log v.clock by v.no item)) log)
   put_spent free spent =
       after_refused _ refusal.Spent log (λ l. Shows v l) (passed_if _ _ _ free
       ∙ refused_if _ _ _ (is_equal (next_number log v.no) last_number (shown.stored.next_is ∙ spent))) shown
@@ -133,23 +172,69 @@ module _ (v : StreamValue) (log : Journal) (by : ℕ) (item : NewItem) (shown : 
   home_is : home log v.no item.hash ≡ home_among (filter is_open v.tree) item.hash
   home_is = ap (λ xs. home_among (filter is_open xs) item.hash) shown.shards_are
 
-  record_is : record { seq = next_number log v.no; arrival = v.clock; bytes = length item.payload + length item.key; key = item.key; payload = item.payload } ≡ put_record v item
-  record_is = ap (λ n. let r : Logged = record { seq = n; arrival = v.clock; bytes = length item.payload + length item.key; key = item.key; payload = item.payload } in r) shown.next_is
+  record_is : record {
+    seq = next_number log v.no;
+    arrival = v.clock;
+    bytes = length item.payload + length item.key;
+    key = item.key;
+    payload = item.payload;
+  } ≡ put_record v item
+  record_is = ap (λ n. let r : Logged = record {
+    seq = n;
+    arrival = v.clock;
+    bytes = length item.payload + length item.key;
+    key = item.key;
+    payload = item.payload;
+  } in r) shown.next_is
 
   -- the records of a shard after the line
   records_by : (a b : Bool) (sh : ℕ) → (v.no == v.no) ≡ a → (home log v.no item.hash == sh) ≡ b
-      → records (put_line log v.clock by v.no (next_number log v.no) item ∷ log) v.no sh ≡ (if a && b then records log v.no sh ++ record { seq = next_number log v.no; arrival = v.clock; bytes = length item.payload + length item.key; key = item.key; payload = item.payload } ∷ [] else records log v.no sh)
-  records_by a b sh isa isb = ap (λ c. if c && (home log v.no item.hash == sh) then records log v.no sh ++ record { seq = next_number log v.no; arrival = v.clock; bytes = length item.payload + length item.key; key = item.key; payload = item.payload } ∷ [] else records log v.no sh) isa
-      ∙ ap (λ c. if a && c then records log v.no sh ++ record { seq = next_number log v.no; arrival = v.clock; bytes = length item.payload + length item.key; key = item.key; payload = item.payload } ∷ [] else records log v.no sh) isb
+      → records (put_line log v.clock by v.no (next_number log v.no) item ∷ log) v.no sh
+      ≡ (if a && b then records log v.no sh ++ record {
+        seq = next_number log v.no;
+        arrival = v.clock;
+        bytes = length item.payload + length item.key;
+        key = item.key;
+        payload = item.payload;
+      }
+      ∷ [] else records log v.no sh)
+  records_by a b sh isa isb =
+      ap (λ c. if c && (home log v.no item.hash == sh) then records log v.no sh ++ record {
+        seq = next_number log v.no;
+        arrival = v.clock;
+        bytes = length item.payload + length item.key;
+        key = item.key;
+        payload = item.payload;
+      }
+      ∷ [] else records log v.no sh) isa
+      ∙ ap (λ c. if a && c then records log v.no sh ++ record {
+        seq = next_number log v.no;
+        arrival = v.clock;
+        bytes = length item.payload + length item.key;
+        key = item.key;
+        payload = item.payload;
+      }
+      ∷ [] else records log v.no sh) isb
 
-  here : (sh : ℕ) → home log v.no item.hash ≡ sh → records (put_line log v.clock by v.no (next_number log v.no) item ∷ log) v.no sh ≡ records log v.no sh ++ put_record v item ∷ []
-  here sh is = records_by true true sh (is_itself v.no) (is_equal (home log v.no item.hash) sh is) ∙ ap (λ r. records log v.no sh ++ r ∷ []) record_is
+  here : (sh : ℕ) → home log v.no item.hash ≡ sh
+      → records (put_line log v.clock by v.no (next_number log v.no) item ∷ log) v.no sh ≡ records log v.no sh
+      ++ put_record v item ∷ []
+  here sh is = records_by true true sh (is_itself v.no) (is_equal (home log v.no item.hash) sh is)
+      ∙ ap (λ r. records log v.no sh ++ r ∷ []) record_is
 
-  elsewhere : (sh : ℕ) → home log v.no item.hash ≢ sh → records (put_line log v.clock by v.no (next_number log v.no) item ∷ log) v.no sh ≡ records log v.no sh
+  elsewhere : (sh : ℕ) → home log v.no item.hash ≢ sh
+      → records (put_line log v.clock by v.no (next_number log v.no) item ∷ log) v.no sh ≡ records log v.no sh
   elsewhere sh differ = records_by true false sh (is_itself v.no) (is_other (home log v.no item.hash) sh differ)
 
-  pub shows_put : (sh : ℕ) → sh ≡ home_among (filter is_open v.tree) item.hash → sh < length v.tree → floor_of v.cut ≤ v.clock
-      → ShowsStored (record v { logs = with_appended sh (put_record v item) v.logs; next = v.next + 1; clock_before = v.clock; cut_before = v.cut }) (put_line log v.clock by v.no (next_number log v.no) item ∷ log)
+  pub shows_put : (sh : ℕ) → sh ≡ home_among (filter is_open v.tree) item.hash → sh < length v.tree
+      → floor_of v.cut ≤ v.clock
+      → ShowsStored (record v {
+        logs = with_appended sh (put_record v item) v.logs;
+        next = v.next + 1;
+        clock_before = v.clock;
+        cut_before = v.cut;
+      }) (put_line log v.clock by v.no (next_number log v.no) item
+      ∷ log)
   shows_put sh at within trims =
       let is : home log v.no item.hash ≡ sh = home_is ∙ sym at in
       record {
@@ -160,49 +245,90 @@ module _ (v : StreamValue) (log : Journal) (by : ℕ) (item : NewItem) (shown : 
         hours_are = shown.hours_are;
         shards_are = shown.shards_are;
         next_is = one_more (v.no == v.no) (next_number log v.no) v.next (is_itself v.no) shown.next_is;
-        floor_is = floor_same log (put_line log v.clock by v.no (next_number log v.no) item) v.no v.clock (omega arith) refl ∙ shown.floor_is;
+        floor_is = floor_same log (put_line log v.clock by v.no (next_number log v.no) item) v.no v.clock (omega arith)
+            refl ∙ shown.floor_is;
         kept =
-            kept_put (floor_of v.cut) log (put_line log v.clock by v.no (next_number log v.no) item ∷ log) v.no 0 sh sh (put_record v item) v.logs trims (omega arith) (here sh is)
+            kept_put (floor_of v.cut) log (put_line log v.clock by v.no (next_number log v.no) item ∷ log) v.no 0 sh sh
+            (put_record v item) v.logs trims (omega arith) (here sh is)
             (λ other differ. elsewhere other (λ e. differ (sym is ∙ e))) shown.kept;
-        none_beyond = λ other beyond. elsewhere other (λ e. past sh other (length v.tree) within beyond (sym is ∙ e)) ∙ shown.none_beyond other beyond;
+        none_beyond = λ other beyond. elsewhere other (λ e. past sh other (length v.tree) within beyond (sym is ∙ e))
+            ∙ shown.none_beyond other beyond;
       }
     where
       past : (sh other len : ℕ) → sh < len → len ≤ other → sh ≡ other → ⊥
       past sh other len within beyond e = omega (arith, within, beyond, e)
 
-  place_is : (sh : ℕ) → sh ≡ home_among (filter is_open v.tree) item.hash → record { shard = sh; seq = v.next } ≡ put_place log v.no (next_number log v.no) item
+  place_is : (sh : ℕ) → sh ≡ home_among (filter is_open v.tree) item.hash
+      → record { shard = sh; seq = v.next } ≡ put_place log v.no (next_number log v.no) item
   place_is sh at =
       ap (λ n. let p : Place = record { shard = n; seq = v.next } in p) (at ∙ sym home_is)
       ∙ ap (λ n. let p : Place = record { shard = home log v.no item.hash; seq = n } in p) (sym shown.next_is)
 
-  put_shows : (sh next : ℕ) (logs : List LogValue) (windows : List WindowValue) → next ≡ v.next + 1 → sh ≡ home_among (filter is_open v.tree) item.hash → sh < length v.tree → floor_of v.cut ≤ v.clock → logs ≡ with_appended sh (put_record v item) v.logs
-      → ShowsRates log v.no v.enforced (length v.tree) v.windows → StandFor (with_put sh (put_of v item) (puts log v.no)) 0 windows
-      → Shows (record v { logs = logs; windows = windows; next = next; clock_before = v.clock; cut_before = v.cut }) (put_line log v.clock by v.no (next_number log v.no) item ∷ log)
+  put_shows : (sh next : ℕ) (logs : List LogValue) (windows : List WindowValue) → next ≡ v.next + 1
+      → sh ≡ home_among (filter is_open v.tree) item.hash → sh < length v.tree → floor_of v.cut ≤ v.clock
+      → logs ≡ with_appended sh (put_record v item) v.logs
+      → ShowsRates log v.no v.enforced (length v.tree) v.windows
+      → StandFor (with_put sh (put_of v item) (puts log v.no)) 0 windows
+      → Shows (record v { logs = logs; windows = windows; next = next; clock_before = v.clock; cut_before = v.cut })
+      (put_line log v.clock by v.no (next_number log v.no) item ∷ log)
   put_shows sh next logs windows drawn at within trims are rates stand =
       let after : Journal = put_line log v.clock by v.no (next_number log v.no) item ∷ log in
       let stored = shows_put sh at within trims in
-      let inside : home_among (filter is_open v.tree) item.hash < length v.tree = subst (λ n. n < length v.tree) at within in
+      let inside : home_among (filter is_open v.tree) item.hash < length v.tree =
+      subst (λ n. n < length v.tree) at within in
       let stand' = subst (λ n. StandFor (with_put n (put_of v item) (puts log v.no)) 0 windows) at stand in
       let w : StreamValue =
-      record v { logs = with_appended sh (put_record v item) v.logs; windows = windows; next = v.next + 1; clock_before = v.clock; cut_before = v.cut } in
+      record v {
+        logs = with_appended sh (put_record v item) v.logs;
+        windows = windows;
+        next = v.next + 1;
+        clock_before = v.clock;
+        cut_before = v.cut;
+      } in
       let full : Shows w after =
-      record { stored = stored; rates = rates_put v log by (next_number log v.no) item shown.shards_are windows inside rates stand' } in
-      subst (λ (n : ℕ). Shows (record v { logs = logs; windows = windows; next = n; clock_before = v.clock; cut_before = v.cut }) after) (sym drawn)
-      (subst (λ (ls : List LogValue). Shows (record v { logs = ls; windows = windows; next = v.next + 1; clock_before = v.clock; cut_before = v.cut }) after) (sym are) full)
+      record {
+        stored = stored;
+        rates = rates_put v log by (next_number log v.no) item shown.shards_are windows inside rates stand';
+      } in
+      subst (λ (n : ℕ). Shows (record v {
+        logs = logs;
+        windows = windows;
+        next = n;
+        clock_before = v.clock;
+        cut_before = v.cut;
+      }) after) (sym drawn)
+      (subst (λ (ls : List LogValue).
+      Shows (record v {
+        logs = ls;
+        windows = windows;
+        next = v.next + 1;
+        clock_before = v.clock;
+        cut_before = v.cut;
+      }) after) (sym are) full)
 
-  pub put_done : (sh next : ℕ) (logs : List LogValue) (windows : List WindowValue) → is_held_back log v.clock v.no item ≡ false → next ≡ v.next + 1 → v.next ≢ last_number → sh ≡ home_among (filter is_open v.tree) item.hash → sh < length v.tree → floor_of v.cut ≤ v.clock → logs ≡ with_appended sh (put_record v item) v.logs
-      → ShowsRates log v.no v.enforced (length v.tree) v.windows → StandFor (with_put sh (put_of v item) (puts log v.no)) 0 windows
+  pub put_done : (sh next : ℕ) (logs : List LogValue) (windows : List WindowValue)
+      → is_held_back log v.clock v.no item ≡ false → next ≡ v.next + 1 → v.next ≢ last_number
+      → sh ≡ home_among (filter is_open v.tree) item.hash → sh < length v.tree → floor_of v.cut ≤ v.clock
+      → logs ≡ with_appended sh (put_record v item) v.logs
+      → ShowsRates log v.no v.enforced (length v.tree) v.windows
+      → StandFor (with_put sh (put_of v item) (puts log v.no)) 0 windows
       → (Ok (reply.Put (record { shard = sh; seq = v.next })) ≡ answer_of (put log v.clock by v.no item))
-      × Shows (record v { logs = logs; windows = windows; next = next; clock_before = v.clock; cut_before = v.cut }) (with_lines (lines_of (put log v.clock by v.no item)) log)
+      × Shows (record v { logs = logs; windows = windows; next = next; clock_before = v.clock; cut_before = v.cut })
+      (with_lines (lines_of (put log v.clock by v.no item)) log)
   put_done sh next logs windows free drawn more at within trims are rates stand =
-      let w : StreamValue = record v { logs = logs; windows = windows; next = next; clock_before = v.clock; cut_before = v.cut } in
-      let both = after_accepted (put log v.clock by v.no item) (put_line log v.clock by v.no (next_number log v.no) item ∷ []) (reply.Put (put_place log v.no (next_number log v.no) item)) log (λ l. Shows w l)
-      (passed_if _ _ _ free ∙ passed_if _ _ _ (is_other (next_number log v.no) last_number (λ e. more (sym shown.next_is ∙ e)))) (put_shows sh next logs windows drawn at within trims are rates stand) in
+      let w : StreamValue =
+      record v { logs = logs; windows = windows; next = next; clock_before = v.clock; cut_before = v.cut } in
+      let both = after_accepted (put log v.clock by v.no item) (put_line log v.clock by v.no (next_number log v.no) item
+      ∷ []) (reply.Put (put_place log v.no (next_number log v.no) item)) log (λ l. Shows w l)
+      (passed_if _ _ _ free
+      ∙ passed_if _ _ _ (is_other (next_number log v.no) last_number (λ e. more (sym shown.next_is ∙ e))))
+      (put_shows sh next logs windows drawn at within trims are rates stand) in
       (ap (λ (p : Place). Ok (reply.Put p)) (place_is sh at) ∙ both.0, both.1)
 
 -- ---- a stream still
 
-pub ends_later : (next higher : ℕ) (xs : List ShardState) → next ≤ higher → AllByRecursion (EndsUnder next) xs → AllByRecursion (EndsUnder higher) xs
+pub ends_later : (next higher : ℕ) (xs : List ShardState) → next ≤ higher → AllByRecursion (EndsUnder next) xs
+    → AllByRecursion (EndsUnder higher) xs
 ends_later next higher xs le h = all_weaker (EndsUnder next) (EndsUnder higher) (λ x a. under x.closing a) xs h
   where
     under : (o : Option Closing) → IsClosedUnder next o → IsClosedUnder higher o
@@ -216,7 +342,9 @@ under_more (Some n) next higher more h = omega arith
 pub one_free : (n m : ℕ) → m ≡ n + 1 → n ≢ last_number → n < 2 ^ 64 → m < 2 ^ 64
 one_free n m is free fits = omega (arith, is, free, fits)
 
-pub stream_put : (v : StreamValue) (sh next : ℕ) (r : Logged) (logs : List LogValue) (windows : List WindowValue) → next ≡ v.next + 1 → v.next ≢ last_number → r.seq ≡ v.next → r.arrival ≡ v.clock → logs ≡ with_appended sh r v.logs → AreRated v.clock (length v.tree) windows → IsStream v
+pub stream_put : (v : StreamValue) (sh next : ℕ) (r : Logged) (logs : List LogValue) (windows : List WindowValue)
+    → next ≡ v.next + 1 → v.next ≢ last_number → r.seq ≡ v.next → r.arrival ≡ v.clock → logs ≡ with_appended sh r v.logs
+    → AreRated v.clock (length v.tree) windows → IsStream v
     → IsStream (record v { logs = logs; windows = windows; next = next; clock_before = v.clock; cut_before = v.cut })
 stream_put v sh next r logs windows drawn free number arrival are rated is =
     let one : next ≤ v.next + 1 = omega (arith, drawn) in
@@ -227,11 +355,14 @@ stream_put v sh next r logs windows drawn free number arrival are rated is =
       lasting = is.lasting;
       numbers =
           subst (AllByRecursion (IsBelow next)) (sym are)
-          (all-appended (IsBelow v.next) (IsBelow next) sh r (λ l h. under_more l.last v.next next more h) (λ l h. omega (arith, number, drawn)) v.logs is.numbers);
+          (all-appended (IsBelow v.next) (IsBelow next) sh r (λ l h. under_more l.last v.next next more h)
+          (λ l h. omega (arith, number, drawn)) v.logs is.numbers);
       endings = ends_later v.next next v.tree (omega (arith, drawn)) is.endings;
       arrivals =
           subst (AllByRecursion (HasArrived v.clock)) (sym are)
-          (all-appended (HasArrived v.clock) (HasArrived v.clock) sh r (λ l h. h) (λ l h. all_append (λ (x : Logged). x.arrival ≤ v.clock) l.kept (r ∷ []) h (omega (arith, arrival), tt)) v.logs (arrived_later v.clock_before v.clock v.logs is.order is.arrivals));
+          (all-appended (HasArrived v.clock) (HasArrived v.clock) sh r (λ l h. h)
+          (λ l h. all_append (λ (x : Logged). x.arrival ≤ v.clock) l.kept (r ∷ []) h (omega (arith, arrival), tt))
+          v.logs (arrived_later v.clock_before v.clock v.logs is.order is.arrivals));
       order = omega arith;
       trims = is.trims;
       trims_before = is.trims;

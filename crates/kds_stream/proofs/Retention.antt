@@ -1,5 +1,6 @@
 -- A change of the retention: its decision, what the stream shows after it, and that it is a stream still.
-use Rattle.std.proofs.Common.{◌≡◌, ℕ, ◌*◌, max, ◌≤◌, Bool, true, false, [], ◌∷◌, length, Option, refl, sym, ap, ◌∙◌, arith}
+use Rattle.std.proofs.Common.{◌≡◌, ℕ, ◌*◌, max, ◌≤◌, Bool, true, false, [], ◌∷◌, length, Option, refl, sym, ap, ◌∙◌}
+use Rattle.std.proofs.Common.{arith}
 use Rattle.std.specs.Prelude.{◌==◌, nat_lt, if◌then◌else◌, Ok, Err}
 use Rattle.kds_base.proofs.Facts.{is_itself, chosen}
 use Rattle.kds_defs.proofs.Decisions.{after_accepted, after_refused, passed_if, refused_if}
@@ -26,17 +27,20 @@ kept_line v by wanted = plain_line v.clock by (entry.Kept v.no wanted)
 
 module _ (v : StreamValue) (log : Journal) (by wanted : ℕ) (raise : Bool) (shown : Shows v log) where
   -- the test as the code makes it
-  tested : (b : Bool) → b ≡ (if raise then nat_lt wanted v.hours else nat_lt v.hours wanted) → (if raise then nat_lt wanted (hours log v.no) else nat_lt (hours log v.no) wanted) ≡ b
+  tested : (b : Bool) → b ≡ (if raise then nat_lt wanted v.hours else nat_lt v.hours wanted)
+      → (if raise then nat_lt wanted (hours log v.no) else nat_lt (hours log v.no) wanted) ≡ b
   tested b is = ap (λ n. if raise then nat_lt wanted n else nat_lt n wanted) shown.stored.hours_are ∙ sym is
 
   pub keep_refused : true ≡ (if raise then nat_lt wanted v.hours else nat_lt v.hours wanted)
-      → (Err refusal.BadRetention ≡ answer_of (keep log v.clock by v.no wanted raise)) × Shows v (with_lines (lines_of (keep log v.clock by v.no wanted raise)) log)
+      → (Err refusal.BadRetention ≡ answer_of (keep log v.clock by v.no wanted raise))
+      × Shows v (with_lines (lines_of (keep log v.clock by v.no wanted raise)) log)
   keep_refused is = after_refused _ refusal.BadRetention log (λ l. Shows v l) (refused_if _ _ _ (tested true is)) shown
 
   lasts : hours (kept_line v by wanted ∷ log) v.no ≡ wanted
   lasts = chosen (v.no == v.no) wanted (hours log v.no) (is_itself v.no)
 
-  floor_kept : trim_floor (kept_line v by wanted ∷ log) v.clock v.no ≡ floor_of (later_cut v.cut (cut_at v.clock wanted))
+  floor_kept : trim_floor (kept_line v by wanted ∷ log) v.clock v.no
+      ≡ floor_of (later_cut v.cut (cut_at v.clock wanted))
   floor_kept =
       changed_floor log (kept_line v by wanted) v.no shown.stored.was shown.stored.was
       ∙ ap (λ n. max n (floor_at v.clock (hours (kept_line v by wanted ∷ log) v.no * HOUR))) shown.stored.floor_is
@@ -45,9 +49,11 @@ module _ (v : StreamValue) (log : Journal) (by wanted : ℕ) (raise : Bool) (sho
       ∙ sym (later_floor v.cut (cut_at v.clock wanted))
 
   shows_kept : (cut : Option ℕ) → cut ≡ later_cut v.cut (cut_at v.clock wanted)
-      → Shows (record v { hours = wanted; cut = cut; clock_before = v.clock; cut_before = cut }) (kept_line v by wanted ∷ log)
+      → Shows (record v { hours = wanted; cut = cut; clock_before = v.clock; cut_before = cut })
+      (kept_line v by wanted ∷ log)
   shows_kept cut is =
-      let higher : floor_of v.cut ≤ floor_of cut = omega (arith, ap floor_of is, later_floor v.cut (cut_at v.clock wanted)) in
+      let higher : floor_of v.cut ≤ floor_of cut =
+      omega (arith, ap floor_of is, later_floor v.cut (cut_at v.clock wanted)) in
       record {
         stored = record {
           live = shown.stored.live;
@@ -63,20 +69,29 @@ module _ (v : StreamValue) (log : Journal) (by wanted : ℕ) (raise : Bool) (sho
               (kept_higher (floor_of v.cut) (floor_of cut) log v.no 0 v.logs higher shown.stored.kept);
           none_beyond = shown.stored.none_beyond;
         };
-        rates = record { enforced_is = shown.rates.enforced_is; stand = shown.rates.stand; none_beyond = shown.rates.none_beyond };
+        rates = record {
+          enforced_is = shown.rates.enforced_is;
+          stand = shown.rates.stand;
+          none_beyond = shown.rates.none_beyond;
+        };
       }
 
-  pub keep_done : (cut : Option ℕ) → cut ≡ later_cut v.cut (cut_at v.clock wanted) → false ≡ (if raise then nat_lt wanted v.hours else nat_lt v.hours wanted)
+  pub keep_done : (cut : Option ℕ) → cut ≡ later_cut v.cut (cut_at v.clock wanted)
+      → false ≡ (if raise then nat_lt wanted v.hours else nat_lt v.hours wanted)
       → (Ok reply.Done ≡ answer_of (keep log v.clock by v.no wanted raise))
-      × Shows (record v { hours = wanted; cut = cut; clock_before = v.clock; cut_before = cut }) (with_lines (lines_of (keep log v.clock by v.no wanted raise)) log)
+      × Shows (record v { hours = wanted; cut = cut; clock_before = v.clock; cut_before = cut })
+      (with_lines (lines_of (keep log v.clock by v.no wanted raise)) log)
   keep_done cut later is =
-      after_accepted _ (kept_line v by wanted ∷ []) reply.Done log (λ l. Shows (record v { hours = wanted; cut = cut; clock_before = v.clock; cut_before = cut }) l)
+      after_accepted _ (kept_line v by wanted ∷ []) reply.Done log
+      (λ l. Shows (record v { hours = wanted; cut = cut; clock_before = v.clock; cut_before = cut }) l)
       (passed_if _ _ _ (tested false is)) (shows_kept cut later)
 
-pub stream_kept : (v : StreamValue) (wanted : ℕ) (cut : Option ℕ) → cut ≡ later_cut v.cut (cut_at v.clock wanted) → IsRetention wanted → IsStream v
+pub stream_kept : (v : StreamValue) (wanted : ℕ) (cut : Option ℕ) → cut ≡ later_cut v.cut (cut_at v.clock wanted)
+    → IsRetention wanted → IsStream v
     → IsStream (record v { hours = wanted; cut = cut; clock_before = v.clock; cut_before = cut })
 stream_kept v wanted cut later lasting is =
-    let trims : floor_of cut ≤ v.clock = omega (arith, ap floor_of later, trims_later v.clock v.clock wanted v.cut lasting (omega arith) is.trims) in
+    let trims : floor_of cut ≤ v.clock =
+    omega (arith, ap floor_of later, trims_later v.clock v.clock wanted v.cut lasting (omega arith) is.trims) in
     record {
       as_many = is.as_many;
       few = is.few;

@@ -21,33 +21,42 @@ use Rattle.kds_stream.specs.Value.{StreamValue}
 
 -- ---- a command that changes the stream, by the decision at the stream
 
-pub serves : {E : Type 0} (r : Result (Result Reply Refusal) E) (v w : StreamValue) (room : ℕ) (what what' : Command) (d : Journal → ℕ → Decision)
+pub serves : {E : Type 0} (r : Result (Result Reply Refusal) E) (v w : StreamValue) (room : ℕ) (what what' : Command)
+    (d : Journal → ℕ → Decision)
     → what ≡ what' → ((log : Journal) (by : ℕ) → IsToldOf what' room v log → decide log v.clock by what' ≡ d log by)
     → IfOk r (λ a. Decides v w a d) → IfOk r (λ a. Serves what room v w a)
 serves (Err e) v w room what what' d is same led = tt
 serves (Ok gives) v w room what what' d is same led =
     subst (λ x. Serves x room v w gives) (sym is)
-    (λ log by told. subst (λ e. (gives ≡ answer_of e) × Shows w (with_lines (lines_of e) log)) (sym (same log by told)) (led log by told.shown))
+    (λ log by told. subst (λ e. (gives ≡ answer_of e) × Shows w (with_lines (lines_of e) log)) (sym (same log by told))
+    (led log by told.shown))
 
 -- ---- a command that only reads: it writes no line
 
-pub tells : {E : Type 0} (r : Result (Result Reply Refusal) E) (v : StreamValue) (room : ℕ) (what what' : Command) (d : Journal → Decision)
-    → what ≡ what' → is_query what' ≡ true → ((log : Journal) (by : ℕ) → IsToldOf what' room v log → decide log v.clock by what' ≡ d log)
+pub tells : {E : Type 0} (r : Result (Result Reply Refusal) E) (v : StreamValue) (room : ℕ) (what what' : Command)
+    (d : Journal → Decision)
+    → what ≡ what' → is_query what' ≡ true
+    → ((log : Journal) (by : ℕ) → IsToldOf what' room v log → decide log v.clock by what' ≡ d log)
     → ((log : Journal) → Shows v log → IfOk r (λ a. a ≡ answer_of (d log))) → IfOk r (λ a. Serves what room v v a)
 tells (Err e) v room what what' d is query same answered = tt
 tells (Ok gives) v room what what' d is query same answered =
     subst (λ x. Serves x room v v gives) (sym is)
     (λ log by told.
-    let none = query_idle log v.clock by what' query in
-    (answered log told.shown ∙ ap answer_of (sym (same log by told)), subst (λ lines. Shows v (with_lines lines log)) (sym none) told.shown))
+    let none = query_idle log v.clock by what' query in (
+      answered log told.shown ∙ ap answer_of (sym (same log by told)),
+      subst (λ lines. Shows v (with_lines lines log)) (sym none) told.shown,
+    ))
 
 -- ---- what the stream is told of the others is what the decisions ask
 
-module _ (what : Command) (room : ℕ) (v : StreamValue) (log : Journal) (told : IsToldOf what room v log) (asks : asks_for_room what ≡ true) where
+module _ (what : Command) (room : ℕ) (v : StreamValue) (log : Journal) (told : IsToldOf what room v log)
+    (asks : asks_for_room what ≡ true) where
   pub full_so : is_full v room ≡ nat_le OPEN_SHARDS (open_count log)
-  full_so = by (length (filter is_open v.tree)) (open_elsewhere log v.no) (open_count log) room told.opened (told.fits asks)
+  full_so = by (length (filter is_open v.tree)) (open_elsewhere log v.no) (open_count log) room told.opened
+      (told.fits asks)
     where
-      by : (own others all room : ℕ) → all ≡ others + own → room ≡ OPEN_SHARDS - others → (nat_le room own || nat_le OPEN_SHARDS own) ≡ nat_le OPEN_SHARDS all
+      by : (own others all room : ℕ) → all ≡ others + own → room ≡ OPEN_SHARDS - others
+          → (nat_le room own || nat_le OPEN_SHARDS own) ≡ nat_le OPEN_SHARDS all
       by own others all room sum is = grind (arith, nat_tests)
 
   pub over_so : (target : ℕ) → 1 ≤ target → is_over target room ≡ nat_lt OPEN_SHARDS (open_elsewhere log v.no + target)

@@ -1,5 +1,6 @@
 -- Which commands a stream serves, what it is told of the other streams, and what it then decides.
-use Rattle.std.specs.Prelude.{ℕ, ◌≡◌, ◌+◌, ◌-◌, Bool, true, false, ◌||◌, is_some, List, length, Option, Some, None, Result}
+use Rattle.std.specs.Prelude.{ℕ, ◌≡◌, ◌+◌, ◌-◌, Bool, true, false, ◌||◌, is_some, List, length, Option, Some, None}
+use Rattle.std.specs.Prelude.{Result}
 use Rattle.std.specs.List.{filter}
 use Rattle.kds_defs.specs.declared.command.Command.{Command}
 use Rattle.kds_defs.specs.declared.command.Command.TheVariants as command
@@ -45,4 +46,5 @@ pub record IsToldOf (what : Command) (room : ℕ) (v : StreamValue) (log : Journ
 abbrev pub Serves : Command → ℕ → StreamValue → StreamValue → Result Reply Refusal → Type 0
 Serves what room old new gives =
     (log : Journal) (by : ℕ) → IsToldOf what room old log
-    → (gives ≡ answer_of (decide log old.clock by what)) × Shows new (with_lines (lines_of (decide log old.clock by what)) log)
+    → (gives ≡ answer_of (decide log old.clock by what))
+    × Shows new (with_lines (lines_of (decide log old.clock by what)) log)

@@ -1,5 +1,6 @@
 -- Which journals a stream shows.
-use Rattle.std.specs.Prelude.{ℕ, ◌≡◌, ◌+◌, ◌≤◌, Bool, true, false, ◌||◌, nat_le, List, [], ◌∷◌, length, Option, Some, None, Result}
+use Rattle.std.specs.Prelude.{ℕ, ◌≡◌, ◌+◌, ◌≤◌, Bool, true, false, ◌||◌, nat_le, List, [], ◌∷◌, length, Option, Some}
+use Rattle.std.specs.Prelude.{None, Result}
 use Rattle.std.specs.List.{filter}
 use Rattle.kds_defs.specs.declared.entry.Entry.TheVariants as entry
 use Rattle.kds_defs.specs.declared.limits.TheConstants.{OPEN_SHARDS}
@@ -27,7 +28,8 @@ abbrev pub AreKept : ℕ → Journal → ℕ → ℕ → List LogValue → Type 
 AreKept floor log s n [] = Unit {0}
 AreKept floor log s n (l ∷ ls) = IsKept floor (records log s n) l.kept × AreKept floor log s (n + 1) ls
 
--- the stream without what it takes within a second, and without what it remembers: its earlier clock and whose turn it is
+-- the stream without what it takes within a second, and without what it remembers: its earlier clock and whose turn it
+-- is
 abbrev pub bare : StreamValue → StreamValue
 bare v = record v { windows = []; enforced = false; clock_before = 0; cut_before = None; turn = 0 }
 
@@ -56,7 +58,8 @@ pub record Shows (v : StreamValue) (log : Journal) : Type 0 where
 -- what a call that made one stream of another answered is the decision at it, of every journal that it showed; and it
 -- shows the journal with the decision's lines
 abbrev pub Decides : StreamValue → StreamValue → Result Reply Refusal → (Journal → ℕ → Decision) → Type 0
-Decides old new gives d = (log : Journal) (by : ℕ) → Shows old log → (gives ≡ answer_of (d log by)) × Shows new (with_lines (lines_of (d log by)) log)
+Decides old new gives d = (log : Journal) (by : ℕ) → Shows old log → (gives ≡ answer_of (d log by))
+    × Shows new (with_lines (lines_of (d log by)) log)
 
 -- the decision is refused so, or accepted with this line alone
 abbrev pub IsDecidedBy : Option Refusal → Line → Decision → Type 0
@@ -64,8 +67,10 @@ IsDecidedBy (Some r) line d = d ≡ Refused r
 IsDecidedBy None line d = d ≡ Accepted (line ∷ []) reply.Done
 
 -- what a call refused, and else the line it adds, is the decision at the stream, of every journal that this shows
-abbrev pub RefusesAs : StreamValue → Option Refusal → (Journal → ℕ → ℕ → ℕ → Line) → (Journal → ℕ → ℕ → ℕ → Decision) → Type 0
-RefusesAs v o line d = (log : Journal) (by : ℕ) → Shows v log → IsDecidedBy o (line log v.clock by v.no) (d log v.clock by v.no)
+abbrev pub RefusesAs : StreamValue → Option Refusal → (Journal → ℕ → ℕ → ℕ → Line) → (Journal → ℕ → ℕ → ℕ → Decision)
+    → Type 0
+RefusesAs v o line d = (log : Journal) (by : ℕ) → Shows v log
+    → IsDecidedBy o (line log v.clock by v.no) (d log v.clock by v.no)
 
 -- no further shard may be open in the stream, where so many may be, or since as many are open in it alone
 abbrev pub is_full : StreamValue → ℕ → Bool
@@ -74,7 +79,8 @@ is_full v room = nat_le room (length (filter is_open v.tree)) || nat_le OPEN_SHA
 -- ---- the lines of a split and of a merge
 
 abbrev pub split_line : Journal → ℕ → ℕ → ℕ → ℕ → ℕ → Line
-split_line log c by s sh at = plain_line c by (entry.Split s sh at (next_number log s) (length (shards log s)) (length (shards log s) + 1))
+split_line log c by s sh at =
+    plain_line c by (entry.Split s sh at (next_number log s) (length (shards log s)) (length (shards log s) + 1))
 
 abbrev pub merge_line : Journal → ℕ → ℕ → ℕ → ℕ → ℕ → Line
 merge_line log c by s sh other = plain_line c by (entry.Merged s sh other (next_number log s) (length (shards log s)))

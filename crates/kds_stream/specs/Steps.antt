@@ -34,4 +34,5 @@ scale_where full log c by name s target =
     refuse refusal.Spent if nat_lt last_number (next_number log s + length (steps_to log s target))
     || nat_lt last_number (length (shards log s) + made_by (steps_to log s target)) else
     Accepted (step_lines log c by s (steps_to log s target))
-    (reply.Scaled name (length (open_shards log s)) target (map (λ line. line.what) (step_lines log c by s (steps_to log s target))))
+    (reply.Scaled name (length (open_shards log s)) target
+    (map (λ line. line.what) (step_lines log c by s (steps_to log s target))))

@@ -11,5 +11,6 @@ ghost use Rattle.kds_stream.specs.Value.{StreamValue};
 /// further line is about another stream or about a lease and has the stream's clock as its time. The stream then also
 /// shows the journal with the further line.
 pub fn other_lines()
-    ensures { (v : StreamValue) (log : Journal) (line : Line) → Shows v log → line.clock ≡ v.clock → stream_of line.what ≢ Some v.no → Shows v (line ∷ log) }
+    ensures { (v : StreamValue) (log : Journal) (line : Line) → Shows v log → line.clock ≡ v.clock
+        → stream_of line.what ≢ Some v.no → Shows v (line ∷ log) }
 {}

@@ -1,5 +1,6 @@
 -- The logs of a stream's shards: one record more, and the trim.
-use Rattle.std.proofs.Common.{◌≡◌, ℕ, zero, suc, ◌<◌, ◌≤◌, Bool, true, false, List, [], ◌∷◌, ◌++◌, length, get_or, map, Option, Some, None, refl, sym, ap, subst, ◌∙◌, arith}
+use Rattle.std.proofs.Common.{◌≡◌, ℕ, zero, suc, ◌<◌, ◌≤◌, Bool, true, false, List, [], ◌∷◌, ◌++◌, length, get_or, map}
+use Rattle.std.proofs.Common.{Option, Some, None, refl, sym, ap, subst, ◌∙◌, arith}
 use Rattle.std.specs.Prelude.{cond, not, nat_le, nat_lt, ◌&&◌, slice_set, IfSome}
 use Rattle.std.specs.List.{AllByRecursion}
 use Rattle.std.proofs.lemmas.Bool.Decides.{nat_tests}
@@ -9,26 +10,32 @@ use Rattle.kds_stream_logs.specs.Logs.{IsUnder, settled_at, settled_log, with_ap
 
 -- ---- facts of each
 
-pub all_at : {A : Type 0} (P : A → Type 0) (xs : List A) (i : ℕ) (x : A) → i < length xs → x ≡ get_or xs i x → AllByRecursion P xs → P x
+pub all_at : {A : Type 0} (P : A → Type 0) (xs : List A) (i : ℕ) (x : A) → i < length xs → x ≡ get_or xs i x
+    → AllByRecursion P xs → P x
 all_at P [] i x below is h = absurd (omega arith)
 all_at P (y ∷ ys) zero x below is h = subst P (sym is) h.0
 all_at P (y ∷ ys) (suc i) x below is h = all_at P ys i x (omega arith) is h.1
 
 -- ---- one record more in the log at a place
 
-pub appended_at : (ls : List LogWithRoom) (i : ℕ) (d l : LogWithRoom) (r : Logged) → i < length ls → log_of l ≡ record { kept = (get_or ls i d).kept ++ r ∷ []; last = Some r.seq } → map log_of (slice_set ls i l) ≡ with_appended i r (map log_of ls)
+pub appended_at : (ls : List LogWithRoom) (i : ℕ) (d l : LogWithRoom) (r : Logged) → i < length ls
+    → log_of l ≡ record { kept = (get_or ls i d).kept ++ r ∷ []; last = Some r.seq }
+    → map log_of (slice_set ls i l) ≡ with_appended i r (map log_of ls)
 appended_at [] i d l r below is = absurd (omega arith)
 appended_at (x ∷ ls) zero d l r below is = ap (λ (y : LogValue). y ∷ map log_of ls) is
-appended_at (x ∷ ls) (suc i) d l r below is = ap (λ (ys : List LogValue). log_of x ∷ ys) (appended_at ls i d l r (omega arith) is)
+appended_at (x ∷ ls) (suc i) d l r below is =
+    ap (λ (ys : List LogValue). log_of x ∷ ys) (appended_at ls i d l r (omega arith) is)
 
 -- the logs where the one at a place is as before
-pub same_at : (ls : List LogWithRoom) (i : ℕ) (d l : LogWithRoom) → i < length ls → log_of l ≡ log_of (get_or ls i d) → map log_of (slice_set ls i l) ≡ map log_of ls
+pub same_at : (ls : List LogWithRoom) (i : ℕ) (d l : LogWithRoom) → i < length ls → log_of l ≡ log_of (get_or ls i d)
+    → map log_of (slice_set ls i l) ≡ map log_of ls
 same_at [] i d l below is = absurd (omega arith)
 same_at (x ∷ ls) zero d l below is = ap (λ (y : LogValue). y ∷ map log_of ls) is
 same_at (x ∷ ls) (suc i) d l below is = ap (λ (ys : List LogValue). log_of x ∷ ys) (same_at ls i d l (omega arith) is)
 
 -- what holds of each log holds of the one at a place
-pub all_logs_at : (P : LogValue → Type 0) (ls : List LogWithRoom) (i : ℕ) (d : LogWithRoom) → i < length ls → AllByRecursion P (map log_of ls) → P (log_of (get_or ls i d))
+pub all_logs_at : (P : LogValue → Type 0) (ls : List LogWithRoom) (i : ℕ) (d : LogWithRoom) → i < length ls
+    → AllByRecursion P (map log_of ls) → P (log_of (get_or ls i d))
 all_logs_at P [] i d below h = absurd (omega arith)
 all_logs_at P (x ∷ ls) zero d below h = h.0
 all_logs_at P (x ∷ ls) (suc i) d below h = all_logs_at P ls i d (omega arith) h.1
@@ -51,9 +58,11 @@ late : (floor arrival seq : ℕ) → floor ≤ arrival → (not (nat_lt arrival 
 late floor arrival seq h = grind (arith, nat_tests)
 
 -- nothing is trimmed where each record arrived at the floor or later
-pub all_left : (floor : ℕ) (rs : List Logged) → AllByRecursion (λ (r : Logged). floor ≤ r.arrival) rs → left_among floor 0 rs ≡ rs
+pub all_left : (floor : ℕ) (rs : List Logged) → AllByRecursion (λ (r : Logged). floor ≤ r.arrival) rs
+    → left_among floor 0 rs ≡ rs
 all_left floor [] h = refl
-all_left floor (r ∷ rs) h = ap (λ xs. cond (is_left floor 0 r) (r ∷ xs) xs) (all_left floor rs h.1) ∙ all_left_by (is_left floor 0 r) r rs (late floor r.arrival r.seq h.0)
+all_left floor (r ∷ rs) h = ap (λ xs. cond (is_left floor 0 r) (r ∷ xs) xs) (all_left floor rs h.1)
+    ∙ all_left_by (is_left floor 0 r) r rs (late floor r.arrival r.seq h.0)
 
 any_late : (rs : List Logged) → AllByRecursion (λ (r : Logged). 0 ≤ r.arrival) rs
 any_late [] = tt
@@ -77,7 +86,10 @@ settled_beyond floor n [] beyond = refl
 settled_beyond floor zero (l ∷ ls) beyond = absurd (omega (arith, beyond))
 settled_beyond floor (suc n) (l ∷ ls) beyond = ap (λ xs. l ∷ xs) (settled_beyond floor n ls (omega (arith, beyond)))
 
-pub settled_set : (ls : List LogWithRoom) (i floor : ℕ) (d l : LogWithRoom) → i < length ls → log_of l ≡ settled_log floor (log_of (get_or ls i d)) → map log_of (slice_set ls i l) ≡ settled_at floor i (map log_of ls)
+pub settled_set : (ls : List LogWithRoom) (i floor : ℕ) (d l : LogWithRoom) → i < length ls
+    → log_of l ≡ settled_log floor (log_of (get_or ls i d))
+    → map log_of (slice_set ls i l) ≡ settled_at floor i (map log_of ls)
 settled_set [] i floor d l below is = absurd (omega arith)
 settled_set (x ∷ ls) zero floor d l below is = ap (λ (y : LogValue). y ∷ map log_of ls) is
-settled_set (x ∷ ls) (suc i) floor d l below is = ap (λ (ys : List LogValue). log_of x ∷ ys) (settled_set ls i floor d l (omega arith) is)
+settled_set (x ∷ ls) (suc i) floor d l below is =
+    ap (λ (ys : List LogValue). log_of x ∷ ys) (settled_set ls i floor d l (omega arith) is)

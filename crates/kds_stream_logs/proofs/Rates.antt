@@ -1,5 +1,6 @@
 -- The windows of the shards of a stream: one put more.
-use Rattle.std.proofs.Common.{◌≡◌, ℕ, zero, suc, ◌+◌, ◌<◌, ◌≤◌, false, List, [], ◌∷◌, length, get_or, sym, ap, subst, ◌∙◌, arith}
+use Rattle.std.proofs.Common.{◌≡◌, ℕ, zero, suc, ◌+◌, ◌<◌, ◌≤◌, false, List, [], ◌∷◌, length, get_or, sym, ap, subst}
+use Rattle.std.proofs.Common.{◌∙◌, arith}
 use Rattle.std.specs.Prelude.{◌==◌, if◌then◌else◌, slice_set}
 use Rattle.std.specs.List.{AllByRecursion}
 use Rattle.std.proofs.lemmas.Bool.Decides.{nat_tests}
@@ -10,24 +11,33 @@ use Rattle.kds_stream_logs.specs.Rating.{IsCounted, StandFor, with_put}
 
 -- ---- at a place
 
-pub stand_at : (f : ℕ → List SizedPut) (n i : ℕ) (ws : List WindowValue) (d : WindowValue) → i < length ws → StandFor f n ws → StandsFor (get_or ws i d) (f (n + i))
+pub stand_at : (f : ℕ → List SizedPut) (n i : ℕ) (ws : List WindowValue) (d : WindowValue) → i < length ws
+    → StandFor f n ws → StandsFor (get_or ws i d) (f (n + i))
 stand_at f n i [] d below h = absurd (omega arith)
 stand_at f n zero (w ∷ ws) d below h = let e : n ≡ n + 0 = omega arith in subst (λ k. StandsFor w (f k)) e h.0
-stand_at f n (suc i) (w ∷ ws) d below h = let e : n + 1 + i ≡ n + suc i = omega arith in subst (λ k. StandsFor (get_or ws i d) (f k)) e (stand_at f (n + 1) i ws d (omega arith) h.1)
+stand_at f n (suc i) (w ∷ ws) d below h = let e : n + 1 + i ≡ n + suc i = omega arith in
+    subst (λ k. StandsFor (get_or ws i d) (f k)) e (stand_at f (n + 1) i ws d (omega arith) h.1)
 
-pub stand_here : (f : ℕ → List SizedPut) (i : ℕ) (ws : List WindowValue) (d : WindowValue) → i < length ws → StandFor f 0 ws → StandsFor (get_or ws i d) (f i)
-stand_here f i ws d below h = let e : 0 + i ≡ i = omega arith in subst (λ k. StandsFor (get_or ws i d) (f k)) e (stand_at f 0 i ws d below h)
+pub stand_here : (f : ℕ → List SizedPut) (i : ℕ) (ws : List WindowValue) (d : WindowValue) → i < length ws
+    → StandFor f 0 ws → StandsFor (get_or ws i d) (f i)
+stand_here f i ws d below h = let e : 0 + i ≡ i = omega arith in
+    subst (λ k. StandsFor (get_or ws i d) (f k)) e (stand_at f 0 i ws d below h)
 
-pub counted_at : (moment i : ℕ) (ws : List WindowValue) (d : WindowValue) → i < length ws → AllByRecursion (IsCounted moment) ws → IsCounted moment (get_or ws i d)
+pub counted_at : (moment i : ℕ) (ws : List WindowValue) (d : WindowValue) → i < length ws
+    → AllByRecursion (IsCounted moment) ws → IsCounted moment (get_or ws i d)
 counted_at moment i [] d below h = absurd (omega arith)
 counted_at moment zero (w ∷ ws) d below h = h.0
 counted_at moment (suc i) (w ∷ ws) d below h = counted_at moment i ws d (omega arith) h.1
 
 -- ---- the same puts
 
-pub stand_along : (f g : ℕ → List SizedPut) (n : ℕ) (ws : List WindowValue) → ((sh : ℕ) → n ≤ sh → f sh ≡ g sh) → StandFor f n ws → StandFor g n ws
+pub stand_along : (f g : ℕ → List SizedPut) (n : ℕ) (ws : List WindowValue) → ((sh : ℕ) → n ≤ sh → f sh ≡ g sh)
+    → StandFor f n ws → StandFor g n ws
 stand_along f g n [] same h = tt
-stand_along f g n (w ∷ ws) same h = (subst (StandsFor w) (same n (omega arith)) h.0, stand_along f g (n + 1) ws (λ sh beyond. same sh (omega (arith, beyond))) h.1)
+stand_along f g n (w ∷ ws) same h = (
+  subst (StandsFor w) (same n (omega arith)) h.0,
+  stand_along f g (n + 1) ws (λ sh beyond. same sh (omega (arith, beyond))) h.1,
+)
 
 -- ---- one put more
 
@@ -43,12 +53,15 @@ put_elsewhere sh n p f is = ap (λ b. if b then p ∷ f n else f n) (sym is)
 higher_number : (n m : ℕ) → m < n → (n == m) ≡ false
 higher_number n m h = grind (arith, nat_tests, h)
 
-pub stand_set : (f : ℕ → List SizedPut) (n i at : ℕ) (ws : List WindowValue) (w : WindowValue) (p : SizedPut) → at ≡ n + i → i < length ws → StandsFor w (p ∷ f at) → StandFor f n ws → StandFor (with_put at p f) n (slice_set ws i w)
+pub stand_set : (f : ℕ → List SizedPut) (n i at : ℕ) (ws : List WindowValue) (w : WindowValue) (p : SizedPut)
+    → at ≡ n + i → i < length ws → StandsFor w (p ∷ f at) → StandFor f n ws
+    → StandFor (with_put at p f) n (slice_set ws i w)
 stand_set f n i at [] w p is below stands h = tt
 stand_set f n zero at (x ∷ ws) w p is below stands h =
     let e : at ≡ n = omega (arith, is) in (
       subst (StandsFor w) (ap (λ k. p ∷ f k) e ∙ put_here at n p f e) stands,
-      stand_along f (with_put at p f) (n + 1) ws (λ sh beyond. put_elsewhere at sh p f (other_number at sh (omega (arith, e, beyond)))) h.1,
+      stand_along f (with_put at p f) (n + 1) ws
+          (λ sh beyond. put_elsewhere at sh p f (other_number at sh (omega (arith, e, beyond)))) h.1,
     )
 stand_set f n (suc i) at (x ∷ ws) w p is below stands h = (
   subst (StandsFor x) (put_elsewhere at n p f (higher_number at n (omega (arith, is)))) h.0,

@@ -1,5 +1,6 @@
 -- Records that are stored together: how they are routed, and that the logs take them.
-use Rattle.std.proofs.Common.{◌≡◌, ◌≢◌, ℕ, zero, suc, ◌+◌, ◌^◌, ◌<◌, ◌≤◌, Bool, true, false, List, [], ◌∷◌, ◌++◌, length, get_or, take, map, Some, refl, sym, ap, subst, ◌∙◌, arith}
+use Rattle.std.proofs.Common.{◌≡◌, ◌≢◌, ℕ, zero, suc, ◌+◌, ◌^◌, ◌<◌, ◌≤◌, Bool, true, false, List, [], ◌∷◌, ◌++◌}
+use Rattle.std.proofs.Common.{length, get_or, take, map, Some, refl, sym, ap, subst, ◌∙◌, arith}
 use Rattle.std.specs.Prelude.{◌==◌, cond, slice_set, if◌then◌else◌}
 use Rattle.std.specs.List.{AllByRecursion, count_by, filter}
 use Rattle.std.proofs.lemmas.List.{append_assoc, append-nil, length-append}
@@ -17,7 +18,10 @@ use Rattle.kds_stream_logs.proofs.Rates.{stand_along}
 use Rattle.kds_stream_logs.specs.declared.routes.Routed.{Routed}
 use Rattle.kds_stream_logs.specs.declared.routes.Routes.{Routes}
 use Rattle.kds_stream_logs.specs.Rating.{StandFor}
-use Rattle.kds_stream_logs.specs.Routes.{AreInTurn, ArePlaced, AreRouted, CanTake, CanTakeAll, GoesOn, IsRouted, IsSooner, IsWithin, after_item, after_items, after_number, is_held, outcome_of, outcomes, taken, is_place_of, is_routed_to, place_of, room_at, routed_item, routed_items, stored_item, with_each}
+use Rattle.kds_stream_logs.specs.Routes.{AreInTurn, ArePlaced, AreRouted, CanTake, CanTakeAll, GoesOn, IsRouted}
+use Rattle.kds_stream_logs.specs.Routes.{IsSooner, IsWithin, after_item, after_items, after_number, is_held, outcome_of}
+use Rattle.kds_stream_logs.specs.Routes.{outcomes, taken, is_place_of, is_routed_to, place_of, room_at, routed_item}
+use Rattle.kds_stream_logs.specs.Routes.{routed_items, stored_item, with_each}
 use Rattle.kds_stream_logs.specs.Logs.{HasArrived, IsBelow, with_appended}
 
 -- ---- memory
@@ -40,19 +44,37 @@ room_is (x ∷ ls) zero d below = refl
 room_is (x ∷ ls) (suc i) d below = room_is ls i d (omega arith)
 
 -- one place more has memory
-module _ (ls : List LogWithRoom) (i : ℕ) (d l : LogWithRoom) (ps : List Place) (k : ℕ) (p : Place) (below : i < length ls) (at : i ≡ p.shard) (grows : l.room ≡ (get_or ls i d).room + 1) (within : k < length ps) (is : p ≡ get_or ps k p)
+module _ (ls : List LogWithRoom) (i : ℕ) (d l : LogWithRoom) (ps : List Place) (k : ℕ) (p : Place)
+    (below : i < length ls) (at : i ≡ p.shard) (grows : l.room ≡ (get_or ls i d).room + 1) (within : k < length ps)
+    (is : p ≡ get_or ps k p)
     (had : (sh : ℕ) → count_by (is_place_of sh) (take k ps) ≤ room_at ls sh) (sh : ℕ) where
-  more_places : count_by (is_place_of sh) (take (k + 1) ps) ≡ count_by (is_place_of sh) (take k ps) + cond (p.shard == sh) 1 0
-  more_places = sum_by_more (λ (q : Place). cond (is_place_of sh q) 1 0) ps k p within ∙ ap (λ (q : Place). count_by (is_place_of sh) (take k ps) + cond (is_place_of sh q) 1 0) (sym is)
+  more_places : count_by (is_place_of sh) (take (k + 1) ps) ≡ count_by (is_place_of sh) (take k ps)
+      + cond (p.shard == sh) 1 0
+  more_places = sum_by_more (λ (q : Place). cond (is_place_of sh q) 1 0) ps k p within
+      ∙ ap (λ (q : Place). count_by (is_place_of sh) (take k ps) + cond (is_place_of sh q) 1 0) (sym is)
 
-  reserved_by : (b : Bool) → (p.shard == sh) ≡ b → count_by (is_place_of sh) (take (k + 1) ps) ≤ room_at (slice_set ls i l) sh
+  reserved_by : (b : Bool) → (p.shard == sh) ≡ b
+      → count_by (is_place_of sh) (take (k + 1) ps) ≤ room_at (slice_set ls i l) sh
   reserved_by true e =
       let same : i ≡ sh = at ∙ equal_so p.shard sh e in
-      let before : count_by (is_place_of sh) (take k ps) ≤ room_at ls i = subst (λ n. count_by (is_place_of sh) (take k ps) ≤ room_at ls n) (sym same) (had sh) in
+      let before : count_by (is_place_of sh) (take k ps) ≤ room_at ls i =
+      subst (λ n. count_by (is_place_of sh) (take k ps) ≤ room_at ls n) (sym same) (had sh) in
       subst (λ n. count_by (is_place_of sh) (take (k + 1) ps) ≤ room_at (slice_set ls i l) n) same
-      (omega (arith, more_places ∙ ap (λ c. count_by (is_place_of sh) (take k ps) + cond c 1 0) e, room_here ls i l below, room_is ls i d below, grows, before))
+      (omega (
+        arith,
+        more_places ∙ ap (λ c. count_by (is_place_of sh) (take k ps) + cond c 1 0) e,
+        room_here ls i l below,
+        room_is ls i d below,
+        grows,
+        before,
+      ))
   reserved_by false e =
-      omega (arith, more_places ∙ ap (λ c. count_by (is_place_of sh) (take k ps) + cond c 1 0) e, had sh, room_other ls i sh l (λ same. differ_so p.shard sh e (sym at ∙ same)))
+      omega (
+        arith,
+        more_places ∙ ap (λ c. count_by (is_place_of sh) (take k ps) + cond c 1 0) e,
+        had sh,
+        room_other ls i sh l (λ same. differ_so p.shard sh e (sym at ∙ same)),
+      )
 
   pub reserved_more : count_by (is_place_of sh) (take (k + 1) ps) ≤ room_at (slice_set ls i l) sh
   reserved_more = reserved_by (p.shard == sh) refl
@@ -72,28 +94,36 @@ length-set [] i l = refl
 length-set (x ∷ ls) zero l = refl
 length-set (x ∷ ls) (suc i) l = ap suc (length-set ls i l)
 
-all_set : (P : LogValue → Type 0) (ls : List LogWithRoom) (i : ℕ) (l : LogWithRoom) → P (log_of l) → AllByRecursion P (map log_of ls) → AllByRecursion P (map log_of (slice_set ls i l))
+all_set : (P : LogValue → Type 0) (ls : List LogWithRoom) (i : ℕ) (l : LogWithRoom) → P (log_of l)
+    → AllByRecursion P (map log_of ls) → AllByRecursion P (map log_of (slice_set ls i l))
 all_set P [] i l p h = tt
 all_set P (x ∷ ls) zero l p h = (p, h.1)
 all_set P (x ∷ ls) (suc i) l p h = (h.0, all_set P ls i l p h.1)
 
 -- the log of the first one has memory
-pub room_left : (ls : List LogWithRoom) (i : ℕ) (r : Routed) (rs : List Routed) → i ≡ r.shard → CanTakeAll ls (r ∷ rs) → 1 ≤ room_at ls i
+pub room_left : (ls : List LogWithRoom) (i : ℕ) (r : Routed) (rs : List Routed) → i ≡ r.shard → CanTakeAll ls (r ∷ rs)
+    → 1 ≤ room_at ls i
 room_left ls i r rs at can =
-    let counted : cond (r.shard == i) 1 0 + count_by (is_routed_to i) rs ≤ room_at ls i = subst (λ n. n ≤ room_at ls i) (sum_by-cons (λ (q : Routed). cond (is_routed_to i q) 1 0) r rs) (can.room i) in
-    let had : cond true 1 0 + count_by (is_routed_to i) rs ≤ room_at ls i = subst (λ c. cond c 1 0 + count_by (is_routed_to i) rs ≤ room_at ls i) (is_equal r.shard i (sym at)) counted in
+    let counted : cond (r.shard == i) 1 0 + count_by (is_routed_to i) rs ≤ room_at ls i =
+    subst (λ n. n ≤ room_at ls i) (sum_by-cons (λ (q : Routed). cond (is_routed_to i q) 1 0) r rs) (can.room i) in
+    let had : cond true 1 0 + count_by (is_routed_to i) rs ≤ room_at ls i =
+    subst (λ c. cond c 1 0 + count_by (is_routed_to i) rs ≤ room_at ls i) (is_equal r.shard i (sym at)) counted in
     omega (arith, had)
 
-module _ (ls : List LogWithRoom) (i : ℕ) (d l : LogWithRoom) (r : Routed) (rs : List Routed) (at : i ≡ r.shard) (below : i < length ls) (used : l.room + 1 ≡ (get_or ls i d).room)
-    (is : log_of l ≡ record { kept = (get_or ls i d).kept ++ logged r.item ∷ []; last = Some r.item.seq }) (can : CanTakeAll ls (r ∷ rs)) where
+module _ (ls : List LogWithRoom) (i : ℕ) (d l : LogWithRoom) (r : Routed) (rs : List Routed) (at : i ≡ r.shard)
+    (below : i < length ls) (used : l.room + 1 ≡ (get_or ls i d).room)
+    (is : log_of l ≡ record { kept = (get_or ls i d).kept ++ logged r.item ∷ []; last = Some r.item.seq })
+    (can : CanTakeAll ls (r ∷ rs)) where
   number_more : (q : Routed) → IsSooner r q → CanTake (map log_of ls) q → IsBelow q.item.seq (log_of l)
-  number_more q sooner take = let lower : r.item.seq < q.item.seq = sooner.0 in subst (IsBelow q.item.seq) (sym is) lower
+  number_more q sooner take = let lower : r.item.seq < q.item.seq = sooner.0 in
+      subst (IsBelow q.item.seq) (sym is) lower
 
   arrival_more : (q : Routed) → IsSooner r q → CanTake (map log_of ls) q → HasArrived q.item.arrival (log_of l)
   arrival_more q sooner take =
       let earlier : r.item.arrival ≤ q.item.arrival = sooner.1 in
       subst (HasArrived q.item.arrival) (sym is)
-      (all_append (λ (x : Logged). x.arrival ≤ q.item.arrival) (get_or ls i d).kept (logged r.item ∷ []) (all_logs_at (HasArrived q.item.arrival) ls i d below take.arrival) (earlier, tt))
+      (all_append (λ (x : Logged). x.arrival ≤ q.item.arrival) (get_or ls i d).kept (logged r.item ∷ [])
+      (all_logs_at (HasArrived q.item.arrival) ls i d below take.arrival) (earlier, tt))
 
   take_more : (q : Routed) → IsSooner r q → CanTake (map log_of ls) q → CanTake (map log_of (slice_set ls i l)) q
   take_more q sooner take = record {
@@ -103,67 +133,94 @@ module _ (ls : List LogWithRoom) (i : ℕ) (d l : LogWithRoom) (r : Routed) (rs 
   }
 
   counted : (sh : ℕ) → cond (r.shard == sh) 1 0 + count_by (is_routed_to sh) rs ≤ room_at ls sh
-  counted sh = subst (λ n. n ≤ room_at ls sh) (sum_by-cons (λ (q : Routed). cond (is_routed_to sh q) 1 0) r rs) (can.room sh)
+  counted sh = subst (λ n. n ≤ room_at ls sh) (sum_by-cons (λ (q : Routed). cond (is_routed_to sh q) 1 0) r rs)
+      (can.room sh)
 
   used_by : (sh : ℕ) (b : Bool) → (r.shard == sh) ≡ b → count_by (is_routed_to sh) rs ≤ room_at (slice_set ls i l) sh
   used_by sh true e =
       let same : i ≡ sh = at ∙ equal_so r.shard sh e in
-      let had : cond true 1 0 + count_by (is_routed_to sh) rs ≤ room_at ls sh = subst (λ c. cond c 1 0 + count_by (is_routed_to sh) rs ≤ room_at ls sh) e (counted sh) in
-      let had' : 1 + count_by (is_routed_to sh) rs ≤ room_at ls i = subst (λ n. 1 + count_by (is_routed_to sh) rs ≤ room_at ls n) (sym same) had in
-      subst (λ n. count_by (is_routed_to sh) rs ≤ room_at (slice_set ls i l) n) same (omega (arith, had', room_here ls i l below, room_is ls i d below, used))
+      let had : cond true 1 0 + count_by (is_routed_to sh) rs ≤ room_at ls sh =
+      subst (λ c. cond c 1 0 + count_by (is_routed_to sh) rs ≤ room_at ls sh) e (counted sh) in
+      let had' : 1 + count_by (is_routed_to sh) rs ≤ room_at ls i =
+      subst (λ n. 1 + count_by (is_routed_to sh) rs ≤ room_at ls n) (sym same) had in
+      subst (λ n. count_by (is_routed_to sh) rs ≤ room_at (slice_set ls i l) n) same
+      (omega (arith, had', room_here ls i l below, room_is ls i d below, used))
   used_by sh false e =
-      let had : cond false 1 0 + count_by (is_routed_to sh) rs ≤ room_at ls sh = subst (λ c. cond c 1 0 + count_by (is_routed_to sh) rs ≤ room_at ls sh) e (counted sh) in
+      let had : cond false 1 0 + count_by (is_routed_to sh) rs ≤ room_at ls sh =
+      subst (λ c. cond c 1 0 + count_by (is_routed_to sh) rs ≤ room_at ls sh) e (counted sh) in
       omega (arith, had, room_other ls i sh l (λ same. differ_so r.shard sh e (sym at ∙ same)))
 
   pub taken_one : CanTakeAll (slice_set ls i l) rs
   taken_one = record {
-    each = all_both (IsSooner r) (CanTake (map log_of ls)) (CanTake (map log_of (slice_set ls i l))) take_more rs can.in_turn.0 can.each.1;
+    each = all_both (IsSooner r) (CanTake (map log_of ls)) (CanTake (map log_of (slice_set ls i l)))
+        take_more rs can.in_turn.0 can.each.1;
     room = λ sh. used_by sh (r.shard == sh) refl;
     in_turn = can.in_turn.1;
   }
 
   pub with_one : with_each rs (map log_of (slice_set ls i l)) ≡ with_each (r ∷ rs) (map log_of ls)
-  with_one = ap (with_each rs) (appended_at ls i d l (logged r.item) below is ∙ ap (λ n. with_appended n (logged r.item) (map log_of ls)) at)
+  with_one = ap (with_each rs) (appended_at ls i d l (logged r.item) below is
+      ∙ ap (λ n. with_appended n (logged r.item) (map log_of ls)) at)
 
 -- ---- the records of items
 
 -- one item more is routed
-module _ (xs : List ShardState) (c : ℕ) (on : Bool) (f : ℕ → List SizedPut) (n : ℕ) (whole items rest : List NewItem) (item : NewItem) (r q : Routes) (us ws : List WindowValue) (are : items ≡ item ∷ rest) (h : GoesOn xs c on f n whole items r us) (one : IsRouted xs c on h.present item r q ws) where
-  routed_by : (b : Bool) → is_held xs c on h.present item ≡ b → q.routed.items ++ routed_items xs c q.next (taken xs c on (after_item xs c h.present item b) rest) ≡ r.routed.items ++ routed_items xs c r.next (if b then taken xs c on (after_item xs c h.present item b) rest else item ∷ taken xs c on (after_item xs c h.present item b) rest)
+module _ (xs : List ShardState) (c : ℕ) (on : Bool) (f : ℕ → List SizedPut) (n : ℕ) (whole items rest : List NewItem)
+    (item : NewItem) (r q : Routes) (us ws : List WindowValue) (are : items ≡ item ∷ rest)
+    (h : GoesOn xs c on f n whole items r us) (one : IsRouted xs c on h.present item r q ws) where
+  routed_by : (b : Bool) → is_held xs c on h.present item ≡ b
+      → q.routed.items ++ routed_items xs c q.next (taken xs c on (after_item xs c h.present item b) rest)
+      ≡ r.routed.items ++ routed_items xs c r.next
+      (if b then taken xs c on (after_item xs c h.present item b) rest else item
+      ∷ taken xs c on (after_item xs c h.present item b) rest)
   routed_by true is =
-      let same : q.routed.items ≡ r.routed.items = one.routed ∙ ap (λ d. if d then r.routed.items else r.routed.items ++ routed_item xs c r.next item ∷ []) is in
+      let same : q.routed.items ≡ r.routed.items =
+      one.routed ∙ ap (λ d. if d then r.routed.items else r.routed.items ++ routed_item xs c r.next item ∷ []) is in
       let number : q.next ≡ r.next = one.next_is ∙ ap (after_number r.next) is in
       ap (λ qs. qs ++ routed_items xs c q.next (taken xs c on h.present rest)) same
       ∙ ap (λ k. r.routed.items ++ routed_items xs c k (taken xs c on h.present rest)) number
   routed_by false is =
-      let more : q.routed.items ≡ r.routed.items ++ routed_item xs c r.next item ∷ [] = one.routed ∙ ap (λ d. if d then r.routed.items else r.routed.items ++ routed_item xs c r.next item ∷ []) is in
+      let more : q.routed.items ≡ r.routed.items ++ routed_item xs c r.next item ∷ [] =
+      one.routed ∙ ap (λ d. if d then r.routed.items else r.routed.items ++ routed_item xs c r.next item ∷ []) is in
       let number : q.next ≡ r.next + 1 = one.next_is ∙ ap (after_number r.next) is in
       let ts : List NewItem = taken xs c on (after_item xs c h.present item false) rest in
       ap (λ qs. qs ++ routed_items xs c q.next ts) more
       ∙ append_assoc r.routed.items (routed_item xs c r.next item ∷ []) (routed_items xs c q.next ts)
       ∙ ap (λ k. r.routed.items ++ routed_item xs c r.next item ∷ routed_items xs c k ts) number
 
-  number_by : (b : Bool) → is_held xs c on h.present item ≡ b → q.next + length (taken xs c on (after_item xs c h.present item b) rest) ≡ r.next + length (if b then taken xs c on (after_item xs c h.present item b) rest else item ∷ taken xs c on (after_item xs c h.present item b) rest)
-  number_by true is = let number : q.next ≡ r.next = one.next_is ∙ ap (after_number r.next) is in ap (λ k. k + length (taken xs c on h.present rest)) number
-  number_by false is = let number : q.next ≡ r.next + 1 = one.next_is ∙ ap (after_number r.next) is in omega (arith, number)
+  number_by : (b : Bool) → is_held xs c on h.present item ≡ b
+      → q.next + length (taken xs c on (after_item xs c h.present item b) rest)
+      ≡ r.next + length (if b then taken xs c on (after_item xs c h.present item b) rest else item
+      ∷ taken xs c on (after_item xs c h.present item b) rest)
+  number_by true is = let number : q.next ≡ r.next = one.next_is ∙ ap (after_number r.next) is in
+      ap (λ k. k + length (taken xs c on h.present rest)) number
+  number_by false is = let number : q.next ≡ r.next + 1 = one.next_is ∙ ap (after_number r.next) is in
+      omega (arith, number)
 
   pub goes_on : GoesOn xs c on f n whole rest q ws
   goes_on = record {
     present = after_item xs c h.present item (is_held xs c on h.present item);
     stand = one.stand;
     after = λ sh. ap (λ ys. after_items xs c on h.present ys sh) (sym are) ∙ h.after sh;
-    routed = routed_by (is_held xs c on h.present item) refl ∙ ap (λ ys. r.routed.items ++ routed_items xs c r.next (taken xs c on h.present ys)) (sym are) ∙ h.routed;
+    routed = routed_by (is_held xs c on h.present item) refl
+        ∙ ap (λ ys. r.routed.items ++ routed_items xs c r.next (taken xs c on h.present ys)) (sym are) ∙ h.routed;
     outcomes_are =
-        ap (λ os. os ++ outcomes xs c on (after_item xs c h.present item (is_held xs c on h.present item)) q.next rest) one.outcomes_are
-        ∙ append_assoc r.outcomes (outcome_of xs r.next item (is_held xs c on h.present item) ∷ []) (outcomes xs c on (after_item xs c h.present item (is_held xs c on h.present item)) q.next rest)
-        ∙ ap (λ k. r.outcomes ++ outcome_of xs r.next item (is_held xs c on h.present item) ∷ outcomes xs c on (after_item xs c h.present item (is_held xs c on h.present item)) k rest) one.next_is
+        ap (λ os. os ++ outcomes xs c on (after_item xs c h.present item (is_held xs c on h.present item)) q.next rest)
+        one.outcomes_are
+        ∙ append_assoc r.outcomes (outcome_of xs r.next item (is_held xs c on h.present item) ∷ [])
+        (outcomes xs c on (after_item xs c h.present item (is_held xs c on h.present item)) q.next rest)
+        ∙ ap (λ k. r.outcomes ++ outcome_of xs r.next item (is_held xs c on h.present item)
+        ∷ outcomes xs c on (after_item xs c h.present item (is_held xs c on h.present item)) k rest) one.next_is
         ∙ ap (λ ys. r.outcomes ++ outcomes xs c on h.present r.next ys) (sym are)
         ∙ h.outcomes_are;
-    next_is = number_by (is_held xs c on h.present item) refl ∙ ap (λ ys. r.next + length (taken xs c on h.present ys)) (sym are) ∙ h.next_is;
+    next_is = number_by (is_held xs c on h.present item) refl
+        ∙ ap (λ ys. r.next + length (taken xs c on h.present ys)) (sym are) ∙ h.next_is;
   }
 
 -- where no item is left, all are routed
-pub routed_all : (xs : List ShardState) (c : ℕ) (on : Bool) (f : ℕ → List SizedPut) (n : ℕ) (whole items : List NewItem) (r : Routes) (ws : List WindowValue) → items ≡ [] → GoesOn xs c on f n whole items r ws → AreRouted xs c on f n whole r ws
+pub routed_all : (xs : List ShardState) (c : ℕ) (on : Bool) (f : ℕ → List SizedPut) (n : ℕ) (whole items : List NewItem)
+    (r : Routes) (ws : List WindowValue) → items ≡ [] → GoesOn xs c on f n whole items r ws
+    → AreRouted xs c on f n whole r ws
 routed_all xs c on f n whole items r ws none h =
     let h' : GoesOn xs c on f n whole [] r ws = subst (λ ys. GoesOn xs c on f n whole ys r ws) none h in
     record {
@@ -177,14 +234,18 @@ places-append : (rs : List Routed) (r : Routed) → map place_of (rs ++ r ∷ []
 places-append [] r = refl
 places-append (q ∷ rs) r = ap (λ (ps : List Place). place_of q ∷ ps) (places-append rs r)
 
-routed-append : (xs : List ShardState) (c n : ℕ) (items : List NewItem) (item : NewItem) → routed_items xs c n (items ++ item ∷ []) ≡ routed_items xs c n items ++ routed_item xs c (n + length items) item ∷ []
+routed-append : (xs : List ShardState) (c n : ℕ) (items : List NewItem) (item : NewItem)
+    → routed_items xs c n (items ++ item ∷ []) ≡ routed_items xs c n items ++ routed_item xs c (n + length items) item
+    ∷ []
 routed-append xs c n [] item = let e : n ≡ n + 0 = omega arith in ap (λ k. routed_item xs c k item ∷ []) e
 routed-append xs c n (x ∷ items) item =
     let e : n + 1 + length items ≡ n + suc (length items) = omega arith in
-    ap (λ (rs : List Routed). routed_item xs c n x ∷ rs) (routed-append xs c (n + 1) items item ∙ ap (λ k. routed_items xs c (n + 1) items ++ routed_item xs c k item ∷ []) e)
+    ap (λ (rs : List Routed). routed_item xs c n x ∷ rs) (routed-append xs c (n + 1) items item
+    ∙ ap (λ k. routed_items xs c (n + 1) items ++ routed_item xs c k item ∷ []) e)
 
 -- no record has its place yet
-pub placed_none : (xs : List ShardState) (c n : ℕ) (r : Routes) → r.routed.items ≡ [] → r.places ≡ [] → r.next ≡ n → n < 2 ^ 64 → ArePlaced xs c n r
+pub placed_none : (xs : List ShardState) (c n : ℕ) (r : Routes) → r.routed.items ≡ [] → r.places ≡ [] → r.next ≡ n
+    → n < 2 ^ 64 → ArePlaced xs c n r
 placed_none xs c n r none no_place number below = record {
   items = [];
   are = none;
@@ -194,7 +255,8 @@ placed_none xs c n r none no_place number below = record {
   places_are = no_place ∙ ap (map place_of) (sym none);
 }
 
-pub placed_same : (xs : List ShardState) (c n : ℕ) (r q : Routes) → q.routed.items ≡ r.routed.items → q.places ≡ r.places → q.next ≡ r.next → ArePlaced xs c n r → ArePlaced xs c n q
+pub placed_same : (xs : List ShardState) (c n : ℕ) (r q : Routes) → q.routed.items ≡ r.routed.items
+    → q.places ≡ r.places → q.next ≡ r.next → ArePlaced xs c n r → ArePlaced xs c n q
 placed_same xs c n r q same there number placed = record {
   items = placed.items;
   are = same ∙ placed.are;
@@ -205,7 +267,10 @@ placed_same xs c n r q same there number placed = record {
 }
 
 -- a record more has its place
-pub placed_more : (xs : List ShardState) (c n sh : ℕ) (r q : Routes) (item : NewItem) → sh ≡ home_among (filter is_open xs) item.hash → q.routed.items ≡ r.routed.items ++ stored_item sh c r.next item ∷ [] → q.places ≡ r.places ++ place_of (stored_item sh c r.next item) ∷ [] → q.next ≡ r.next + 1 → q.next < 2 ^ 64 → sh < length xs → ArePlaced xs c n r → ArePlaced xs c n q
+pub placed_more : (xs : List ShardState) (c n sh : ℕ) (r q : Routes) (item : NewItem)
+    → sh ≡ home_among (filter is_open xs) item.hash → q.routed.items ≡ r.routed.items ++ stored_item sh c r.next item
+    ∷ [] → q.places ≡ r.places ++ place_of (stored_item sh c r.next item) ∷ [] → q.next ≡ r.next + 1 → q.next < 2 ^ 64
+    → sh < length xs → ArePlaced xs c n r → ArePlaced xs c n q
 placed_more xs c n sh r q item at more there number fits inside placed =
     let x : Routed = stored_item sh c r.next item in
     let many : length (placed.items ++ item ∷ []) ≡ length placed.items + 1 = length-append placed.items (item ∷ []) in
@@ -219,18 +284,24 @@ placed_more xs c n sh r q item at more there number fits inside placed =
           ∙ sym (routed-append xs c n placed.items item);
       next_is = omega (arith, number, placed.next_is, many);
       fits = fits;
-      within = subst (AllByRecursion (IsWithin (length xs))) (sym more) (all_append (IsWithin (length xs)) r.routed.items (x ∷ []) placed.within (inside, tt));
-      places_are = there ∙ ap (λ ps. ps ++ place_of x ∷ []) placed.places_are ∙ sym (places-append r.routed.items x) ∙ ap (map place_of) (sym more);
+      within = subst (AllByRecursion (IsWithin (length xs))) (sym more)
+          (all_append (IsWithin (length xs)) r.routed.items (x ∷ []) placed.within (inside, tt));
+      places_are = there ∙ ap (λ ps. ps ++ place_of x ∷ []) placed.places_are ∙ sym (places-append r.routed.items x)
+          ∙ ap (map place_of) (sym more);
     }
 
 -- none are routed yet
-pub routed_none : (xs : List ShardState) (c : ℕ) (on : Bool) (f : ℕ → List SizedPut) (n : ℕ) (whole : List NewItem) (r : Routes) (ws : List WindowValue) → r.routed.items ≡ [] → r.outcomes ≡ [] → r.next ≡ n → StandFor f 0 ws → GoesOn xs c on f n whole whole r ws
+pub routed_none : (xs : List ShardState) (c : ℕ) (on : Bool) (f : ℕ → List SizedPut) (n : ℕ) (whole : List NewItem)
+    (r : Routes) (ws : List WindowValue) → r.routed.items ≡ [] → r.outcomes ≡ [] → r.next ≡ n → StandFor f 0 ws
+    → GoesOn xs c on f n whole whole r ws
 routed_none xs c on f n whole r ws no_routed no_outcomes number stand = record {
   present = f;
   stand = stand;
   after = λ sh. refl;
-  routed = ap (λ qs. qs ++ routed_items xs c r.next (taken xs c on f whole)) no_routed ∙ ap (λ k. routed_items xs c k (taken xs c on f whole)) number;
-  outcomes_are = ap (λ os. os ++ outcomes xs c on f r.next whole) no_outcomes ∙ ap (λ k. outcomes xs c on f k whole) number;
+  routed = ap (λ qs. qs ++ routed_items xs c r.next (taken xs c on f whole)) no_routed
+      ∙ ap (λ k. routed_items xs c k (taken xs c on f whole)) number;
+  outcomes_are = ap (λ os. os ++ outcomes xs c on f r.next whole) no_outcomes
+      ∙ ap (λ k. outcomes xs c on f k whole) number;
   next_is = ap (λ k. k + length (taken xs c on f whole)) number;
 }
 
@@ -239,29 +310,38 @@ pub record IsFrom (first clock : ℕ) (r : Routed) : Type 0 where
   pub number : first ≤ r.item.seq
   pub arrival : r.item.arrival ≡ clock
 
-pub all_from : (xs : List ShardState) (clock first n : ℕ) (items : List NewItem) → first ≤ n → AllByRecursion (IsFrom first clock) (routed_items xs clock n items)
+pub all_from : (xs : List ShardState) (clock first n : ℕ) (items : List NewItem) → first ≤ n
+    → AllByRecursion (IsFrom first clock) (routed_items xs clock n items)
 all_from xs clock first n [] le = tt
-all_from xs clock first n (item ∷ items) le = (record { number = le; arrival = refl }, all_from xs clock first (n + 1) items (omega (arith, le)))
+all_from xs clock first n (item ∷ items) le =
+    (record { number = le; arrival = refl }, all_from xs clock first (n + 1) items (omega (arith, le)))
 
 pub turns : (xs : List ShardState) (clock n : ℕ) (items : List NewItem) → AreInTurn (routed_items xs clock n items)
 turns xs clock n [] = tt
 turns xs clock n (item ∷ items) = (
-  all_weaker (IsFrom (n + 1) clock) (IsSooner (routed_item xs clock n item)) (λ q from. (omega (arith, from.number), omega (arith, from.arrival))) (routed_items xs clock (n + 1) items) (all_from xs clock (n + 1) (n + 1) items (omega arith)),
+  all_weaker (IsFrom (n + 1) clock) (IsSooner (routed_item xs clock n item))
+      (λ q from. (omega (arith, from.number), omega (arith, from.arrival))) (routed_items xs clock (n + 1) items)
+      (all_from xs clock (n + 1) (n + 1) items (omega arith)),
   turns xs clock (n + 1) items,
 )
 
-pub all_places : (count : ℕ) (rs : List Routed) → AllByRecursion (IsWithin count) rs → AllByRecursion (λ (p : Place). p.shard < count) (map place_of rs)
+pub all_places : (count : ℕ) (rs : List Routed) → AllByRecursion (IsWithin count) rs
+    → AllByRecursion (λ (p : Place). p.shard < count) (map place_of rs)
 all_places count [] h = tt
 all_places count (r ∷ rs) h = (h.0, all_places count rs h.1)
 
 -- the shards of their places are there
-pub places_within : (ls : List LogWithRoom) (rs : List Routed) (ps : List Place) → ps ≡ map place_of rs → AllByRecursion (CanTake (map log_of ls)) rs → AllByRecursion (λ (p : Place). p.shard < length ls) ps
+pub places_within : (ls : List LogWithRoom) (rs : List Routed) (ps : List Place) → ps ≡ map place_of rs
+    → AllByRecursion (CanTake (map log_of ls)) rs → AllByRecursion (λ (p : Place). p.shard < length ls) ps
 places_within ls rs ps placed can =
     subst (AllByRecursion (λ (p : Place). p.shard < length ls)) (sym placed)
-    (all_places (length ls) rs (all_weaker (CanTake (map log_of ls)) (IsWithin (length ls)) (λ r take. omega (arith, take.within, as_many_logs ls)) rs can))
+    (all_places (length ls) rs
+    (all_weaker (CanTake (map log_of ls)) (IsWithin (length ls))
+    (λ r take. omega (arith, take.within, as_many_logs ls)) rs can))
 
 -- once memory is reserved for their places they can all be taken
-pub can_take_all : (before : List LogValue) (ls : List LogWithRoom) (rs : List Routed) (ps : List Place) → ps ≡ map place_of rs → map log_of ls ≡ before → AllByRecursion (CanTake before) rs → AreInTurn rs
+pub can_take_all : (before : List LogValue) (ls : List LogWithRoom) (rs : List Routed) (ps : List Place)
+    → ps ≡ map place_of rs → map log_of ls ≡ before → AllByRecursion (CanTake before) rs → AreInTurn rs
     → ((sh : ℕ) → count_by (is_place_of sh) ps ≤ room_at ls sh) → CanTakeAll ls rs
 can_take_all before ls rs ps placed same can turns room = record {
   each = subst (λ (ms : List LogValue). AllByRecursion (CanTake ms) rs) (sym same) can;

@@ -27,4 +27,5 @@ set_outside (v ∷ ws) (suc i) w h = ap (λ (us : List WindowValue). v ∷ us) (
 pub restored_more : (saved : List SavedWindow) (s : SavedWindow) (ws : List WindowValue)
     → restored (saved ++ s ∷ []) ws ≡ restored saved (slice_set ws s.shard s.window)
 restored_more [] s ws = refl
-restored_more (t ∷ saved) s ws = ap (λ (us : List WindowValue). slice_set us t.shard t.window) (restored_more saved s ws)
+restored_more (t ∷ saved) s ws =
+    ap (λ (us : List WindowValue). slice_set us t.shard t.window) (restored_more saved s ws)

@@ -1,5 +1,6 @@
 -- Records on their way to the logs of their shards.
-use Rattle.std.specs.Prelude.{ℕ, zero, suc, ◌≡◌, ◌+◌, ◌^◌, ◌<◌, ◌≤◌, Bool, true, false, ◌==◌, ◌&&◌, if◌then◌else◌, List, [], ◌∷◌, ◌++◌, length, map}
+use Rattle.std.specs.Prelude.{ℕ, zero, suc, ◌≡◌, ◌+◌, ◌^◌, ◌<◌, ◌≤◌, Bool, true, false, ◌==◌, ◌&&◌, if◌then◌else◌, List}
+use Rattle.std.specs.Prelude.{[], ◌∷◌, ◌++◌, length, map}
 use Rattle.std.specs.List.{AllByRecursion, count_by, filter}
 use Rattle.kds_defs.specs.declared.command.NewItem.{NewItem}
 use Rattle.kds_defs.specs.declared.reply.Outcome.{Outcome}
@@ -39,11 +40,13 @@ is_held xs clock on f item = on && is_throttled (f (home_among (filter is_open x
 -- the puts after it, where it is held back, or taken
 abbrev pub after_item : List ShardState → ℕ → (ℕ → List SizedPut) → NewItem → Bool → ℕ → List SizedPut
 after_item xs clock f item true = f
-after_item xs clock f item false = with_put (home_among (filter is_open xs) item.hash) (record { clock = clock; bytes = item_bytes item }) f
+after_item xs clock f item false =
+    with_put (home_among (filter is_open xs) item.hash) (record { clock = clock; bytes = item_bytes item }) f
 
 abbrev pub after_items : List ShardState → ℕ → Bool → (ℕ → List SizedPut) → List NewItem → ℕ → List SizedPut
 after_items xs clock on f [] = f
-after_items xs clock on f (item ∷ items) = after_items xs clock on (after_item xs clock f item (is_held xs clock on f item)) items
+after_items xs clock on f (item ∷ items) =
+    after_items xs clock on (after_item xs clock f item (is_held xs clock on f item)) items
 
 -- the items that are taken: each is judged after those before
 abbrev pub taken : List ShardState → ℕ → Bool → (ℕ → List SizedPut) → List NewItem → List NewItem
@@ -123,16 +126,19 @@ pub record CanTakeAll (ls : List LogWithRoom) (rs : List Routed) : Type 0 where
 -- ---- what is made of items
 
 -- of one item, where the windows stand for these puts before it
-pub record IsRouted (xs : List ShardState) (clock : ℕ) (on : Bool) (f : ℕ → List SizedPut) (item : NewItem) (before after : Routes)
+pub record IsRouted (xs : List ShardState) (clock : ℕ) (on : Bool) (f : ℕ → List SizedPut) (item : NewItem)
+    (before after : Routes)
     (ws : List WindowValue) : Type 0 where
   pub stand : StandFor (after_item xs clock f item (is_held xs clock on f item)) 0 ws
   pub routed : after.routed.items ≡ (if is_held xs clock on f item then before.routed.items
       else before.routed.items ++ routed_item xs clock before.next item ∷ [])
-  pub outcomes_are : after.outcomes ≡ before.outcomes ++ outcome_of xs before.next item (is_held xs clock on f item) ∷ []
+  pub outcomes_are : after.outcomes ≡ before.outcomes ++ outcome_of xs before.next item (is_held xs clock on f item)
+      ∷ []
   pub next_is : after.next ≡ after_number before.next (is_held xs clock on f item)
 
 -- of items, with numbers from n on
-pub record AreRouted (xs : List ShardState) (clock : ℕ) (on : Bool) (f : ℕ → List SizedPut) (n : ℕ) (items : List NewItem) (r : Routes)
+pub record AreRouted (xs : List ShardState) (clock : ℕ) (on : Bool) (f : ℕ
+    → List SizedPut) (n : ℕ) (items : List NewItem) (r : Routes)
     (ws : List WindowValue) : Type 0 where
   pub stand : StandFor (after_items xs clock on f items) 0 ws
   pub routed : r.routed.items ≡ routed_items xs clock n (taken xs clock on f items)
@@ -140,12 +146,14 @@ pub record AreRouted (xs : List ShardState) (clock : ℕ) (on : Bool) (f : ℕ �
   pub next_is : r.next ≡ n + length (taken xs clock on f items)
 
 -- the routes that are so far, and what the items that are left make, are what all items make
-pub record GoesOn (xs : List ShardState) (clock : ℕ) (on : Bool) (f : ℕ → List SizedPut) (n : ℕ) (all items : List NewItem) (r : Routes)
+pub record GoesOn (xs : List ShardState) (clock : ℕ) (on : Bool) (f : ℕ
+    → List SizedPut) (n : ℕ) (all items : List NewItem) (r : Routes)
     (ws : List WindowValue) : Type 0 where
   pub present : ℕ → List SizedPut
   pub stand : StandFor present 0 ws
   pub after : (sh : ℕ) → after_items xs clock on present items sh ≡ after_items xs clock on f all sh
-  pub routed : r.routed.items ++ routed_items xs clock r.next (taken xs clock on present items) ≡ routed_items xs clock n (taken xs clock on f all)
+  pub routed : r.routed.items ++ routed_items xs clock r.next (taken xs clock on present items)
+      ≡ routed_items xs clock n (taken xs clock on f all)
   pub outcomes_are : r.outcomes ++ outcomes xs clock on present r.next items ≡ outcomes xs clock on f n all
   pub next_is : r.next + length (taken xs clock on present items) ≡ n + length (taken xs clock on f all)
 

@@ -21,7 +21,8 @@ starts_in xs = starts_among (filter is_open xs)
 
 -- the shards after a step that drew this number at a clock
 abbrev pub stepped : ScaleStep → ℕ → ℕ → List ShardState → List ShardState
-stepped (Join b) n c xs = merged_shards (home_in xs (b - 1)) (home_in xs b) (record { number = n; clock = c }) (n + 1) xs
+stepped (Join b) n c xs =
+    merged_shards (home_in xs (b - 1)) (home_in xs b) (record { number = n; clock = c }) (n + 1) xs
 stepped (Cut b) n c xs = split_shards (home_in xs b) b (record { number = n; clock = c }) (n + 1) xs
 
 -- its entry

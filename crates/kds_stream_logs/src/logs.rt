@@ -59,7 +59,8 @@ pub fn put_at(
     requires within { i < length logs.old }
     requires number { AllByRecursion (IsBelow item.seq) (map log_of logs.old) }
     requires arrival { AllByRecursion (HasArrived item.arrival) (map log_of logs.old) }
-    ensures ok { OnOk result (map log_of logs.new ≡ settled_at (floor_of cut) i (with_appended i (logged item) (map log_of logs.old))) }
+    ensures ok { OnOk result (map log_of logs.new
+        ≡ settled_at (floor_of cut) i (with_appended i (logged item) (map log_of logs.old))) }
     ensures err { OnErr result (map log_of logs.new ≡ map log_of logs.old) }
 {
     append_at(logs, i, item)?;

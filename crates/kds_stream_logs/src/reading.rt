@@ -80,7 +80,8 @@ pub fn position(
 ) -> Option<u64>
     requires { IsUnder next shard.now.end }
     ensures { (x : ShardState) → shard.now ≡ shown x
-        → result ≡ (if is_good_start from next x then Some (position_from next (left_among (floor_of cut) 0 log.now.kept) from) else None) }
+        → result ≡ (if is_good_start from next x then Some
+        (position_from next (left_among (floor_of cut) 0 log.now.kept) from) else None) }
 {
     let latest = next.0;
     match from {
@@ -110,7 +111,8 @@ pub fn batch_at(
     requires { IsBelow (2 ^ 64 - 1) (log_of log.now) }
     ensures batch { IfOk result (λ r. r.0 ≡ map stored (batch_among (floor_of cut) position limit log.now.kept)) }
     ensures numbers { IfOk result (λ r. AllByRecursion (λ x. x.seq < 2 ^ 64 - 1) r.0) }
-    ensures place { IfOk result (λ r. r.1 ≡ place_after position (numbers_of (batch_among (floor_of cut) position limit log.now.kept))) }
+    ensures place { IfOk result
+        (λ r. r.1 ≡ place_after position (numbers_of (batch_among (floor_of cut) position limit log.now.kept))) }
 {
     let batch = log.batch(alloc, cut, position, limit)?;
     let place = place_after(position, batch.as_slice());

@@ -1,7 +1,8 @@
 //! Routes the records of a PutRecords request to the logs of their shards. An item is a record of the request. The
 //! place of a stored record is its shard and its sequence number. The throughput window of a shard counts the records
 //! and bytes that the shard accepted within a second.
-ghost use Rattle.std.specs.Prelude.{◌≡◌, ◌+◌, ◌^◌, ◌<◌, ◌≤◌, ◌∷◌, ◌++◌, ◌&&◌, [], true, false, ℕ, List, length, map, IfNone, IfOk, IfSome, OnErr, OnOk};
+ghost use Rattle.std.specs.Prelude.{◌≡◌, ◌+◌, ◌^◌, ◌<◌, ◌≤◌, ◌∷◌, ◌++◌, ◌&&◌, [], true, false, ℕ, List, length, map};
+ghost use Rattle.std.specs.Prelude.{IfNone, IfOk, IfSome, OnErr, OnOk};
 ghost use Rattle.std.specs.List.{AllByRecursion, count_by};
 ghost use Rattle.kds_defs.specs.Lawful.{item_bytes};
 ghost use Rattle.kds_defs.specs.Rates.{SizedPut, is_throttled};
@@ -9,7 +10,9 @@ ghost use Rattle.kds_defs.specs.Streams.{floor_of};
 ghost use Rattle.kds_log.specs.Log.{log_of};
 ghost use Rattle.kds_rate.specs.Windows.{WindowValue};
 ghost use Rattle.kds_stream_logs.specs.Rating.{ForPutsOf, IsCounted, StandFor, with_put};
-ghost use Rattle.kds_stream_logs.specs.Routes.{AreInTurn, ArePlaced, AreRouted, CanTake, CanTakeAll, IsRouted, is_held, is_place_of, place_of, room_at, settled_each, stored_item, taken, with_each};
+ghost use Rattle.kds_stream_logs.specs.Routes.{AreInTurn, ArePlaced, AreRouted, CanTake, CanTakeAll, IsRouted, is_held};
+ghost use Rattle.kds_stream_logs.specs.Routes.{is_place_of, place_of, room_at, settled_each, stored_item, taken};
+ghost use Rattle.kds_stream_logs.specs.Routes.{with_each};
 ghost use Rattle.kds_stream_logs.specs.Saved.{DiffersAt, restored};
 
 use crate::logs::settle_at;
@@ -99,9 +102,12 @@ impl Routes {
     /// arrival time. The key and the payload of the item are moved into the record, and not copied.
     fn store(&mut self, shard: ShardNo, item: NewItem, clock: Moment) -> Result<(), Memory>
         requires { self.old.next + 1 < 2 ^ 64 }
-        ensures routed { OnOk result (self.new.routed.items ≡ self.old.routed.items ++ stored_item shard clock self.old.next item ∷ []) }
-        ensures places { OnOk result (self.new.places ≡ self.old.places ++ record { shard = shard; seq = self.old.next } ∷ []) }
-        ensures outcomes { OnOk result (self.new.outcomes ≡ self.old.outcomes ++ Outcome.Stored (record { shard = shard; seq = self.old.next }) ∷ []) }
+        ensures routed { OnOk result (self.new.routed.items ≡ self.old.routed.items
+            ++ stored_item shard clock self.old.next item ∷ []) }
+        ensures places { OnOk result (self.new.places ≡ self.old.places ++ record { shard = shard; seq = self.old.next }
+            ∷ []) }
+        ensures outcomes { OnOk result (self.new.outcomes ≡ self.old.outcomes
+            ++ Outcome.Stored (record { shard = shard; seq = self.old.next }) ∷ []) }
         ensures next { OnOk result (self.new.next ≡ self.old.next + 1) }
         ensures saved { self.new.saved ≡ self.old.saved }
     {
@@ -132,7 +138,8 @@ fn holds_back(
 ) -> bool
     requires within { shard < length windows.old }
     requires counted { AllByRecursion (IsCounted clock) windows.old }
-    ensures held { (f : ℕ → List SizedPut) → StandFor f 0 windows.old → result ≡ (enforced && is_throttled (f shard) clock bytes) }
+    ensures held { (f : ℕ → List SizedPut) → StandFor f 0 windows.old
+        → result ≡ (enforced && is_throttled (f shard) clock bytes) }
     ensures same { result ≡ true → windows.new ≡ windows.old }
     ensures stand { result ≡ false → (f : ℕ → List SizedPut) → StandFor f 0 windows.old
         → StandFor (with_put shard (record { clock = clock; bytes = bytes }) f) 0 windows.new }
@@ -160,9 +167,11 @@ fn route_one(
     requires many { length windows.old ≡ length tree.now.shards }
     requires counted { AllByRecursion (IsCounted clock) windows.old }
     ensures routed { IfOk result (λ more. more ≡ true
-        → ForPutsOf windows.old (λ f. IsRouted tree.now.shards clock enforced f item routes.old routes.new windows.new)) }
+        → ForPutsOf windows.old
+        (λ f. IsRouted tree.now.shards clock enforced f item routes.old routes.new windows.new)) }
     ensures spent { IfOk result (λ more. more ≡ false
-        → ForPutsOf windows.old (λ f. (is_held tree.now.shards clock enforced f item ≡ false) × (routes.old.next + 1 ≡ 2 ^ 64))) }
+        → ForPutsOf windows.old (λ f. (is_held tree.now.shards clock enforced f item ≡ false)
+        × (routes.old.next + 1 ≡ 2 ^ 64))) }
     ensures placed { IfOk result (λ more. more ≡ true → (first : ℕ)
         → ArePlaced tree.now.shards clock first routes.old → ArePlaced tree.now.shards clock first routes.new) }
     ensures counted { AllByRecursion (IsCounted clock) windows.new }
@@ -200,7 +209,9 @@ pub fn route_all(
     ensures routed { IfOk result (λ o. IfSome o (λ r.
         ForPutsOf windows.old (λ f. AreRouted tree.now.shards clock enforced f first items.items r windows.new))) }
     ensures placed { IfOk result (λ o. IfSome o (λ r. ArePlaced tree.now.shards clock first r)) }
-    ensures spent { IfOk result (λ o. IfNone o (ForPutsOf windows.old (λ f. 2 ^ 64 ≤ first + length (taken tree.now.shards clock enforced f items.items)))) }
+    ensures spent { IfOk result
+        (λ o. IfNone o (ForPutsOf windows.old
+        (λ f. 2 ^ 64 ≤ first + length (taken tree.now.shards clock enforced f items.items)))) }
     ensures counted { AllByRecursion (IsCounted clock) windows.new }
     ensures saved { IfOk result (λ o. IfSome o (λ r. restored r.saved.items windows.new ≡ windows.old)) }
     ensures none { IfOk result (λ o. IfNone o (windows.new ≡ windows.old)) }
@@ -281,7 +292,8 @@ pub fn put_all(
     requires places { places.now ≡ map place_of routed.items }
     requires each { AllByRecursion (CanTake (map log_of logs.old)) routed.items }
     requires in_turn { AreInTurn routed.items }
-    ensures ok { OnOk result (map log_of logs.new ≡ settled_each (floor_of cut) places.now (with_each routed.items (map log_of logs.old))) }
+    ensures ok { OnOk result (map log_of logs.new
+        ≡ settled_each (floor_of cut) places.now (with_each routed.items (map log_of logs.old))) }
     ensures err { OnErr result (map log_of logs.new ≡ map log_of logs.old) }
 {
     release_all(logs, places);

@@ -1,6 +1,7 @@
 //! Carries out the steps of a scaling (UpdateShardCount). Each step is a merge or a split. The journal is the event log
 //! of the server, and an entry is one event.
-ghost use Rattle.std.specs.Prelude.{OnOk, ◌≡◌, ◌+◌, ◌-◌, ◌*◌, ◌^◌, ◌<◌, ◌≤◌, ◌++◌, ◌∷◌, ◌||◌, [], true, false, ℕ, List, length, map, nat_lt, replicate, vec_capacity, vec_len};
+ghost use Rattle.std.specs.Prelude.{OnOk, ◌≡◌, ◌+◌, ◌-◌, ◌*◌, ◌^◌, ◌<◌, ◌≤◌, ◌++◌, ◌∷◌, ◌||◌, [], true, false, ℕ, List};
+ghost use Rattle.std.specs.Prelude.{length, map, nat_lt, replicate, vec_capacity, vec_len};
 ghost use Rattle.kds_defs.specs.ScaleCommands.{made_by};
 ghost use Rattle.kds_defs.specs.Scaling.{LeadTo, MayStep, after_step, is_start, with_start, without};
 ghost use Rattle.kds_defs.specs.StreamCommands.{last_number};
@@ -125,7 +126,8 @@ pub fn take_steps(
     requires numbers { first + length steps.now < 2 ^ 64 }
     requires memory { vec_len entries.old + length steps.now ≤ vec_capacity entries.old }
     ensures value { tree.new.shards ≡ scaled steps.now first clock tree.old.shards }
-    ensures starts { (wanted : List ℕ) → LeadTo steps.now (starts_in tree.old.shards) wanted → starts_in tree.new.shards ≡ wanted }
+    ensures starts { (wanted : List ℕ) → LeadTo steps.now (starts_in tree.old.shards) wanted
+        → starts_in tree.new.shards ≡ wanted }
     ensures entries { entries.new.items ≡ entries.old.items ++ entries_in no steps.now first clock tree.old.shards }
 {
     let mut number = first;

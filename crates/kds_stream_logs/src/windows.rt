@@ -37,7 +37,8 @@ pub fn admits_at(windows: &[Window], i: usize, clock: Moment, bytes: u64) -> boo
 pub fn count_at(windows: &mut [Window], i: usize, clock: Moment, bytes: u64)
     requires within { i < length windows.old }
     requires counted { AllByRecursion (IsCounted clock) windows.old }
-    ensures stand { (f : ℕ → List SizedPut) → StandFor f 0 windows.old → StandFor (with_put i (record { clock = clock; bytes = bytes }) f) 0 windows.new }
+    ensures stand { (f : ℕ → List SizedPut) → StandFor f 0 windows.old
+        → StandFor (with_put i (record { clock = clock; bytes = bytes }) f) 0 windows.new }
     ensures counted { AllByRecursion (IsCounted clock) windows.new }
     ensures saved { DiffersAt i windows.new windows.old }
 {

@@ -1,5 +1,6 @@
 -- A text and its fields.
-use Rattle.std.proofs.Common.{◌≡◌, ℕ, zero, suc, ◌+◌, ◌<◌, ◌^◌, List, length, [], ◌∷◌, ◌++◌, take, drop, Bool, true, false, Option, Some, None, refl, ap, ◌∙◌, arith, decimal, inl, inr, subst}
+use Rattle.std.proofs.Common.{◌≡◌, ℕ, zero, suc, ◌+◌, ◌<◌, ◌^◌, List, length, [], ◌∷◌, ◌++◌, take, drop, Bool, true}
+use Rattle.std.proofs.Common.{false, Option, Some, None, refl, ap, ◌∙◌, arith, decimal, inl, inr, subst}
 use Rattle.std.proofs.lemmas.Grind.{common_steps}
 use Rattle.std.proofs.lemmas.Bool.{cases_Bool, eqb-true, and_parts}
 use Rattle.std.proofs.lemmas.Fmt.{digits_decimal}
@@ -23,16 +24,22 @@ other_byte b differs = elim (cases_Bool (b == 58)) [
   | inr other ↦ other
 ]
 
-found_at : (text : List ℕ) (at : ℕ) → at < length text → ((k : ℕ) → k < at → Passes (is_byte 58) text k → ⊥) → Passes (is_byte 58) text at → field text ≡ Some (take at text, drop (suc at) text)
+found_at : (text : List ℕ) (at : ℕ) → at < length text → ((k : ℕ) → k < at → Passes (is_byte 58) text k → ⊥)
+    → Passes (is_byte 58) text at → field text ≡ Some (take at text, drop (suc at) text)
 found_at [] at within before here = absurd (omega (arith, within))
 found_at (b ∷ bs) zero within before here = rw here refl
 found_at (b ∷ bs) (suc at) within before here =
-    rw (other_byte b (before 0 (omega arith)), found_at bs at (omega (arith, within)) (λ k lt. before (suc k) (omega (arith, lt))) here) refl
+    rw (
+      other_byte b (before 0 (omega arith)),
+      found_at bs at (omega (arith, within)) (λ k lt. before (suc k) (omega (arith, lt))) here,
+    ) refl
 
-pub field_found : (text : List ℕ) (at : ℕ) → NoneBefore (Passes (is_byte 58) text) 0 (length text) at × Passes (is_byte 58) text at → field text ≡ Some (take at text, drop (at + 1) text)
+pub field_found : (text : List ℕ) (at : ℕ) → NoneBefore (Passes (is_byte 58) text) 0 (length text) at
+    × Passes (is_byte 58) text at → field text ≡ Some (take at text, drop (at + 1) text)
 field_found text at found =
     let next : suc at ≡ at + 1 = omega arith in
-    found_at text at found.0.high (λ k lt. found.0.before k (omega arith) lt) found.1 ∙ ap (λ n. Some (take at text, drop n text)) next
+    found_at text at found.0.high (λ k lt. found.0.before k (omega arith) lt) found.1
+    ∙ ap (λ n. Some (take at text, drop n text)) next
 
 -- where it finds none
 pub field_nowhere : (text : List ℕ) → ((k : ℕ) → k < length text → Passes (is_byte 58) text k → ⊥) → field text ≡ None
@@ -46,7 +53,8 @@ abbrev pub IsField : List ℕ → List ℕ × List ℕ → Type 0
 IsField text p = (text ≡ p.0 ++ 58 ∷ p.1) × HasNoColon p.0
 
 field_rest : (b : ℕ) (bs : List ℕ) (o : Option (List ℕ × List ℕ)) (p : List ℕ × List ℕ) → (b == 58) ≡ false
-    → ((q : List ℕ × List ℕ) → o ≡ Some q → IsField bs q) → option_map (λ (q : List ℕ × List ℕ). (b ∷ q.0, q.1)) o ≡ Some p → IsField (b ∷ bs) p
+    → ((q : List ℕ × List ℕ) → o ≡ Some q → IsField bs q) → option_map (λ (q : List ℕ × List ℕ). (b ∷ q.0, q.1)) o
+    ≡ Some p → IsField (b ∷ bs) p
 field_rest b bs None p n rest e = absurd (cc)
 field_rest b bs (Some q) p n rest e =
     let same : (b ∷ q.0, q.1) ≡ p = cc in
@@ -55,7 +63,8 @@ field_rest b bs (Some q) p n rest e =
 
 field_cases : (c : Bool) (b : ℕ) (bs : List ℕ) (p : List ℕ × List ℕ) → (b == 58) ≡ c
     → ((q : List ℕ × List ℕ) → field bs ≡ Some q → IsField bs q)
-    → (if c then Some ([], bs) else option_map (λ (q : List ℕ × List ℕ). (b ∷ q.0, q.1)) (field bs)) ≡ Some p → IsField (b ∷ bs) p
+    → (if c then Some ([], bs) else option_map (λ (q : List ℕ × List ℕ). (b ∷ q.0, q.1)) (field bs)) ≡ Some p
+    → IsField (b ∷ bs) p
 field_cases true b bs p c rest e =
     let same : ([], bs) ≡ p = cc in
     let colon : b ≡ 58 = eqb-true b 58 c in
@@ -74,7 +83,8 @@ in_time_is n m h = elim (cases_Bool (nat_lt n (2 ^ 62))) [
   | inr big ↦ let e : None ≡ Some m = rw big at h in absurd (cc)
 ]
 
-moment_of_text : (o : Option ℕ) (text : List ℕ) (at : ℕ) → number_of 64 text ≡ o → option_and_then in_time o ≡ Some at → (text ≡ decimal at) × (at < 2 ^ 62)
+moment_of_text : (o : Option ℕ) (text : List ℕ) (at : ℕ) → number_of 64 text ≡ o → option_and_then in_time o ≡ Some at
+    → (text ≡ decimal at) × (at < 2 ^ 62)
 moment_of_text None text at e h = absurd (cc)
 moment_of_text (Some n) text at e h =
     let t = in_time_is n at h in
@@ -92,7 +102,8 @@ moment_again at small = ap (option_and_then in_time) (number_of_decimal at (omeg
 
 -- ---- steps that may fail
 
-pub bind_some : {A B : Type 0} (o : Option A) (f : A → Option B) (y : B) → (o >>= f) ≡ Some y → (x : A) × (o ≡ Some x) × (f x ≡ Some y)
+pub bind_some : {A B : Type 0} (o : Option A) (f : A → Option B) (y : B) → (o >>= f) ≡ Some y → (x : A) × (o ≡ Some x)
+    × (f x ≡ Some y)
 bind_some None f y h = absurd (cc)
 bind_some (Some x) f y h = (x, refl, h)
 
@@ -106,7 +117,8 @@ digit_small b h = grind (arith, common_steps)
 
 digits_no_colon : (ds : List ℕ) → list_all is_ascii_digit ds ≡ true → HasNoColon ds
 digits_no_colon [] h = tt
-digits_no_colon (d ∷ ds) h = let p = and_parts (is_ascii_digit d) (list_all is_ascii_digit ds) h in (digit_no_colon d p.0, digits_no_colon ds p.1)
+digits_no_colon (d ∷ ds) h = let p = and_parts (is_ascii_digit d) (list_all is_ascii_digit ds) h in
+    (digit_no_colon d p.0, digits_no_colon ds p.1)
 
 pub decimal_no_colon : (n : ℕ) → n < 2 ^ 64 → HasNoColon (decimal n)
 decimal_no_colon n small = digits_no_colon (decimal n) (digits_decimal own n small)
@@ -118,7 +130,8 @@ AreSmall (b ∷ bs) = (b < 256) × AreSmall bs
 
 digits_small : (ds : List ℕ) → list_all is_ascii_digit ds ≡ true → AreSmall ds
 digits_small [] h = tt
-digits_small (d ∷ ds) h = let p = and_parts (is_ascii_digit d) (list_all is_ascii_digit ds) h in (digit_small d p.0, digits_small ds p.1)
+digits_small (d ∷ ds) h = let p = and_parts (is_ascii_digit d) (list_all is_ascii_digit ds) h in
+    (digit_small d p.0, digits_small ds p.1)
 
 pub decimal_small : (n : ℕ) → n < 2 ^ 64 → AreSmall (decimal n)
 decimal_small n small = digits_small (decimal n) (digits_decimal own n small)

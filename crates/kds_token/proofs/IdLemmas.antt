@@ -1,5 +1,6 @@
 -- A shard's id reads as its number, and as no other.
-use Rattle.std.proofs.Common.{subst, rules, ◌≡◌, ◌≢◌, ℕ, zero, suc, ◌-◌, ◌^◌, ◌<◌, List, ◌++◌, length, drop, replicate, decimal, Bool, true, false, Option, Some, None, refl, sym, ap, ◌∙◌, arith}
+use Rattle.std.proofs.Common.{subst, rules, ◌≡◌, ◌≢◌, ℕ, zero, suc, ◌-◌, ◌^◌, ◌<◌, List, ◌++◌, length, drop, replicate}
+use Rattle.std.proofs.Common.{decimal, Bool, true, false, Option, Some, None, refl, sym, ap, ◌∙◌, arith}
 use Rattle.std.specs.Prelude.{◌&&◌, nat_lt, if◌then◌else◌}
 use Rattle.std.specs.Str.{bytes_eq}
 use Rattle.std.specs.Char.{is_ascii_digit}
@@ -47,10 +48,13 @@ pub id_reads : (n : ℕ) → n < 2 ^ 64 → id_of (shard_id n) ≡ Some n
 unfolding id_of
 id_reads n small = ap (if_id (shard_id n)) (id_value n small) ∙ if_id_again n small
 
-if_id_is : (b c : Bool) (text : List ℕ) (m n : ℕ) → nat_lt m (2 ^ 64) ≡ b → bytes_eq text (shard_id m) ≡ c → (if b && c then Some m else None) ≡ Some n → (text ≡ shard_id n) × (n < 2 ^ 64)
+if_id_is : (b c : Bool) (text : List ℕ) (m n : ℕ) → nat_lt m (2 ^ 64) ≡ b → bytes_eq text (shard_id m) ≡ c
+    → (if b && c then Some m else None) ≡ Some n → (text ≡ shard_id n) × (n < 2 ^ 64)
 if_id_is true true text m n fits is h =
-    let same : m ≡ n = cc in
-    ((bytes_eq-Decides text (shard_id m)).0 is ∙ ap shard_id same, subst (λ (z : ℕ). z < 2 ^ 64) same (grind (arith, nat_tests)))
+    let same : m ≡ n = cc in (
+      (bytes_eq-Decides text (shard_id m)).0 is ∙ ap shard_id same,
+      subst (λ (z : ℕ). z < 2 ^ 64) same (grind (arith, nat_tests)),
+    )
 if_id_is true false text m n fits is h = absurd (cc)
 if_id_is false c text m n fits is h = absurd (cc)
 
@@ -83,10 +87,13 @@ twelve_read n small =
     let fits : nat_lt n (2 ^ 64) ≡ true = grind (arith, nat_tests) in
     rw (tested, id_value n small, fits) refl
 
-pub tail_read : (text tail : List ℕ) (n : ℕ) → tail ≡ drop 8 text → text ≡ shard_id n → n < 2 ^ 64 → digits_of 64 tail ≡ Some n
+pub tail_read : (text tail : List ℕ) (n : ℕ) → tail ≡ drop 8 text → text ≡ shard_id n → n < 2 ^ 64
+    → digits_of 64 tail ≡ Some n
 tail_read text tail n cut e small = ap (digits_of 64) (cut ∙ ap (drop 8) e) ∙ twelve_read n small
 
 -- a text that is the id of no other number than this one, and not of this one, is no id
-pub no_id : (text : List ℕ) (found o : Option ℕ) → id_of text ≡ o → ((n : ℕ) → n < 2 ^ 64 → text ≡ shard_id n → found ≡ Some n) → ((n : ℕ) → found ≡ Some n → text ≢ shard_id n) → None ≡ id_of text
+pub no_id : (text : List ℕ) (found o : Option ℕ) → id_of text ≡ o
+    → ((n : ℕ) → n < 2 ^ 64 → text ≡ shard_id n → found ≡ Some n) → ((n : ℕ) → found ≡ Some n → text ≢ shard_id n)
+    → None ≡ id_of text
 no_id text found None is only other = sym is
 no_id text found (Some n) is only other = let i = id_is text n is in absurd (other n (only n i.1 i.0) i.0)

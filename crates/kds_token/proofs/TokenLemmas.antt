@@ -1,5 +1,6 @@
 -- What a token reads as.
-use Rattle.std.proofs.Common.{◌≡◌, ◌≢◌, ℕ, zero, suc, List, [], ◌∷◌, ◌++◌, Bool, true, false, Option, Some, None, refl, sym, ap, ◌∙◌, arith, codes, decimal, subst}
+use Rattle.std.proofs.Common.{◌≡◌, ◌≢◌, ℕ, zero, suc, List, [], ◌∷◌, ◌++◌, Bool, true, false, Option, Some, None, refl}
+use Rattle.std.proofs.Common.{sym, ap, ◌∙◌, arith, codes, decimal, subst}
 use Rattle.std.specs.Prelude.{if◌then◌else◌, slice_index}
 use Rattle.std.specs.Result.{result_ok}
 use Rattle.std.specs.declared.result.Result.{Result}
@@ -15,8 +16,10 @@ use Rattle.kds_base.proofs.Facts.{same_some}
 use Rattle.kds_defs.specs.declared.reply.Iter.{Iter}
 use Rattle.kds_defs.specs.declared.reply.Page.{Page}
 use Rattle.kds_token.specs.Fields.{◌>>=◌, field, moment_of}
-use Rattle.kds_token.specs.Tokens.{iter_text, iter_token, IsIter, ReadsAsIter, iter_from, iter_in, iter_of, page_text, page_token, IsPage, ReadsAsPage, page_from, page_in, page_of}
-use Rattle.kds_token.proofs.FieldLemmas.{field_at, field_spells, moment_spells, moment_again, bind_some, decimal_no_colon, AreSmall, decimal_small, small-append}
+use Rattle.kds_token.specs.Tokens.{iter_text, iter_token, IsIter, ReadsAsIter, iter_from, iter_in, iter_of, page_text}
+use Rattle.kds_token.specs.Tokens.{page_token, IsPage, ReadsAsPage, page_from, page_in, page_of}
+use Rattle.kds_token.proofs.FieldLemmas.{field_at, field_spells, moment_spells, moment_again, bind_some}
+use Rattle.kds_token.proofs.FieldLemmas.{decimal_no_colon, AreSmall, decimal_small, small-append}
 
 -- ---- base64
 
@@ -35,49 +38,65 @@ ok_from (Err y) x h = absurd (cc)
 
 decoded_spells : (text bs : List ℕ) → IsBytes text → decoded_of standard text ≡ Some bs → text ≡ encode_of standard bs
 unfolding decoded_of
-decoded_spells text bs bytes h = decode_of_strict standard text bs (refl, refl) bytes (ok_from (decode_of standard text) bs h)
+decoded_spells text bs bytes h =
+    decode_of_strict standard text bs (refl, refl) bytes (ok_from (decode_of standard text) bs h)
 
 -- ---- fields
 
 three_fields : {a b c x y z : List ℕ} → a ≡ x → b ≡ y → c ≡ z → a ++ 58 ∷ (b ++ 58 ∷ c) ≡ x ++ 58 ∷ (y ++ 58 ∷ z)
 three_fields p q r = rw (p, q, r) refl
 
-four_fields : {a b c d w x y z : List ℕ} → a ≡ w → b ≡ x → c ≡ y → d ≡ z → a ++ 58 ∷ (b ++ 58 ∷ (c ++ 58 ∷ d)) ≡ w ++ 58 ∷ (x ++ 58 ∷ (y ++ 58 ∷ z))
+four_fields : {a b c d w x y z : List ℕ} → a ≡ w → b ≡ x → c ≡ y → d ≡ z
+    → a ++ 58 ∷ (b ++ 58 ∷ (c ++ 58 ∷ d)) ≡ w ++ 58 ∷ (x ++ 58 ∷ (y ++ 58 ∷ z))
 four_fields p q r s = rw (p, q, r, s) refl
 
 -- ---- iterators
 
-kind_is : {A : Type 0} (b : Bool) (x y : List ℕ) (o : Option A) (z : A) → bytes_eq x y ≡ b → (if b then o else None) ≡ Some z → (x ≡ y) × (o ≡ Some z)
+kind_is : {A : Type 0} (b : Bool) (x y : List ℕ) (o : Option A) (z : A) → bytes_eq x y ≡ b
+    → (if b then o else None) ≡ Some z → (x ≡ y) × (o ≡ Some z)
 kind_is true x y o z e h = ((bytes_eq-Decides x y).0 e, h)
 kind_is false x y o z e h = absurd (cc)
 
 pub iter_small : (i : Iter) → IsIter i → AreSmall (iter_text i)
 iter_small i is =
     let issued = decimal_small i.issued (omega (arith, is.issued)) in
-    let position = small-append (decimal i.position) (58 ∷ decimal i.issued) (decimal_small i.position is.position) (omega arith, issued) in
-    let shard = small-append (decimal i.shard) (58 ∷ (decimal i.position ++ 58 ∷ decimal i.issued)) (decimal_small i.shard is.shard) (omega arith, position) in
-    let stream = small-append (decimal i.stream) (58 ∷ (decimal i.shard ++ 58 ∷ (decimal i.position ++ 58 ∷ decimal i.issued))) (decimal_small i.stream is.stream) (omega arith, shard) in
+    let position = small-append (decimal i.position) (58 ∷ decimal i.issued) (decimal_small i.position is.position)
+    (omega arith, issued) in
+    let shard = small-append (decimal i.shard) (58 ∷ (decimal i.position ++ 58 ∷ decimal i.issued))
+    (decimal_small i.shard is.shard) (omega arith, position) in
+    let stream = small-append (decimal i.stream)
+    (58 ∷ (decimal i.shard ++ 58 ∷ (decimal i.position ++ 58 ∷ decimal i.issued)))
+    (decimal_small i.stream is.stream) (omega arith, shard) in
     (omega arith, (omega arith, (omega arith, (omega arith, stream))))
 
-iter_from_again : (i : Iter) → IsIter i → iter_from (decimal i.stream) (decimal i.shard) (decimal i.position) (decimal i.issued) ≡ Some i
+iter_from_again : (i : Iter) → IsIter i
+    → iter_from (decimal i.stream) (decimal i.shard) (decimal i.position) (decimal i.issued) ≡ Some i
 unfolding iter_from
 iter_from_again i is =
-    rw (number_of_decimal i.stream is.stream, number_of_decimal i.shard is.shard, number_of_decimal i.position is.position, moment_again i.issued is.issued) refl
+    rw (
+      number_of_decimal i.stream is.stream,
+      number_of_decimal i.shard is.shard,
+      number_of_decimal i.position is.position,
+      moment_again i.issued is.issued,
+    ) refl
 
 iter_again : (i : Iter) → IsIter i → iter_in (iter_text i) ≡ Some i
 unfolding iter_in
 iter_again i is =
     rw (
-      field_at (decimal i.stream) (decimal i.shard ++ 58 ∷ (decimal i.position ++ 58 ∷ decimal i.issued)) (decimal_no_colon i.stream is.stream),
+      field_at (decimal i.stream) (decimal i.shard ++ 58 ∷ (decimal i.position ++ 58 ∷ decimal i.issued))
+          (decimal_no_colon i.stream is.stream),
       field_at (decimal i.shard) (decimal i.position ++ 58 ∷ decimal i.issued) (decimal_no_colon i.shard is.shard),
       field_at (decimal i.position) (decimal i.issued) (decimal_no_colon i.position is.position),
     ) (iter_from_again i is)
 
 abbrev IsIterOf : List ℕ → List ℕ → List ℕ → List ℕ → Iter → Type 0
 IsIterOf stream shard position issued i =
-    IsIter i × (stream ++ 58 ∷ (shard ++ 58 ∷ (position ++ 58 ∷ issued)) ≡ decimal i.stream ++ 58 ∷ (decimal i.shard ++ 58 ∷ (decimal i.position ++ 58 ∷ decimal i.issued)))
+    IsIter i × (stream ++ 58 ∷ (shard ++ 58 ∷ (position ++ 58 ∷ issued)) ≡ decimal i.stream
+    ++ 58 ∷ (decimal i.shard ++ 58 ∷ (decimal i.position ++ 58 ∷ decimal i.issued)))
 
-iter_from_spells : (stream shard position issued : List ℕ) (i : Iter) → iter_from stream shard position issued ≡ Some i → IsIterOf stream shard position issued i
+iter_from_spells : (stream shard position issued : List ℕ) (i : Iter) → iter_from stream shard position issued ≡ Some i
+    → IsIterOf stream shard position issued i
 unfolding iter_from
 iter_from_spells stream shard position issued i h =
     let a = bind_some (number_of 64 stream) _ i h in
@@ -112,7 +131,8 @@ iter_spells text i h =
     (f.0, fa.0 ∙ ap (λ z. z ++ 58 ∷ a.0.1) k.0 ∙ ap (λ z. codes "KI1:" ++ z) (rest ∙ f.1))
 
 iter_reads : (text : List ℕ) (i : Iter) → IsIter i → text ≡ iter_token i → iter_of text ≡ Some i
-iter_reads text i is e = ap iter_of e ∙ ap (λ o. o >>= iter_in) (decoded_again (iter_text i) (iter_small i is)) ∙ iter_again i is
+iter_reads text i is e = ap iter_of e ∙ ap (λ o. o >>= iter_in) (decoded_again (iter_text i) (iter_small i is))
+    ∙ iter_again i is
 
 pub iter_reads_as : (text : List ℕ) (o : Option Iter) → IsBytes text → iter_of text ≡ o → ReadsAsIter text o
 iter_reads_as text None bytes e = λ i is token. let bad : None ≡ Some i = sym e ∙ iter_reads text i is token in cc bad
@@ -132,13 +152,18 @@ one_iter i j is js e = same_some i j (sym (iter_reads (iter_token i) i is refl) 
 page_small : (p : Page) → IsPage p → AreSmall (page_text p)
 page_small p is =
     let issued = decimal_small p.issued (omega (arith, is.issued)) in
-    let after = small-append (decimal p.after) (58 ∷ decimal p.issued) (decimal_small p.after is.after) (omega arith, issued) in
-    let stream = small-append (decimal p.stream) (58 ∷ (decimal p.after ++ 58 ∷ decimal p.issued)) (decimal_small p.stream is.stream) (omega arith, after) in
+    let after = small-append (decimal p.after) (58 ∷ decimal p.issued) (decimal_small p.after is.after) (
+      omega arith,
+      issued,
+    ) in
+    let stream = small-append (decimal p.stream) (58 ∷ (decimal p.after ++ 58 ∷ decimal p.issued))
+    (decimal_small p.stream is.stream) (omega arith, after) in
     (omega arith, (omega arith, (omega arith, (omega arith, stream))))
 
 page_from_again : (p : Page) → IsPage p → page_from (decimal p.stream) (decimal p.after) (decimal p.issued) ≡ Some p
 unfolding page_from
-page_from_again p is = rw (number_of_decimal p.stream is.stream, number_of_decimal p.after is.after, moment_again p.issued is.issued) refl
+page_from_again p is =
+    rw (number_of_decimal p.stream is.stream, number_of_decimal p.after is.after, moment_again p.issued is.issued) refl
 
 page_again : (p : Page) → IsPage p → page_in (page_text p) ≡ Some p
 unfolding page_in
@@ -150,9 +175,11 @@ page_again p is =
 
 abbrev IsPageOf : List ℕ → List ℕ → List ℕ → Page → Type 0
 IsPageOf stream after issued p =
-    IsPage p × (stream ++ 58 ∷ (after ++ 58 ∷ issued) ≡ decimal p.stream ++ 58 ∷ (decimal p.after ++ 58 ∷ decimal p.issued))
+    IsPage p × (stream ++ 58 ∷ (after ++ 58 ∷ issued) ≡ decimal p.stream
+    ++ 58 ∷ (decimal p.after ++ 58 ∷ decimal p.issued))
 
-page_from_spells : (stream after issued : List ℕ) (p : Page) → page_from stream after issued ≡ Some p → IsPageOf stream after issued p
+page_from_spells : (stream after issued : List ℕ) (p : Page) → page_from stream after issued ≡ Some p
+    → IsPageOf stream after issued p
 unfolding page_from
 page_from_spells stream after issued p h =
     let a = bind_some (number_of 64 stream) _ p h in
@@ -162,7 +189,10 @@ page_from_spells stream after issued p h =
     let s = decimal_of_number stream a.0 a.1 in
     let t = decimal_of_number after b.0 b.1 in
     let u = moment_spells issued d.0 d.1 in
-    subst (IsPageOf stream after issued) same (record { stream = s.1; after = t.1; issued = u.1 }, three_fields s.0 t.0 u.0)
+    subst (IsPageOf stream after issued) same (
+      record { stream = s.1; after = t.1; issued = u.1 },
+      three_fields s.0 t.0 u.0,
+    )
 
 page_spells : (text : List ℕ) (p : Page) → page_in text ≡ Some p → IsPage p × (text ≡ page_text p)
 unfolding page_in
@@ -179,7 +209,8 @@ page_spells text p h =
     (f.0, fa.0 ∙ ap (λ z. z ++ 58 ∷ a.0.1) k.0 ∙ ap (λ z. codes "KT1:" ++ z) (rest ∙ f.1))
 
 page_reads : (text : List ℕ) (p : Page) → IsPage p → text ≡ page_token p → page_of text ≡ Some p
-page_reads text p is e = ap page_of e ∙ ap (λ o. o >>= page_in) (decoded_again (page_text p) (page_small p is)) ∙ page_again p is
+page_reads text p is e = ap page_of e ∙ ap (λ o. o >>= page_in) (decoded_again (page_text p) (page_small p is))
+    ∙ page_again p is
 
 pub page_reads_as : (text : List ℕ) (o : Option Page) → IsBytes text → page_of text ≡ o → ReadsAsPage text o
 page_reads_as text None bytes e = λ p is token. let bad : None ≡ Some p = sym e ∙ page_reads text p is token in cc bad
@@ -201,4 +232,5 @@ texts_apart a b h = let e : ◌≡◌ {A = ℕ} 73 84 = ap (λ (l : List ℕ). s
 
 pub tokens_apart : (i : Iter) (p : Page) → IsIter i → IsPage p → iter_token i ≢ page_token p
 tokens_apart i p is js e =
-    texts_apart _ _ (same_some (iter_text i) (page_text p) (sym (decoded_again (iter_text i) (iter_small i is)) ∙ ap (decoded_of standard) e ∙ decoded_again (page_text p) (page_small p js)))
+    texts_apart _ _ (same_some (iter_text i) (page_text p) (sym (decoded_again (iter_text i) (iter_small i is))
+    ∙ ap (decoded_of standard) e ∙ decoded_again (page_text p) (page_small p js)))

@@ -12,7 +12,8 @@ use Rattle.kds_token.specs.Fields.{◌>>=◌, field, moment_of}
 
 -- what an iterator's token encodes: `KI1:STREAM:SHARD:POSITION:ISSUED`
 abbrev pub iter_text : Iter → List ℕ
-iter_text i = codes "KI1:" ++ (decimal i.stream ++ 58 ∷ (decimal i.shard ++ 58 ∷ (decimal i.position ++ 58 ∷ decimal i.issued)))
+iter_text i = codes "KI1:"
+    ++ (decimal i.stream ++ 58 ∷ (decimal i.shard ++ 58 ∷ (decimal i.position ++ 58 ∷ decimal i.issued)))
 
 -- the token of an iterator (Kinesis API Reference, GetShardIterator, ShardIterator)
 abbrev pub iter_token : Iter → List ℕ

@@ -4,7 +4,8 @@ ghost use Rattle.std.specs.Prelude.{◌≡◌, ◌≢◌, ℕ, List};
 ghost use Rattle.base64.specs.GeneralPurpose.{IsBytes};
 ghost use Rattle.kds_defs.specs.declared.reply.Iter.{Iter};
 ghost use Rattle.kds_defs.specs.declared.reply.Page.{Page};
-ghost use Rattle.kds_token.specs.Tokens.{iter_of, iter_token, page_of, page_token, IsIter, IsPage, ReadsAsIter, ReadsAsPage};
+ghost use Rattle.kds_token.specs.Tokens.{iter_of, iter_token, page_of, page_token, IsIter, IsPage, ReadsAsIter};
+ghost use Rattle.kds_token.specs.Tokens.{ReadsAsPage};
 
 /// States that each token belongs to exactly one shard iterator, or to exactly one position in a listing. Different
 /// iterators have different tokens, different positions have different tokens, and no iterator has the token of a

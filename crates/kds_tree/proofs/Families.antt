@@ -1,5 +1,6 @@
 -- The children of a shard stand together, and stay so as shards are split and merged.
-use Rattle.std.proofs.Common.{◌≡◌, inl, inr, ℕ, zero, suc, ◌+◌, ◌<◌, ◌≤◌, Bool, true, false, refl, sym, ap, subst, ◌∙◌, arith}
+use Rattle.std.proofs.Common.{◌≡◌, inl, inr, ℕ, zero, suc, ◌+◌, ◌<◌, ◌≤◌, Bool, true, false, refl, sym, ap, subst, ◌∙◌}
+use Rattle.std.proofs.Common.{arith}
 use Rattle.std.proofs.Common.{List, [], ◌∷◌, ◌++◌, length, drop, take, Option, Some, None}
 use Rattle.std.specs.Prelude.{◌≢◌, ◌⊎◌, ◌==◌, ◌||◌, cond, replicate, slice_get, slice_set}
 use Rattle.std.specs.List.{filter}
@@ -9,16 +10,19 @@ use Rattle.std.proofs.lemmas.List.{append_assoc, length-append, length-replicate
 use Rattle.std.proofs.lemmas.Option.{slice_get_within}
 use Rattle.kds_base.specs.Span.{Span}
 use Rattle.kds_base.proofs.Facts.{apart}
-use Rattle.kds_defs.specs.Shards.{ShardState, Closing, children_among, first_shards, is_child, is_open, new_shard, with_closed}
+use Rattle.kds_defs.specs.Shards.{ShardState, Closing, children_among, first_shards, is_child, is_open, new_shard}
+use Rattle.kds_defs.specs.Shards.{with_closed}
 use Rattle.kds_tree.specs.Families.{AreFamilies, MayStandAt, told_of}
 use Rattle.kds_tree.proofs.OpenStarts.{Closes, IsBehind, closes_one, closes_two, get_back, get_cases, get_front}
 
 -- ---- what is among them all is among those two
 
-none_passes : (p : ShardState → Bool) (xs : List ShardState) → ((place : ℕ) (x : ShardState) → slice_get xs place ≡ Some x → p x ≡ false) → filter p xs ≡ []
+none_passes : (p : ShardState → Bool) (xs : List ShardState)
+    → ((place : ℕ) (x : ShardState) → slice_get xs place ≡ Some x → p x ≡ false) → filter p xs ≡ []
 none_passes p [] none = refl
 none_passes p (x ∷ xs) none =
-    ap (λ (b : Bool). cond b (x ∷ filter p xs) (filter p xs)) (none 0 x refl) ∙ none_passes p xs (λ place y is. none (suc place) y is)
+    ap (λ (b : Bool). cond b (x ∷ filter p xs) (filter p xs)) (none 0 x refl)
+    ∙ none_passes p xs (λ place y is. none (suc place) y is)
 
 near : (p : ShardState → Bool) (first : ℕ) (xs : List ShardState)
     → ((place : ℕ) (x : ShardState) → slice_get xs place ≡ Some x → p x ≡ true → (first ≤ place) × (place ≤ first + 1))
@@ -26,26 +30,31 @@ near : (p : ShardState → Bool) (first : ℕ) (xs : List ShardState)
 near p zero [] only = refl
 near p zero (x ∷ []) only = refl
 near p zero (x ∷ y ∷ ys) only =
-    let none = none_passes p ys (λ place z is. false_from_ne_true (p z) (λ t. absurd (omega (arith, (only (suc (suc place)) z is t).1)))) in
+    let none = none_passes p ys
+    (λ place z is. false_from_ne_true (p z) (λ t. absurd (omega (arith, (only (suc (suc place)) z is t).1)))) in
     ap (λ zs. cond (p x) (x ∷ cond (p y) (y ∷ zs) zs) (cond (p y) (y ∷ zs) zs)) (sym none)
 near p (suc first) [] only = refl
 near p (suc first) (x ∷ xs) only =
     near p first xs (λ place y is t. let h = only (suc place) y is t in (omega (arith, h.0), omega (arith, h.1)))
-    ∙ sym (ap (λ (b : Bool). cond b (x ∷ filter p xs) (filter p xs)) (false_from_ne_true (p x) (λ t. absurd (omega (arith, (only 0 x refl t).0)))))
+    ∙ sym (ap (λ (b : Bool). cond b (x ∷ filter p xs) (filter p xs))
+    (false_from_ne_true (p x) (λ t. absurd (omega (arith, (only 0 x refl t).0)))))
 
 pub all_near : (firsts : List (Option ℕ)) (xs pair : List ShardState) (parent first : ℕ) → AreFamilies firsts xs
     → Some first ≡ told_of (slice_get firsts parent) → pair ≡ take 2 (drop first xs)
     → children_among parent pair ≡ children_among parent xs
 all_near firsts xs pair parent first families is is_pair =
     ap (children_among parent) is_pair
-    ∙ near (is_child parent) first xs (λ place x there child. subst (λ o. MayStandAt o place) (sym is) (families.each parent place x there child))
+    ∙ near (is_child parent) first xs (λ place x there child.
+    subst (λ o. MayStandAt o place) (sym is) (families.each parent place x there child))
 
 -- a shard without a first child has none
-pub none_known : (firsts : List (Option ℕ)) (xs : List ShardState) (parent : ℕ) → AreFamilies firsts xs → None ≡ told_of (slice_get firsts parent)
+pub none_known : (firsts : List (Option ℕ)) (xs : List ShardState) (parent : ℕ) → AreFamilies firsts xs
+    → None ≡ told_of (slice_get firsts parent)
     → [] ≡ children_among parent xs
 none_known firsts xs parent families is =
     sym (none_passes (is_child parent) xs
-    (λ place x there. false_from_ne_true (is_child parent x) (λ t. subst (λ o. MayStandAt o place) (sym is) (families.each parent place x there t))))
+    (λ place x there. false_from_ne_true (is_child parent x)
+    (λ t. subst (λ o. MayStandAt o place) (sym is) (families.each parent place x there t))))
 
 -- ---- lists with places that are set
 
@@ -56,19 +65,22 @@ set_keeps (a ∷ l) zero (suc j) v apart = refl
 set_keeps (a ∷ l) (suc i) zero v apart = refl
 set_keeps (a ∷ l) (suc i) (suc j) v apart = set_keeps l i j v (λ e. apart (ap suc e))
 
-set_there : (l : List (Option ℕ)) (i : ℕ) (w v : Option ℕ) → slice_get l i ≡ Some w → slice_get (slice_set l i v) i ≡ Some v
+set_there : (l : List (Option ℕ)) (i : ℕ) (w v : Option ℕ) → slice_get l i ≡ Some w
+    → slice_get (slice_set l i v) i ≡ Some v
 set_there [] i w v is = absurd cc
 set_there (a ∷ l) zero w v is = refl
 set_there (a ∷ l) (suc i) w v is = set_there l i w v is
 
-set_stays : (l : List (Option ℕ)) (i j : ℕ) (v : Option ℕ) → slice_get l i ≡ Some v → slice_get (slice_set l j v) i ≡ Some v
+set_stays : (l : List (Option ℕ)) (i j : ℕ) (v : Option ℕ) → slice_get l i ≡ Some v
+    → slice_get (slice_set l j v) i ≡ Some v
 set_stays [] i j v is = absurd cc
 set_stays (a ∷ l) zero zero v is = refl
 set_stays (a ∷ l) zero (suc j) v is = is
 set_stays (a ∷ l) (suc i) zero v is = is
 set_stays (a ∷ l) (suc i) (suc j) v is = set_stays l i j v is
 
-set_filled : (l : List (Option ℕ)) (i j : ℕ) (w v : Option ℕ) → slice_get l i ≡ Some w → (u : Option ℕ) × (slice_get (slice_set l j v) i ≡ Some u)
+set_filled : (l : List (Option ℕ)) (i j : ℕ) (w v : Option ℕ) → slice_get l i ≡ Some w → (u : Option ℕ)
+    × (slice_get (slice_set l j v) i ≡ Some u)
 set_filled [] i j w v is = absurd cc
 set_filled (a ∷ l) zero zero w v is = (v, refl)
 set_filled (a ∷ l) zero (suc j) w v is = (w, is)
@@ -81,10 +93,12 @@ stood (Some w) place h = (w, refl)
 
 -- ---- a new stream
 
-unrelated : (n start : ℕ) (ranges : List Span) (parent place : ℕ) (x : ShardState) → slice_get (first_shards n start ranges) place ≡ Some x
+unrelated : (n start : ℕ) (ranges : List Span) (parent place : ℕ) (x : ShardState)
+    → slice_get (first_shards n start ranges) place ≡ Some x
     → is_child parent x ≡ false
 unrelated n start [] parent place x is = absurd cc
-unrelated n start (r ∷ ranges) parent zero x is = let e : new_shard n r None None start ≡ x = cc in ap (is_child parent) (sym e)
+unrelated n start (r ∷ ranges) parent zero x is = let e : new_shard n r None None start ≡ x = cc in
+    ap (is_child parent) (sym e)
 unrelated n start (r ∷ ranges) parent (suc place) x is = unrelated (n + 1) start ranges parent place x is
 
 nones : ℕ → List (Option ℕ)
@@ -101,8 +115,10 @@ pub families_made : (count n start : ℕ) (ranges : List Span) → length (first
 unfolding nones
 families_made count n start ranges long = record {
   long = (let none : Option ℕ = None in length-replicate count none ∙ sym long);
-  each = λ parent place x is child. absurd (apart (is_child parent x) child (unrelated n start ranges parent place x is));
-  young = λ place x is open_now. none_at count place (omega (arith, long, slice_get_within (first_shards n start ranges) place x is));
+  each = λ parent place x is child.
+      absurd (apart (is_child parent x) child (unrelated n start ranges parent place x is));
+  young = λ place x is open_now.
+      none_at count place (omega (arith, long, slice_get_within (first_shards n start ranges) place x is));
 }
 
 -- ---- shards that are closed, and others behind all
@@ -122,7 +138,8 @@ kin_closed (x ∷ xs) zero closing parent (suc place) y is child = (y, (is, chil
 kin_closed (x ∷ xs) (suc sh) closing parent zero y is child = (y, (is, child))
 kin_closed (x ∷ xs) (suc sh) closing parent (suc place) y is child = kin_closed xs sh closing parent place y is child
 
-pub kin_twice : (xs : List ShardState) (sh other : ℕ) (closing : Closing) → Kin xs (with_closed other closing (with_closed sh closing xs))
+pub kin_twice : (xs : List ShardState) (sh other : ℕ) (closing : Closing)
+    → Kin xs (with_closed other closing (with_closed sh closing xs))
 kin_twice xs sh other closing parent place y is child =
     let once = kin_closed (with_closed sh closing xs) other closing parent place y is child in
     kin_closed xs sh closing parent place once.0 once.1.0 once.1.1
@@ -138,14 +155,18 @@ module _ (firsts more : List (Option ℕ)) (xs closed born : List ShardState) (s
     (families : AreFamilies firsts xs) (closes : Closes xs closed sh other) (kin : Kin xs closed)
     (few : length born ≤ 2) (as_many : length more ≡ length born) (none : AreNone more) (is_first : child ≡ length xs)
     (young : slice_get firsts sh ≡ Some None) (young_other : slice_get firsts other ≡ Some None)
-    (parents : (parent place : ℕ) (y : ShardState) → slice_get born place ≡ Some y → is_child parent y ≡ true → (parent ≡ sh) ⊎ (parent ≡ other)) where
+    (parents : (parent place : ℕ) (y : ShardState) → slice_get born place ≡ Some y → is_child parent y ≡ true
+    → (parent ≡ sh) ⊎ (parent ≡ other)) where
   long_sets : length (slice_set (slice_set firsts sh (Some child)) other (Some child)) ≡ length closed
-  long_sets = length-set (slice_set firsts sh (Some child)) other (Some child) ∙ length-set firsts sh (Some child) ∙ families.long ∙ sym closes.long
+  long_sets = length-set (slice_set firsts sh (Some child)) other (Some child) ∙ length-set firsts sh (Some child)
+      ∙ families.long ∙ sym closes.long
 
-  kept : (i : ℕ) (w : Option ℕ) → i ≢ sh → i ≢ other → slice_get firsts i ≡ Some w → slice_get (after_birth firsts sh other child more) i ≡ Some w
+  kept : (i : ℕ) (w : Option ℕ) → i ≢ sh → i ≢ other → slice_get firsts i ≡ Some w
+      → slice_get (after_birth firsts sh other child more) i ≡ Some w
   kept i w apart apart' is =
       get_front (slice_set (slice_set firsts sh (Some child)) other (Some child)) more i w
-      (set_keeps (slice_set firsts sh (Some child)) i other (Some child) apart' ∙ set_keeps firsts i sh (Some child) apart ∙ is)
+      (set_keeps (slice_set firsts sh (Some child)) i other (Some child) apart'
+      ∙ set_keeps firsts i sh (Some child) apart ∙ is)
 
   written : (i : ℕ) → (i ≡ sh) ⊎ (i ≡ other) → slice_get (after_birth firsts sh other child more) i ≡ Some (Some child)
   written i (inl e) =
@@ -160,10 +181,12 @@ module _ (firsts more : List (Option ℕ)) (xs closed born : List ShardState) (s
       ∙ set_there (slice_set firsts sh (Some child)) other once.0 (Some child) once.1)
 
   -- a shard that has no child yet is none of which a child stands there
-  not_yet : (i parent place : ℕ) → slice_get firsts i ≡ Some None → MayStandAt (told_of (slice_get firsts parent)) place → parent ≢ i
+  not_yet : (i parent place : ℕ) → slice_get firsts i ≡ Some None → MayStandAt (told_of (slice_get firsts parent)) place
+      → parent ≢ i
   not_yet i parent place is h e = subst (λ o. MayStandAt (told_of o) place) (ap (slice_get firsts) e ∙ is) h
 
-  each_by : (parent place : ℕ) (y : ShardState) → is_child parent y ≡ true → (slice_get closed place ≡ Some y) ⊎ IsBehind born (length closed) place y
+  each_by : (parent place : ℕ) (y : ShardState) → is_child parent y ≡ true → (slice_get closed place ≡ Some y)
+      ⊎ IsBehind born (length closed) place y
       → MayStandAt (told_of (slice_get (after_birth firsts sh other child more) parent)) place
   each_by parent place y is_its (inl h) =
       let k = kin parent place y h is_its in
@@ -174,9 +197,13 @@ module _ (firsts more : List (Option ℕ)) (xs closed born : List ShardState) (s
   each_by parent place y is_its (inr h) =
       let now = written parent (parents parent h.place y h.at is_its) in
       let within = slice_get_within born h.place y h.at in
-      subst (λ o. MayStandAt (told_of o) place) (sym now) (omega (arith, is_first, h.is, closes.long), omega (arith, is_first, h.is, closes.long, within, few))
+      subst (λ o. MayStandAt (told_of o) place) (sym now) (
+        omega (arith, is_first, h.is, closes.long),
+        omega (arith, is_first, h.is, closes.long, within, few),
+      )
 
-  young_by : (place : ℕ) (y : ShardState) → is_open y ≡ true → (slice_get closed place ≡ Some y) ⊎ IsBehind born (length closed) place y
+  young_by : (place : ℕ) (y : ShardState) → is_open y ≡ true → (slice_get closed place ≡ Some y)
+      ⊎ IsBehind born (length closed) place y
       → slice_get (after_birth firsts sh other child more) place ≡ Some None
   young_by place y open_now (inl h) =
       let was = closes.back place y h open_now in
@@ -203,7 +230,8 @@ module _ (firsts more : List (Option ℕ)) (xs closed born : List ShardState) (s
 one_parent : (sh parent : ℕ) → ((sh == parent) || false) ≡ true → parent ≡ sh
 one_parent sh parent h = grind (arith, nat_tests)
 
-two_parents : (b c : Bool) (sh other parent : ℕ) → (sh == parent) ≡ b → (other == parent) ≡ c → (b || c) ≡ true → (parent ≡ sh) ⊎ (parent ≡ other)
+two_parents : (b c : Bool) (sh other parent : ℕ) → (sh == parent) ≡ b → (other == parent) ≡ c → (b || c) ≡ true
+    → (parent ≡ sh) ⊎ (parent ≡ other)
 two_parents true c sh other parent is_b is_c h = inl (grind (arith, nat_tests))
 two_parents false true sh other parent is_b is_c h = inr (grind (arith, nat_tests))
 two_parents false false sh other parent is_b is_c h = absurd cc
@@ -220,7 +248,8 @@ of_split sh a b start r q parent (suc zero) y is child =
 of_split sh a b start r q parent (suc (suc place)) y is child = absurd cc
 
 of_merge : (sh other a start : ℕ) (r : Span) (parent place : ℕ) (y : ShardState)
-    → slice_get (new_shard a r (Some sh) (Some other) start ∷ []) place ≡ Some y → is_child parent y ≡ true → (parent ≡ sh) ⊎ (parent ≡ other)
+    → slice_get (new_shard a r (Some sh) (Some other) start ∷ []) place ≡ Some y → is_child parent y ≡ true
+    → (parent ≡ sh) ⊎ (parent ≡ other)
 of_merge sh other a start r parent zero y is child =
     let e : new_shard a r (Some sh) (Some other) start ≡ y = cc in
     two_parents (sh == parent) (other == parent) sh other parent refl refl (ap (is_child parent) e ∙ child)
@@ -235,7 +264,8 @@ none_in_two zero below = refl
 none_in_two (suc zero) below = refl
 none_in_two (suc (suc i)) below = absurd (omega (arith, below))
 
-pub split_families : (firsts : List (Option ℕ)) (xs : List ShardState) (sh a b start : ℕ) (r q : Span) (closing : Closing) (x : ShardState)
+pub split_families : (firsts : List (Option ℕ)) (xs : List ShardState) (sh a b start : ℕ) (r q : Span)
+    (closing : Closing) (x : ShardState)
     → slice_get xs sh ≡ Some x → is_open x ≡ true → AreFamilies firsts xs
     → AreFamilies (after_birth firsts sh sh (length xs) (None ∷ None ∷ []))
     (with_closed sh closing xs ++ (new_shard a r (Some sh) None start ∷ new_shard b q (Some sh) None start ∷ []))
@@ -243,10 +273,13 @@ split_families firsts xs sh a b start r q closing x made open_now families =
     let young = families.young sh x made open_now in
     born_families firsts (None ∷ None ∷ []) xs (with_closed sh closing xs)
     (new_shard a r (Some sh) None start ∷ new_shard b q (Some sh) None start ∷ []) sh sh (length xs)
-    families (closes_one xs sh closing) (kin_closed xs sh closing) (omega arith) refl none_in_two refl young young (of_split sh a b start r q)
+    families (closes_one xs sh closing) (kin_closed xs sh closing) (omega arith) refl none_in_two refl young young
+    (of_split sh a b start r q)
 
-pub merge_families : (firsts : List (Option ℕ)) (xs : List ShardState) (sh other a start : ℕ) (r : Span) (closing : Closing) (x y : ShardState)
-    → slice_get xs sh ≡ Some x → is_open x ≡ true → slice_get xs other ≡ Some y → is_open y ≡ true → AreFamilies firsts xs
+pub merge_families : (firsts : List (Option ℕ)) (xs : List ShardState) (sh other a start : ℕ) (r : Span)
+    (closing : Closing) (x y : ShardState)
+    → slice_get xs sh ≡ Some x → is_open x ≡ true → slice_get xs other ≡ Some y → is_open y ≡ true
+    → AreFamilies firsts xs
     → AreFamilies (after_birth firsts sh other (length xs) (None ∷ []))
     (with_closed other closing (with_closed sh closing xs) ++ (new_shard a r (Some sh) (Some other) start ∷ []))
 merge_families firsts xs sh other a start r closing x y made open_now other_made other_open families =
@@ -257,7 +290,8 @@ merge_families firsts xs sh other a start r closing x y made open_now other_made
 
 -- ---- places that are added
 
-pub one_place : (fs kept set more : List (Option ℕ)) (sh other a n : ℕ) → kept ≡ fs → set ≡ slice_set (slice_set kept sh (Some a)) other (Some a) → a ≡ n
+pub one_place : (fs kept set more : List (Option ℕ)) (sh other a n : ℕ) → kept ≡ fs
+    → set ≡ slice_set (slice_set kept sh (Some a)) other (Some a) → a ≡ n
     → more ≡ set ++ None ∷ []
     → more ≡ after_birth fs sh other n (None ∷ [])
 one_place fs kept set more sh other a n is_kept is_set is is_more =
@@ -267,7 +301,8 @@ one_place fs kept set more sh other a n is_kept is_set is is_more =
     ∙ ap (λ (us : List (Option ℕ)). slice_set (slice_set us sh (Some a)) other (Some a)) is_kept
     ∙ ap (λ (m : ℕ). slice_set (slice_set fs sh (Some m)) other (Some m)) is)
 
-pub two_places : (fs kept set next more : List (Option ℕ)) (sh other a n : ℕ) → kept ≡ fs → set ≡ slice_set (slice_set kept sh (Some a)) other (Some a)
+pub two_places : (fs kept set next more : List (Option ℕ)) (sh other a n : ℕ) → kept ≡ fs
+    → set ≡ slice_set (slice_set kept sh (Some a)) other (Some a)
     → a ≡ n → next ≡ set ++ None ∷ [] → more ≡ next ++ None ∷ []
     → more ≡ after_birth fs sh other n (None ∷ None ∷ [])
 two_places fs kept set next more sh other a n is_kept is_set is is_next is_more =

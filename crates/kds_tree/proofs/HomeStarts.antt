@@ -1,5 +1,6 @@
 -- The home of a key stands at the last start at or below it.
-use Rattle.std.proofs.Common.{◌≡◌, ℕ, zero, suc, ◌-◌, ◌^◌, ◌<◌, ◌≤◌, Bool, true, false, List, [], ◌∷◌, length, get_or, Some, leb, leb-true, refl, sym, ap, subst, ◌∙◌, arith}
+use Rattle.std.proofs.Common.{◌≡◌, ℕ, zero, suc, ◌-◌, ◌^◌, ◌<◌, ◌≤◌, Bool, true, false, List, [], ◌∷◌, length, get_or}
+use Rattle.std.proofs.Common.{Some, leb, leb-true, refl, sym, ap, subst, ◌∙◌, arith}
 use Rattle.std.specs.Prelude.{slice_get}
 use Rattle.std.specs.List.{AllByRecursion, filter}
 use Rattle.std.specs.List.Sorted.{IsPartitionPoint}
@@ -12,7 +13,8 @@ use Rattle.kds_tree.specs.Tree.{IsTree, IsHome}
 use Rattle.kds_tree.specs.declared.start.OpenStart.{OpenStart}
 use Rattle.kds_tree.proofs.Homes.{home_is, only}
 
-all_made : (P : ShardState → Type 0) (xs : List ShardState) (i : ℕ) (x : ShardState) → AllByRecursion P xs → slice_get xs i ≡ Some x → P x
+all_made : (P : ShardState → Type 0) (xs : List ShardState) (i : ℕ) (x : ShardState) → AllByRecursion P xs
+    → slice_get xs i ≡ Some x → P x
 all_made P [] i x h is = absurd cc
 all_made P (y ∷ ys) zero x h is = let e : y ≡ x = cc in subst P e h.0
 all_made P (y ∷ ys) (suc i) x h is = all_made P ys i x h.1 is
@@ -32,11 +34,14 @@ default_at [] j c d lt = absurd (omega arith)
 default_at (s ∷ ss) zero c d lt = refl
 default_at (s ∷ ss) (suc j) c d lt = default_at ss j c d (omega arith)
 
-module _ (xs : List ShardState) (ss : List OpenStart) (k i : ℕ) (tree : IsTree xs) (starts : AreStarts ss xs) (below : k < 2 ^ 128)
-    (point : IsPartitionPoint (λ (y : OpenStart). leb y.key k ≡ true) (λ (y : OpenStart). leb y.key k ≡ false) ss i) (bound : i ≤ length ss) where
+module _ (xs : List ShardState) (ss : List OpenStart) (k i : ℕ) (tree : IsTree xs) (starts : AreStarts ss xs)
+    (below : k < 2 ^ 128)
+    (point : IsPartitionPoint (λ (y : OpenStart). leb y.key k ≡ true) (λ (y : OpenStart). leb y.key k ≡ false) ss i)
+    (bound : i ≤ length ss) where
   -- a start at or below the key stands before the point
   before_point : (j : ℕ) (d : OpenStart) → j < length ss → (get_or ss j d).key ≤ k → j < i
-  before_point j d lt le = below_unless j i (leb i j) refl (λ over. below_point (get_or ss j d).key k (point.1 j d over lt) le)
+  before_point j d lt le =
+      below_unless j i (leb i j) refl (λ over. below_point (get_or ss j d).key k (point.1 j d over lt) le)
 
   pub found : (s : OpenStart) → (at : ℕ) → at ≡ i - 1 → at < length ss → s ≡ get_or ss at s → IsHome xs k s.shard
   found s at is_at within is =
@@ -47,17 +52,25 @@ module _ (xs : List ShardState) (ss : List OpenStart) (k i : ℕ) (tree : IsTree
       let low : h.state.range.start ≤ k = h.contains.0 in
       let high : k ≤ h.state.range.end = h.contains.1 in
       let before : member.0 < i = before_point member.0 first member.1 (omega (arith, e, low)) in
-      let le : s.key ≤ k = at_most s.key k (subst (λ (t : OpenStart). leb t.key k ≡ true) (sym is) (point.0 at s (omega arith) (omega (arith, is_at, before)))) in
-      let rises : (get_or ss member.0 s).key ≤ (get_or ss at s).key = starts.order member.0 at s (omega (arith, is_at, before)) within in
+      let le : s.key ≤ k = at_most s.key k
+      (subst (λ (t : OpenStart). leb t.key k ≡ true) (sym is)
+      (point.0 at s (omega arith) (omega (arith, is_at, before)))) in
+      let rises : (get_or ss member.0 s).key ≤ (get_or ss at s).key =
+      starts.order member.0 at s (omega (arith, is_at, before)) within in
       let same_default : get_or ss member.0 first ≡ get_or ss member.0 s = default_at ss member.0 first s member.1 in
-      let e' : (get_or ss member.0 s).key ≡ h.state.range.start = ap (λ (t : OpenStart). t.key) (sym same_default) ∙ e in
+      let e' : (get_or ss member.0 s).key ≡ h.state.range.start = ap (λ (t : OpenStart). t.key) (sym same_default)
+      ∙ e in
       let top : (get_or ss at s).key ≡ s.key = ap (λ (t : OpenStart). t.key) (sym is) in
       let stands = subst (λ (t : OpenStart). IsStart xs t) (sym is) (starts.of.each at s within) in
-      let ordered : IsOrdered stands.state = all_made IsOrdered xs s.shard stands.state tree.tiled.ordered stands.made in
+      let ordered : IsOrdered stands.state =
+      all_made IsOrdered xs s.shard stands.state tree.tiled.ordered stands.made in
       let key_below : s.key < 2 ^ 128 = omega (arith, le, below) in
-      let in_s : Covers stands.state.range s.key = (omega (arith, stands.begins), omega (arith, stands.begins, ordered)) in
+      let in_s : Covers stands.state.range s.key =
+      (omega (arith, stands.begins), omega (arith, stands.begins, ordered)) in
       let in_h : Covers h.state.range s.key = (omega (arith, rises, e', top), omega (arith, le, high)) in
-      let same = only xs s.key s.shard (home_among (filter is_open xs) k) stands.state h.state (omega (arith, tree.tiled.times s.key key_below)) stands.made stands.is_open_now in_s h.made h.is_open_now in_h in
+      let same = only xs s.key s.shard (home_among (filter is_open xs) k) stands.state h.state
+      (omega (arith, tree.tiled.times s.key key_below)) stands.made stands.is_open_now in_s h.made h.is_open_now
+      in_h in
       subst (IsHome xs k) (sym same) h
 
   -- there is one

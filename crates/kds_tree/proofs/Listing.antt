@@ -1,5 +1,6 @@
 -- Listings of a list of shards.
-use Rattle.std.proofs.Common.{◌≡◌, ℕ, zero, suc, ◌+◌, ◌<◌, ◌≤◌, Bool, true, false, List, [], ◌∷◌, refl, sym, ap, ◌∙◌, arith}
+use Rattle.std.proofs.Common.{◌≡◌, ℕ, zero, suc, ◌+◌, ◌<◌, ◌≤◌, Bool, true, false, List, [], ◌∷◌, refl, sym, ap, ◌∙◌}
+use Rattle.std.proofs.Common.{arith}
 use Rattle.std.proofs.Common.{drop, length, map, Option, Some, None, inl, inr}
 use Rattle.std.specs.Prelude.{cond, nat_lt, ◌⊎◌}
 use Rattle.std.specs.List.{filter}
@@ -12,14 +13,17 @@ use Rattle.kds_tree.specs.Front.{listing}
 
 -- ---- two tests may be tried in either order
 
-swap_step : (p q : ShardState → Bool) (a b : Bool) (x : ShardState) (xs : List ShardState) → p x ≡ a → q x ≡ b → filter p (filter q xs) ≡ filter q (filter p xs)
+swap_step : (p q : ShardState → Bool) (a b : Bool) (x : ShardState) (xs : List ShardState) → p x ≡ a → q x ≡ b
+    → filter p (filter q xs) ≡ filter q (filter p xs)
     → filter p (cond b (x ∷ filter q xs) (filter q xs)) ≡ filter q (cond a (x ∷ filter p xs) (filter p xs))
 swap_step p q true true x xs is_p is_q h =
     ap (λ c. cond c (x ∷ filter p (filter q xs)) (filter p (filter q xs))) is_p
     ∙ ap (λ ys. x ∷ ys) h
     ∙ sym (ap (λ c. cond c (x ∷ filter q (filter p xs)) (filter q (filter p xs))) is_q)
-swap_step p q true false x xs is_p is_q h = h ∙ sym (ap (λ c. cond c (x ∷ filter q (filter p xs)) (filter q (filter p xs))) is_q)
-swap_step p q false true x xs is_p is_q h = ap (λ c. cond c (x ∷ filter p (filter q xs)) (filter p (filter q xs))) is_p ∙ h
+swap_step p q true false x xs is_p is_q h =
+    h ∙ sym (ap (λ c. cond c (x ∷ filter q (filter p xs)) (filter q (filter p xs))) is_q)
+swap_step p q false true x xs is_p is_q h = ap (λ c. cond c (x ∷ filter p (filter q xs)) (filter p (filter q xs))) is_p
+    ∙ h
 swap_step p q false false x xs is_p is_q h = h
 
 filter_swap : (p q : ShardState → Bool) (xs : List ShardState) → filter p (filter q xs) ≡ filter q (filter p xs)
@@ -35,14 +39,17 @@ not_above : (m n after : ℕ) → m ≡ n → n ≤ after → nat_lt after m ≡
 not_above m n after is h = grind (arith, nat_tests)
 
 -- all are, if they are numbered from above it
-all_behind : (xs : List ShardState) (n after : ℕ) → AreNumbered n xs → after < n → filter (is_after_shard (Some after)) xs ≡ xs
+all_behind : (xs : List ShardState) (n after : ℕ) → AreNumbered n xs → after < n
+    → filter (is_after_shard (Some after)) xs ≡ xs
 all_behind [] n after numbers h = refl
 all_behind (x ∷ xs) n after numbers h =
-    ap (λ c. cond c (x ∷ filter (is_after_shard (Some after)) xs) (filter (is_after_shard (Some after)) xs)) (above x.no n after numbers.0 h)
+    ap (λ c. cond c (x ∷ filter (is_after_shard (Some after)) xs) (filter (is_after_shard (Some after)) xs))
+    (above x.no n after numbers.0 h)
     ∙ ap (λ ys. x ∷ ys) (all_behind xs (n + 1) after numbers.1 (omega (arith, h)))
 
 -- the place right behind a number, or the end where that comes first
-point : (xs : List ShardState) (n after from : ℕ) → AreNumbered n xs → n + from ≤ after + 1 → (n + from ≡ after + 1) ⊎ (length xs ≤ from)
+point : (xs : List ShardState) (n after from : ℕ) → AreNumbered n xs → n + from ≤ after + 1 → (n + from ≡ after + 1)
+    ⊎ (length xs ≤ from)
     → drop from xs ≡ filter (is_after_shard (Some after)) xs
 point [] n after zero numbers below is = refl
 point [] n after (suc from) numbers below is = refl
@@ -59,11 +66,13 @@ point (x ∷ xs) n after (suc from) numbers below is =
 
 pub right_behind : (xs : List ShardState) (after i from : ℕ) → AreNumbered 0 xs → i ≡ after → from ≡ i + 1
     → drop from xs ≡ filter (is_after_shard (Some after)) xs
-right_behind xs after i from numbers same is = point xs 0 after from numbers (omega (arith, same, is)) (inl (omega (arith, same, is)))
+right_behind xs after i from numbers same is =
+    point xs 0 after from numbers (omega (arith, same, is)) (inl (omega (arith, same, is)))
 
 pub at_end : (xs : List ShardState) (after i from : ℕ) → AreNumbered 0 xs → i ≡ after → length xs ≤ i → from ≡ length xs
     → drop from xs ≡ filter (is_after_shard (Some after)) xs
-at_end xs after i from numbers same far is = point xs 0 after from numbers (omega (arith, same, far, is)) (inr (omega (arith, is)))
+at_end xs after i from numbers same far is =
+    point xs 0 after from numbers (omega (arith, same, far, is)) (inr (omega (arith, is)))
 
 pub behind_none : (xs : List ShardState) → xs ≡ filter (is_after_shard None) xs
 behind_none [] = refl

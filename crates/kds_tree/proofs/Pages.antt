@@ -1,5 +1,6 @@
 -- Pages with room for all that is listed.
-use Rattle.std.proofs.Common.{◌≡◌, ℕ, zero, suc, ◌≤◌, false, List, [], ◌∷◌, ◌++◌, length, take, Option, None, refl, sym, ap, subst, ◌∙◌, arith}
+use Rattle.std.proofs.Common.{◌≡◌, ℕ, zero, suc, ◌≤◌, false, List, [], ◌∷◌, ◌++◌, length, take, Option, None, refl, sym}
+use Rattle.std.proofs.Common.{ap, subst, ◌∙◌, arith}
 use Rattle.std.specs.Prelude.{nat_lt, slice_get}
 use Rattle.std.proofs.lemmas.Bool.Decides.{nat_tests}
 use Rattle.std.proofs.lemmas.List.{append-nil}
@@ -17,7 +18,8 @@ false_lt : (n m : ℕ) → m ≤ n → false ≡ nat_lt n m
 false_lt n m h = grind (arith, nat_tests)
 
 whole : (limit : ℕ) (listed : List Shard) → length listed ≤ limit → Lists limit listed listed false
-whole limit listed few = record { shards = sym (take_whole limit listed few); told = false_lt limit (length listed) few }
+whole limit listed few =
+    record { shards = sym (take_whole limit listed few); told = false_lt limit (length listed) few }
 
 beyond : (xs : List ShardState) (i : ℕ) → length xs ≤ i → slice_get xs i ≡ None
 beyond [] i le = refl
@@ -27,11 +29,13 @@ beyond (x ∷ xs) (suc i) le = beyond xs i (omega (arith, le))
 lt_false : (n m : ℕ) → false ≡ nat_lt n m → m ≤ n
 lt_false n m e = grind (arith, nat_tests)
 
-pub none_there : (xs : List ShardState) (i number : ℕ) → i ≡ number → false ≡ nat_lt i (length xs) → slice_get xs number ≡ None
+pub none_there : (xs : List ShardState) (i number : ℕ) → i ≡ number → false ≡ nat_lt i (length xs)
+    → slice_get xs number ≡ None
 none_there xs i number is e = beyond xs number (omega (arith, is, lt_false i (length xs) e))
 
 -- where there is no shard, all is listed already
-pub none_more : (limit : ℕ) (cut : Option ℕ) (listed : List Shard) (o : Option ShardState) → o ≡ None → length listed ≤ limit
+pub none_more : (limit : ℕ) (cut : Option ℕ) (listed : List Shard) (o : Option ShardState) → o ≡ None
+    → length listed ≤ limit
     → Lists limit (listed ++ listing cut (picked_before o [])) listed false
 none_more limit cut listed o none few =
     subst (λ (p : Option ShardState). Lists limit (listed ++ listing cut (picked_before p [])) listed false) (sym none)

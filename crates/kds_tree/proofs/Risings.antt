@@ -1,5 +1,6 @@
 -- The starts of the open shards in rising order: they are those of a partition.
-use Rattle.std.proofs.Common.{◌≡◌, ℕ, zero, suc, ◌+◌, ◌^◌, ◌<◌, ◌≤◌, Bool, true, false, List, [], ◌∷◌, refl, sym, ap, subst, ◌∙◌, arith}
+use Rattle.std.proofs.Common.{◌≡◌, ℕ, zero, suc, ◌+◌, ◌^◌, ◌<◌, ◌≤◌, Bool, true, false, List, [], ◌∷◌, refl, sym, ap}
+use Rattle.std.proofs.Common.{subst, ◌∙◌, arith}
 use Rattle.std.specs.Prelude.{cond, ◌==◌, ◌&&◌, ◌||◌, nat_lt}
 use Rattle.std.specs.List.{AllByRecursion, filter}
 use Rattle.std.proofs.lemmas.Bool.Decides.{nat_tests}
@@ -31,7 +32,8 @@ in_place false b x k xs m = ap (λ (r : Bool). (x == k) || r) m ∙ or_swap (x =
 
 -- ---- rising lists
 
-rise_placed : (lt same : Bool) (b n x : ℕ) (xs : List ℕ) → nat_lt b x ≡ lt → (x == b) ≡ same → same ≡ false → n ≤ b → n ≤ x → RiseFrom (x + 1) xs
+rise_placed : (lt same : Bool) (b n x : ℕ) (xs : List ℕ) → nat_lt b x ≡ lt → (x == b) ≡ same → same ≡ false → n ≤ b
+    → n ≤ x → RiseFrom (x + 1) xs
     → (x + 1 ≤ b → RiseFrom (x + 1) (with_start b xs)) → RiseFrom n (cond lt (b ∷ x ∷ xs) (x ∷ with_start b xs))
 rise_placed true same b n x xs l s f h k r ih = let a : b + 1 ≤ x = grind (arith, nat_tests) in (h, (a, r))
 rise_placed false true b n x xs l s f h k r ih = absurd (cc)
@@ -44,11 +46,14 @@ abbrev pub begins_at : List ShardState → ℕ → Bool
 begins_at xs k = is_start (starts_among (filter is_open xs)) k
 
 -- one shard more, where it is open
-begins_with : (b : Bool) (x : ShardState) (xs : List ShardState) (k : ℕ) → is_start (starts_among (cond b (x ∷ filter is_open xs) (filter is_open xs))) k ≡ ((b && (x.range.start == k)) || begins_at xs k)
+begins_with : (b : Bool) (x : ShardState) (xs : List ShardState) (k : ℕ)
+    → is_start (starts_among (cond b (x ∷ filter is_open xs) (filter is_open xs))) k
+    ≡ ((b && (x.range.start == k)) || begins_at xs k)
 begins_with true x xs k = in_with_start x.range.start (starts_among (filter is_open xs)) k
 begins_with false x xs k = refl
 
-pub begins_more : (x : ShardState) (xs : List ShardState) (k : ℕ) → begins_at (x ∷ xs) k ≡ ((is_open x && (x.range.start == k)) || begins_at xs k)
+pub begins_more : (x : ShardState) (xs : List ShardState) (k : ℕ)
+    → begins_at (x ∷ xs) k ≡ ((is_open x && (x.range.start == k)) || begins_at xs k)
 begins_more x xs k = begins_with (is_open x) x xs k
 
 -- ---- they rise, since no two open shards contain one key
@@ -57,8 +62,10 @@ pub one_here : (r : Span) → r.start ≤ r.end → one r r.start ≡ 1
 one_here r h = grind (arith, nat_tests)
 
 -- a key at which an open shard starts is contained
-counted_by : (b c : Bool) (x : ShardState) (k n : ℕ) → is_open x ≡ b → (x.range.start == k) ≡ c → x.range.start ≤ x.range.end → (b && c) ≡ true → 1 ≤ count_if b (one x.range k) + n
-counted_by true true x k n isb isc o h = let e : x.range.start ≡ k = equal_so x.range.start k isc in let w : one x.range k ≡ 1 = ap (one x.range) (sym e) ∙ one_here x.range o in omega (arith, w)
+counted_by : (b c : Bool) (x : ShardState) (k n : ℕ) → is_open x ≡ b → (x.range.start == k) ≡ c
+    → x.range.start ≤ x.range.end → (b && c) ≡ true → 1 ≤ count_if b (one x.range k) + n
+counted_by true true x k n isb isc o h = let e : x.range.start ≡ k = equal_so x.range.start k isc in
+    let w : one x.range k ≡ 1 = ap (one x.range) (sym e) ∙ one_here x.range o in omega (arith, w)
 counted_by true false x k n isb isc o h = absurd cc
 counted_by false c x k n isb isc o h = absurd cc
 
@@ -66,27 +73,35 @@ either : (a b : Bool) (P : Type 0) → (a || b) ≡ true → (a ≡ true → P) 
 either true b P h f g = f refl
 either false b P h f g = g h
 
-pub begins_counted : (xs : List ShardState) (k : ℕ) → AllByRecursion IsOrdered xs → begins_at xs k ≡ true → 1 ≤ open_times xs k
+pub begins_counted : (xs : List ShardState) (k : ℕ) → AllByRecursion IsOrdered xs → begins_at xs k ≡ true
+    → 1 ≤ open_times xs k
 begins_counted [] k o h = absurd cc
 begins_counted (x ∷ xs) k o h =
-    either (is_open x && (x.range.start == k)) (begins_at xs k) (1 ≤ open_times (x ∷ xs) k) (sym (begins_more x xs k) ∙ h)
+    either (is_open x && (x.range.start == k)) (begins_at xs k) (1 ≤ open_times (x ∷ xs) k) (sym (begins_more x xs k)
+    ∙ h)
     (λ here. counted_by (is_open x) (x.range.start == k) x k (open_times xs k) refl refl o.0 here)
     (λ there. let r : 1 ≤ open_times xs k = begins_counted xs k o.1 there in omega (arith, r))
 
-rise_open : (b : Bool) (x : ShardState) (xs : List ShardState) → (b ≡ true → begins_at xs x.range.start ≡ false) → RiseFrom 0 (starts_among (filter is_open xs)) → RiseFrom 0 (starts_among (cond b (x ∷ filter is_open xs) (filter is_open xs)))
+rise_open : (b : Bool) (x : ShardState) (xs : List ShardState) → (b ≡ true → begins_at xs x.range.start ≡ false)
+    → RiseFrom 0 (starts_among (filter is_open xs))
+    → RiseFrom 0 (starts_among (cond b (x ∷ filter is_open xs) (filter is_open xs)))
 rise_open true x xs f r = rise_with x.range.start 0 (starts_among (filter is_open xs)) (omega arith) r (f refl)
 rise_open false x xs f r = r
 
-twice : (b : Bool) (x : ShardState) (n : ℕ) → b ≡ true → x.range.start ≤ x.range.end → count_if b (one x.range x.range.start) + n ≤ 1 → 1 ≤ n → ⊥
+twice : (b : Bool) (x : ShardState) (n : ℕ) → b ≡ true → x.range.start ≤ x.range.end
+    → count_if b (one x.range x.range.start) + n ≤ 1 → 1 ≤ n → ⊥
 twice true x n h o few some = omega (arith, one_here x.range o, few, some)
 twice false x n h o few some = absurd cc
 
-pub open_rise : (xs : List ShardState) → ((k : ℕ) → k < 2 ^ 128 → open_times xs k ≤ 1) → AllByRecursion IsOrdered xs → AllByRecursion IsWithinKeys xs → RiseFrom 0 (starts_among (filter is_open xs))
+pub open_rise : (xs : List ShardState) → ((k : ℕ) → k < 2 ^ 128 → open_times xs k ≤ 1) → AllByRecursion IsOrdered xs
+    → AllByRecursion IsWithinKeys xs → RiseFrom 0 (starts_among (filter is_open xs))
 open_rise [] once o w = tt
 open_rise (x ∷ xs) once o w =
     let low : x.range.start < 2 ^ 128 = omega (arith, o.0, w.0) in
     rise_open (is_open x) x xs
-    (λ open_now. false_from_ne_true (begins_at xs x.range.start) (λ h. twice (is_open x) x (open_times xs x.range.start) open_now o.0 (once x.range.start low) (begins_counted xs x.range.start o.1 h)))
+    (λ open_now. false_from_ne_true (begins_at xs x.range.start)
+    (λ h. twice (is_open x) x (open_times xs x.range.start) open_now o.0 (once x.range.start low)
+    (begins_counted xs x.range.start o.1 h)))
     (open_rise xs (λ k below. let n : open_times (x ∷ xs) k ≤ 1 = once k below in omega (arith, n)) o.1 w.1)
 
 pub tree_rises : (xs : List ShardState) → IsTree xs → RiseFrom 0 (starts_among (filter is_open xs))
@@ -94,7 +109,9 @@ tree_rises xs tree = open_rise xs (λ k below. omega (arith, tree.tiled.times k 
 
 -- ---- the first is 0
 
-zero_by : (b : Bool) (x : ShardState) (xs : List ShardState) (n : ℕ) → is_open x ≡ b → 1 ≤ count_if b (one x.range 0) + n → (1 ≤ n → begins_at xs 0 ≡ true) → ((b && (x.range.start == 0)) || begins_at xs 0) ≡ true
+zero_by : (b : Bool) (x : ShardState) (xs : List ShardState) (n : ℕ) → is_open x ≡ b
+    → 1 ≤ count_if b (one x.range 0) + n → (1 ≤ n → begins_at xs 0 ≡ true)
+    → ((b && (x.range.start == 0)) || begins_at xs 0) ≡ true
 zero_by false x xs n isb h rest = rest (omega (arith, h))
 zero_by true x xs n isb h rest = by (x.range.start == 0) refl
   where
@@ -120,4 +137,6 @@ from_zero (b ∷ starts) r h = by b r refl
         absurd cc
 
 pub tree_starts : (xs : List ShardState) → IsTree xs → AreStarts (starts_among (filter is_open xs))
-tree_starts xs tree = from_zero (starts_among (filter is_open xs)) (tree_rises xs tree) (begins_zero xs (omega (arith, tree.tiled.times 0 (omega arith))))
+tree_starts xs tree =
+    from_zero (starts_among (filter is_open xs)) (tree_rises xs tree)
+    (begins_zero xs (omega (arith, tree.tiled.times 0 (omega arith))))

@@ -15,5 +15,7 @@ MayStandAt (Some first) place = (first ≤ place) × (place ≤ first + 1)
 -- the first child of each shard, where it has one; an open shard has none
 pub record AreFamilies (firsts : List (Option ℕ)) (xs : List ShardState) : Type 0 where
   pub long : length firsts ≡ length xs
-  pub each : (parent place : ℕ) (x : ShardState) → slice_get xs place ≡ Some x → is_child parent x ≡ true → MayStandAt (told_of (slice_get firsts parent)) place
-  pub young : (place : ℕ) (x : ShardState) → slice_get xs place ≡ Some x → is_open x ≡ true → slice_get firsts place ≡ Some None
+  pub each : (parent place : ℕ) (x : ShardState) → slice_get xs place ≡ Some x → is_child parent x ≡ true
+      → MayStandAt (told_of (slice_get firsts parent)) place
+  pub young : (place : ℕ) (x : ShardState) → slice_get xs place ≡ Some x → is_open x ≡ true
+      → slice_get firsts place ≡ Some None

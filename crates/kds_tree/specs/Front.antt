@@ -1,12 +1,13 @@
 -- The shards at the front of a list: those that have expired, and the others, which are named.
-use Rattle.std.specs.Prelude.{ℕ, zero, suc, ◌≡◌, ◌⊎◌, true, Bool, List, [], ◌∷◌, ◌++◌, map, take, slice_get, Option, Some, None}
+use Rattle.std.specs.Prelude.{ℕ, zero, suc, ◌≡◌, ◌⊎◌, true, Bool, List, [], ◌∷◌, ◌++◌, map, take, slice_get, Option}
+use Rattle.std.specs.Prelude.{Some, None}
 use Rattle.kds_defs.specs.declared.reply.Shard.{Shard}
 use Rattle.kds_defs.specs.Listings.{are_more}
 use Rattle.kds_defs.specs.Shards.{ShardState, is_closed_below, listed_among, shown}
 use Rattle.kds_defs.specs.Streams.{floor_of}
 
--- where the first shard has the number `from`: there are `count` shards at the front, each was closed below the floor or
--- is named, and the names rise and are of these shards
+-- where the first shard has the number `from`: there are `count` shards at the front, each was closed below the floor
+-- or is named, and the names rise and are of these shards
 abbrev pub AreLeft : ℕ → ℕ → ℕ → List ℕ → List ShardState → Type 0
 AreLeft floor from zero names xs = names ≡ []
 AreLeft floor from (suc count) names [] = ⊥

@@ -56,4 +56,5 @@ fields_back k h =
       closed = moment_of (closing_from k.shard.end k.closed);
     } in f)
     (ending_back k.shard.end k.closed h)
-    ∙ ap (λ (c : Option ℕ). let f : Inside = record { shard = k.shard; closed = c } in f) (moment_back k.shard.end k.closed h)
+    ∙ ap (λ (c : Option ℕ). let f : Inside = record { shard = k.shard; closed = c } in
+    f) (moment_back k.shard.end k.closed h)

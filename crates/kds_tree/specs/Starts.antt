@@ -19,7 +19,8 @@ start_of x number = record { key = x.range.start; shard = number }
 -- those of the open shards, and no others
 pub record AreOf (ss : List OpenStart) (xs : List ShardState) : Type 0 where
   pub each : All (IsStart xs) ss
-  pub whole : (number : ℕ) (x : ShardState) → slice_get xs number ≡ Some x → is_open x ≡ true → Contains ss (start_of x number)
+  pub whole : (number : ℕ) (x : ShardState) → slice_get xs number ≡ Some x → is_open x ≡ true
+      → Contains ss (start_of x number)
 
 -- the starts of the open ones of some shards, in the order of these
 abbrev pub own_start : ShardState → OpenStart

@@ -1,5 +1,6 @@
 -- The shards of a stream as a tree keeps them, and what its calls answer.
-use Rattle.std.specs.Prelude.{ℕ, ◌≡◌, ◌+◌, ◌<◌, ◌^◌, Bool, true, false, ◌&&◌, not, is_some, if◌then◌else◌, List, slice_get, Option, Some, None, Result, Ok, Err}
+use Rattle.std.specs.Prelude.{ℕ, ◌≡◌, ◌+◌, ◌<◌, ◌^◌, Bool, true, false, ◌&&◌, not, is_some, if◌then◌else◌, List}
+use Rattle.std.specs.Prelude.{slice_get, Option, Some, None, Result, Ok, Err}
 use Rattle.std.specs.List.{AllByRecursion}
 use Rattle.kds_base.specs.Span.{Span, Covers, is_inside, are_adjacent, lower_part, upper_part}
 use Rattle.kds_defs.specs.declared.reply.Refusal.{Refusal}
@@ -54,7 +55,8 @@ abbrev pub merge_refusal : List ShardState → ℕ → ℕ → Option Refusal
 merge_refusal xs sh other =
     if not (is_some (slice_get xs sh) && is_some (slice_get xs other)) then Some refusal.NoShard else
     if not (is_open_at (slice_get xs sh) && is_open_at (slice_get xs other)) then Some refusal.ShardClosed else
-    if not (are_adjacent (range_of (slice_get xs sh)) (range_of (slice_get xs other))) then Some refusal.NotAdjacent else
+    if not (are_adjacent (range_of (slice_get xs sh)) (range_of (slice_get xs other))) then Some
+    refusal.NotAdjacent else
     None
 
 -- the answer: the refusal, if there is one, and else this
@@ -70,8 +72,10 @@ value_by None before after = after
 -- the shards after a split or a merge that drew this number at a clock, unless it is refused
 abbrev pub after_split : List ShardState → ℕ → ℕ → ℕ → ℕ → List ShardState
 after_split xs sh at number clock =
-    value_by (split_refusal xs sh at) xs (split_shards sh at (record { number = number; clock = clock }) (number + 1) xs)
+    value_by (split_refusal xs sh at) xs
+    (split_shards sh at (record { number = number; clock = clock }) (number + 1) xs)
 
 abbrev pub after_merge : List ShardState → ℕ → ℕ → ℕ → ℕ → List ShardState
 after_merge xs sh other number clock =
-    value_by (merge_refusal xs sh other) xs (merged_shards sh other (record { number = number; clock = clock }) (number + 1) xs)
+    value_by (merge_refusal xs sh other) xs
+    (merged_shards sh other (record { number = number; clock = clock }) (number + 1) xs)

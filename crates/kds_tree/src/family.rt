@@ -1,6 +1,7 @@
 //! Finds the children of a shard through an index, which has the number of each shard's first child. A shard has at
 //! most two children. Two children of the same shard are next to each other in the list of shards (decision 118).
-ghost use Rattle.std.specs.Prelude.{◌≡◌, ◌<◌, ◌≤◌, drop, length, map, replicate, slice_get, slice_set, take, vec_capacity, vec_len, IfOk, None, Some};
+ghost use Rattle.std.specs.Prelude.{◌≡◌, ◌<◌, ◌≤◌, drop, length, map, replicate, slice_get, slice_set, take};
+ghost use Rattle.std.specs.Prelude.{vec_capacity, vec_len, IfOk, None, Some};
 ghost use Rattle.kds_defs.specs.Shards.{children_among, shown};
 ghost use Rattle.kds_tree.specs.Families.{AreFamilies, told_of};
 
@@ -24,7 +25,8 @@ pub fn family_of<'a>(
     first_children: &[Option<ShardNo>],
     no: ShardNo,
 ) -> &'a [KeptShard]
-    ensures all { AreFamilies first_children.now shards.now → children_among no result.now ≡ children_among no shards.now }
+    ensures all { AreFamilies first_children.now shards.now
+        → children_among no result.now ≡ children_among no shards.now }
     ensures few { length result.now ≤ 2 }
 {
     match first_child(first_children, no) {
@@ -75,7 +77,8 @@ pub fn set_first_child(
 )
     requires shard { shard < length first_children.old.items }
     requires other { other < length first_children.old.items }
-    ensures items { first_children.new.items ≡ slice_set (slice_set first_children.old.items shard (Some child)) other (Some child) }
+    ensures items { first_children.new.items
+        ≡ slice_set (slice_set first_children.old.items shard (Some child)) other (Some child) }
     ensures capacity { vec_capacity first_children.new ≡ vec_capacity first_children.old }
     ensures len { vec_len first_children.new ≡ vec_len first_children.old }
 {

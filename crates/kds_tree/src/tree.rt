@@ -1,5 +1,6 @@
 //! Creates the shards of a stream, finds the open shard for a hash key, and lists, splits and merges shards.
-ghost use Rattle.std.specs.Prelude.{◌≡◌, ◌+◌, ◌++◌, ◌∷◌, [], ◌-◌, ◌^◌, ◌<◌, ◌≤◌, ℕ, drop, min, length, map, take, slice_get, Some, IsSome, IfOk, IfSome, OnOk, OnErr, IsOk};
+ghost use Rattle.std.specs.Prelude.{◌≡◌, ◌+◌, ◌++◌, ◌∷◌, [], ◌-◌, ◌^◌, ◌<◌, ◌≤◌, ℕ, drop, min, length, map, take};
+ghost use Rattle.std.specs.Prelude.{slice_get, Some, IsSome, IfOk, IfSome, OnOk, OnErr, IsOk};
 ghost use Rattle.std.specs.List.{AllByRecursion, filter};
 ghost use Rattle.std.specs.Option.{option_map};
 ghost use Rattle.kds_base.specs.Span.{joined};
@@ -7,12 +8,14 @@ ghost use Rattle.kds_defs.specs.declared.limits.TheConstants.{MOST_SHARDS};
 ghost use Rattle.kds_defs.specs.Listings.{are_more, is_after_shard};
 ghost use Rattle.kds_defs.specs.Scaling as scaling;
 ghost use Rattle.kds_defs.specs.ScaleCommands.{starts_among};
-ghost use Rattle.kds_defs.specs.Shards.{children_among, home_among, is_open, listed_among, made_shards, merged_shards, range_of, shown, split_shards, with_closed};
+ghost use Rattle.kds_defs.specs.Shards.{children_among, home_among, is_open, listed_among, made_shards, merged_shards};
+ghost use Rattle.kds_defs.specs.Shards.{range_of, shown, split_shards, with_closed};
 ghost use Rattle.kds_defs.specs.Streams.{floor_of};
 ghost use Rattle.kds_defs.specs.Tiled.{AreNumbered, IsTiled};
 ghost use Rattle.kds_tree.specs.Front.{Lists, listing, picked, picked_before};
 ghost use Rattle.kds_tree.specs.Starts.{AreStarts, starting_keys};
-ghost use Rattle.kds_tree.specs.Tree.{IsHome, IsWithinKeys, after_merge, after_split, answer_by, merge_refusal, split_parts, split_refusal, was_expired};
+ghost use Rattle.kds_tree.specs.Tree.{IsHome, IsWithinKeys, after_merge, after_split, answer_by, merge_refusal};
+ghost use Rattle.kds_tree.specs.Tree.{split_parts, split_refusal, was_expired};
 
 use crate::family::{children_in, family_of, no_children, set_first_child};
 use crate::front::{ExpiredFront, is_expired_at, move_on, no_front, numbers_from, passed_at};
@@ -50,10 +53,13 @@ impl Model for ShardTree {
 
     ghost view = { λ t. record {
       shards = t.shards.items;
-      spare = min (vec_capacity t.shards - vec_len t.shards) (min (vec_capacity t.starts - vec_len t.starts) (vec_capacity t.first_children - vec_len t.first_children));
+      spare = min (vec_capacity t.shards - vec_len t.shards)
+          (min (vec_capacity t.starts - vec_len t.starts)
+          (vec_capacity t.first_children - vec_len t.first_children));
     } };
 
-    ghost invariant = { λ t. IsTree t.shards.items × AreStarts t.starts.items t.shards.items × AreFamilies t.first_children.items t.shards.items
+    ghost invariant = { λ t. IsTree t.shards.items × AreStarts t.starts.items t.shards.items
+        × AreFamilies t.first_children.items t.shards.items
         × AreLeft (floor_of t.front.cut) 0 t.front.count t.front.left.items t.shards.items };
 }
 
@@ -130,7 +136,8 @@ impl ShardTree {
         after: Option<ShardNo>,
         limit: u32,
     ) -> Result<(Items<Shard>, bool), Memory>
-        ensures shards { let xs = map shown (filter (is_after_shard after) (listed_among (floor_of cut) self.now.shards))
+        ensures shards { let xs =
+            map shown (filter (is_after_shard after) (listed_among (floor_of cut) self.now.shards))
             in IfOk result (λ r. r.0 ≡ take limit xs) }
         ensures more { let xs = map shown (filter (is_after_shard after) (listed_among (floor_of cut) self.now.shards))
             in IfOk result (λ r. r.1 ≡ are_more limit xs) }
@@ -220,7 +227,11 @@ impl ShardTree {
         clock: Moment,
     ) -> Result<Result<(ShardNo, ShardNo), Refusal>, Memory>
         requires { seq + 1 < 2 ^ 64 }
-        ensures answer { IfOk result (λ a. a ≡ answer_by (split_refusal self.old.shards shard at) (length self.old.shards, length self.old.shards + 1)) }
+        ensures answer { IfOk result
+            (λ a. a ≡ answer_by (split_refusal self.old.shards shard at) (
+              length self.old.shards,
+              length self.old.shards + 1,
+            )) }
         ensures value { OnOk result (self.new.shards ≡ after_split self.old.shards shard at seq clock) }
         ensures refused { IsSome (split_refusal self.old.shards shard at) → IsOk result }
         ensures memory { OnErr result (self.new.shards ≡ self.old.shards) }
@@ -295,7 +306,8 @@ impl ShardTree {
         clock: Moment,
     ) -> Result<Result<ShardNo, Refusal>, Memory>
         requires { seq + 1 < 2 ^ 64 }
-        ensures answer { IfOk result (λ a. a ≡ answer_by (merge_refusal self.old.shards shard other) (length self.old.shards)) }
+        ensures answer { IfOk result
+            (λ a. a ≡ answer_by (merge_refusal self.old.shards shard other) (length self.old.shards)) }
         ensures value { OnOk result (self.new.shards ≡ after_merge self.old.shards shard other seq clock) }
         ensures refused { IsSome (merge_refusal self.old.shards shard other) → IsOk result }
         ensures memory { OnErr result (self.new.shards ≡ self.old.shards) }
@@ -373,7 +385,8 @@ fn page_of(
     limit: u32,
 ) -> Result<(Items<Shard>, bool), Memory>
     ensures shards { IfOk result (λ r. r.0 ≡ take limit (listing cut.now (picked numbers.now shards.now ++ rest.now))) }
-    ensures more { IfOk result (λ r. r.1 ≡ are_more limit (listing cut.now (picked numbers.now shards.now ++ rest.now))) }
+    ensures more { IfOk result
+        (λ r. r.1 ≡ are_more limit (listing cut.now (picked numbers.now shards.now ++ rest.now))) }
 {
     let mut listed = Items::new(alloc);
     if list_numbers(&mut listed, shards, numbers, cut, limit)? {
@@ -393,7 +406,8 @@ fn list_numbers(
     limit: u32,
 ) -> Result<bool, Memory>
     requires { length listed.old ≤ limit }
-    ensures { IfOk result (λ more. Lists limit (listed.old ++ listing cut.now (picked numbers.now shards.now)) listed.new more) }
+    ensures { IfOk result
+        (λ more. Lists limit (listed.old ++ listing cut.now (picked numbers.now shards.now)) listed.new more) }
 {
     for no in numbers {
         if list_number(listed, shards, *no, cut, limit)? {
@@ -432,7 +446,9 @@ fn list_number(
     limit: u32,
 ) -> Result<bool, Memory>
     requires { length listed.old ≤ limit }
-    ensures { IfOk result (λ more. Lists limit (listed.old ++ listing cut.now (picked_before (slice_get shards.now no) [])) listed.new more) }
+    ensures { IfOk result
+        (λ more. Lists limit (listed.old ++ listing cut.now (picked_before (slice_get shards.now no) []))
+        listed.new more) }
 {
     match shards.get(no.0 as usize) {
         Some(kept) => list_one(listed, kept, cut, limit),
@@ -440,8 +456,8 @@ fn list_number(
     }
 }
 
-/// Adds the shard `kept` to `listed`, if it hasn't expired at the trim horizon `cut`. Returns whether it would have been
-/// added but for the `limit` shards that `listed` has already.
+/// Adds the shard `kept` to `listed`, if it hasn't expired at the trim horizon `cut`. Returns whether it would have
+/// been added but for the `limit` shards that `listed` has already.
 fn list_one(
     listed: &mut Items<Shard>,
     kept: &KeptShard,

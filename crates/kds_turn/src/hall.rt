@@ -1,6 +1,7 @@
 //! The hall: a lock around one machine, which several threads share. A turn is one command, applied to the machine as a
 //! whole. A pass is the right of one thread to make turns. A note tells one pass which turns another pass has seen.
-ghost use Rattle.std.specs.Prelude.{◌≡◌, ◌≢◌, ℕ, ◌+◌, ◌-◌, ◌<◌, ◌≤◌, ◌^◌, List, [], ◌∷◌, ◌++◌, length, map, IfOk, IfErr, OnOk, OnErr, Err, IsOk, ◌↔◌, vec_capacity, Some, true, false};
+ghost use Rattle.std.specs.Prelude.{◌≡◌, ◌≢◌, ℕ, ◌+◌, ◌-◌, ◌<◌, ◌≤◌, ◌^◌, List, [], ◌∷◌, ◌++◌, length, map, IfOk};
+ghost use Rattle.std.specs.Prelude.{IfErr, OnOk, OnErr, Err, IsOk, ◌↔◌, vec_capacity, Some, true, false};
 ghost use Rattle.std.specs.List.{range_with_len};
 ghost use Rattle.kds_defs.specs.Histories.{journal, clock};
 ghost use Rattle.kds_defs.specs.Kinds.{is_lease_answer, is_service, is_service_answer};
@@ -59,7 +60,8 @@ impl<M: Machine> Hall<M> {
     ) -> Result<(Hall<M>, Vec<Pass<M>>), (M, Memory)>
         requires some { 1 ≤ passes }
         requires machine { M.stands_for machine [] }
-        ensures ok { IfOk result (λ made. (made.0.passes ≡ passes) × (made.1.items ≡ map (new_pass made.0.id) (range_with_len 1 passes))) }
+        ensures ok { IfOk result (λ made. (made.0.passes ≡ passes)
+            × (made.1.items ≡ map (new_pass made.0.id) (range_with_len 1 passes))) }
         ensures err { IfErr result (λ back. back.0 ≡ machine) }
     {
         let Ok(mut slots) = Vec::with_capacity(alloc, 1) else {
@@ -111,9 +113,14 @@ impl<M: Machine> Hall<M> {
     ) -> Result<Answer, TurnErr>
         requires hall { pass.old.hall ≡ self.now.id }
         requires lawful { IsLawful record { by = pass.old.by; at = now; what = what } }
-        ensures kept { (pass.new.hall ≡ pass.old.hall) × (pass.new.by ≡ pass.old.by) × (pass.new.joined ≡ pass.old.joined) }
+        ensures kept { (pass.new.hall ≡ pass.old.hall) × (pass.new.by ≡ pass.old.by)
+            × (pass.new.joined ≡ pass.old.joined) }
         ensures seen { Continues pass.new.seen pass.old.seen }
-        ensures answered { IfOk result (λ a. IsAnswered record { by = pass.old.by; at = now; what = what } a pass.old pass.new) }
+        ensures answered { IfOk result (λ a. IsAnswered record {
+          by = pass.old.by;
+          at = now;
+          what = what;
+        } a pass.old pass.new) }
         ensures safe { OnOk result (IsSafe (journal pass.new.seen) (clock pass.new.seen)) }
         ensures failed { OnErr result (pass.new.own ≡ pass.old.own) }
         ensures spent { IfErr result (λ e. (e ≡ failed.Spent) ↔ (length pass.new.seen + 1 ≡ 2 ^ 64)) }
@@ -174,7 +181,8 @@ impl<M: Machine> Hall<M> {
     /// Adds the turns of a note to the turns that the pass has seen.
     pub fn learn(&self, pass: &mut Pass<M>, note: Note<M>)
         requires hall { (pass.old.hall ≡ self.now.id) × (note.hall ≡ self.now.id) }
-        ensures kept { (pass.new.hall ≡ pass.old.hall) × (pass.new.by ≡ pass.old.by) × (pass.new.own ≡ pass.old.own) × (pass.new.joined ≡ pass.old.joined) }
+        ensures kept { (pass.new.hall ≡ pass.old.hall) × (pass.new.by ≡ pass.old.by) × (pass.new.own ≡ pass.old.own)
+            × (pass.new.joined ≡ pass.old.joined) }
         ensures seen { Continues pass.new.seen pass.old.seen × Continues pass.new.seen note.seen }
     {
         let Note { seat } = note;

@@ -40,7 +40,8 @@ pub fn lock<M: Machine, R: Wait>(
     seat: &mut Seat<M>,
     by: u32,
 )
-    requires board { (seat.old.table_id ≡ board.now.table_id) × (board.now.table_id.words ≡ 3) × (board.now.table_id.slots ≡ 1) }
+    requires board { (seat.old.table_id ≡ board.now.table_id) × (board.now.table_id.words ≡ 3)
+        × (board.now.table_id.slots ≡ 1) }
     requires seat { IsIdle seat.old.me × (first_number seat.old.me.0.accounts ≡ by) × (0 < by) }
     ensures seat { (seat.new.table_id ≡ seat.old.table_id) × (seat.new.id ≡ seat.old.id) }
     ensures grabbed { Grabbed M.stands_for seat.old.me seat.new.me }
@@ -74,7 +75,8 @@ fn wait<M: Machine, R: Wait>(rt: &R, board: &Board<M>, sleepers: &AtomicU64, hol
 
 /// Returns the number of turns in the history. The seat has then seen all these turns.
 pub fn load_turns<M: Machine>(board: &Board<M>, seat: &mut Seat<M>) -> u64
-    requires { (seat.old.table_id ≡ board.now.table_id) × (board.now.table_id.words ≡ 3) × (board.now.table_id.slots ≡ 1) }
+    requires { (seat.old.table_id ≡ board.now.table_id) × (board.now.table_id.words ≡ 3)
+        × (board.now.table_id.slots ≡ 1) }
     ensures seat { (seat.new.table_id ≡ seat.old.table_id) × (seat.new.id ≡ seat.old.id) }
     ensures looked { Looked seat.old.me result seat.new.me }
 {
@@ -103,10 +105,12 @@ pub fn put_machine<M: Machine>(board: &Board<M>, seat: &mut Seat<M>, machine: M)
 
 /// Adds the turn to the history. At run time, this increases the number of turns by one.
 pub fn append<M: Machine, N: Next>(board: &Board<M>, seat: &mut Seat<M>, _turn: &Snapshot<Turn>)
-    requires board { (seat.old.table_id ≡ board.now.table_id) × (board.now.table_id.words ≡ 3) × (board.now.table_id.slots ≡ 1) }
+    requires board { (seat.old.table_id ≡ board.now.table_id) × (board.now.table_id.words ≡ 3)
+        × (board.now.table_id.slots ≡ 1) }
     requires seat { (seat.old.me.0.busy ≡ true) × (seat.old.me.0.told ≡ []) }
     requires room { length seat.old.me.0.seen + 1 < 2 ^ 64 }
-    requires turn { (_turn.now.value ≡ N.turn) × IsLawful N.turn × (N.turn.by ≡ first_number seat.old.me.0.accounts) × (0 < N.turn.by) }
+    requires turn { (_turn.now.value ≡ N.turn) × IsLawful N.turn × (N.turn.by ≡ first_number seat.old.me.0.accounts)
+        × (0 < N.turn.by) }
     ensures seat { (seat.new.table_id ≡ seat.old.table_id) × (seat.new.id ≡ seat.old.id) }
     ensures appended { Appended _turn.now.value seat.old.me seat.new.me }
 {
@@ -115,7 +119,8 @@ pub fn append<M: Machine, N: Next>(board: &Board<M>, seat: &mut Seat<M>, _turn: 
 
 /// Releases the lock, and wakes one sleeping thread, if any.
 pub fn unlock<M: Machine>(board: &Board<M>, sleepers: &AtomicU64, seat: &mut Seat<M>)
-    requires board { (seat.old.table_id ≡ board.now.table_id) × (board.now.table_id.words ≡ 3) × (board.now.table_id.slots ≡ 1) }
+    requires board { (seat.old.table_id ≡ board.now.table_id) × (board.now.table_id.words ≡ 3)
+        × (board.now.table_id.slots ≡ 1) }
     requires seat { HasTurn M.stands_for seat.old.me }
     ensures seat { (seat.new.table_id ≡ seat.old.table_id) × (seat.new.id ≡ seat.old.id) }
     ensures freed { Freed seat.old.me seat.new.me }
@@ -141,7 +146,8 @@ pub fn split_seat<M: Machine>(board: &Board<M>, seat: &mut Seat<M>) -> Seat<M>
 pub fn note_seat<M: Machine>(board: &Board<M>, seat: &mut Seat<M>) -> Seat<M>
     requires board { (seat.old.table_id ≡ board.now.table_id) × (board.now.table_id.words ≡ 3) }
     requires seat { IsIdle seat.old.me }
-    ensures seat { (seat.new.table_id ≡ seat.old.table_id) × (seat.new.id ≡ seat.old.id) × (result.table_id ≡ seat.old.table_id) }
+    ensures seat { (seat.new.table_id ≡ seat.old.table_id) × (seat.new.id ≡ seat.old.id)
+        × (result.table_id ≡ seat.old.table_id) }
     ensures view { (seat.new.me ≡ seat.old.me) × (result.me ≡ (note_of seat.old.me.0, [])) }
 {
     board.split_seat::<Tell>(seat)
@@ -150,7 +156,8 @@ pub fn note_seat<M: Machine>(board: &Board<M>, seat: &mut Seat<M>) -> Seat<M>
 /// Joins the seat `other` into `seat`. Then `seat` also has the accounts of `other`, and knows the turns that `other`
 /// had seen.
 pub fn join_seats<M: Machine>(board: &Board<M>, seat: &mut Seat<M>, other: Seat<M>)
-    requires board { (seat.old.table_id ≡ board.now.table_id) × (other.table_id ≡ board.now.table_id) × (board.now.table_id.words ≡ 3) }
+    requires board { (seat.old.table_id ≡ board.now.table_id) × (other.table_id ≡ board.now.table_id)
+        × (board.now.table_id.words ≡ 3) }
     requires seats { IsIdle seat.old.me × IsIdle other.me }
     ensures seat { (seat.new.table_id ≡ seat.old.table_id) × (seat.new.id ≡ seat.old.id) }
     ensures view { seat.new.me ≡ (both seat.old.me.0 other.me.0, []) }

@@ -1,5 +1,6 @@
 -- A pass into which the passes with the numbers from one on were joined.
-use Rattle.std.proofs.Common.{◌≡◌, ℕ, ◌+◌, ◌<◌, ◌≤◌, List, [], ◌∷◌, ◌++◌, sym, ap, ◌∙◌, subst, arith, length, length-append}
+use Rattle.std.proofs.Common.{◌≡◌, ℕ, ◌+◌, ◌<◌, ◌≤◌, List, [], ◌∷◌, ◌++◌, sym, ap, ◌∙◌, subst, arith, length}
+use Rattle.std.proofs.Common.{length-append}
 use mathlib.Core.Logic.{dite}
 use native.Mathlib.Decide.{ℕ_discrete}
 use Rattle.std.specs.List.{All}
@@ -13,16 +14,19 @@ use Rattle.kds_turn.proofs.Turns.{has_one, times_append}
 abbrev pub HasFrom : ℕ → ℕ → Standing → Type 0
 HasFrom least last p = (n : ℕ) → least ≤ n → n ≤ last → 0 < times n (accounts_of p)
 
-pub has_more : (least by last : ℕ) (p q r : Standing) → by + 1 ≡ least → q.by ≡ by → r.by ≡ p.by → r.joined ≡ p.joined ++ accounts_of q → HasFrom least last p → HasFrom by last r
+pub has_more : (least by last : ℕ) (p q r : Standing) → by + 1 ≡ least → q.by ≡ by → r.by ≡ p.by
+    → r.joined ≡ p.joined ++ accounts_of q → HasFrom least last p → HasFrom by last r
 has_more least by last p q r e f same joined from = λ n a b.
-    let all : times n r.joined ≡ times n p.joined + times n (accounts_of q) = ap (times n) joined ∙ times_append n p.joined (accounts_of q) in
+    let all : times n r.joined ≡ times n p.joined + times n (accounts_of q) =
+    ap (times n) joined ∙ times_append n p.joined (accounts_of q) in
     let own : has n (account r.by r.own) ≡ has n (account p.by p.own) = ap (λ (k : ℕ). has n (account k [])) same in
     dite (ℕ_discrete by n)
     (λ is. let one = has_one n (account q.by q.own) (f ∙ is) in omega (arith, all, own, one))
     (λ ne. let before = from n (omega (arith, e, a, ne)) b in omega (arith, all, own, before))
 
 -- the passes before the last one are of the hall as well
-pub all_front : (id : TableId) (all xs : List Standing) (x : Standing) → all ≡ xs ++ x ∷ [] → All (λ p. p.hall ≡ id) all → All (λ p. p.hall ≡ id) xs
+pub all_front : (id : TableId) (all xs : List Standing) (x : Standing) → all ≡ xs ++ x ∷ [] → All (λ p. p.hall ≡ id) all
+    → All (λ p. p.hall ≡ id) xs
 all_front id all xs x e of = λ k d below.
     let longer : k < length (xs ++ x ∷ []) = omega (arith, below, length-append xs (x ∷ [])) in
     let h = subst (λ (l : List Standing). All (λ p. p.hall ≡ id) l) e of k d longer in

@@ -34,7 +34,8 @@ impl Stream {
         limit: u32,
     ) -> Result<Answer, Memory>
         requires { IsLimit limit }
-        ensures { (log : Journal) → Shows self.now log → IfOk result (λ a. a ≡ answer_of (describe log self.now.clock self.now.no after limit)) }
+        ensures { (log : Journal) → Shows self.now log
+            → IfOk result (λ a. a ≡ answer_of (describe log self.now.clock self.now.no after limit)) }
     {
         let about = self.about(alloc)?;
         let (shards, more) = self.tree.listed(self.cut, after, limit)?;

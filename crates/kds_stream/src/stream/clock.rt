@@ -53,7 +53,8 @@ impl Stream {
     /// Removes the trimmed records of one log. Each call handles the next log in rotation. If there are `n` logs, `n`
     /// calls handle each log once. No reply to a client depends on whether trimmed records are removed.
     pub fn settle(&mut self)
-        ensures fields { (self.new.no ≡ self.old.no) × (self.new.name ≡ self.old.name) × (self.new.clock ≡ self.old.clock) }
+        ensures fields { (self.new.no ≡ self.old.no) × (self.new.name ≡ self.old.name)
+            × (self.new.clock ≡ self.old.clock) }
         ensures shows { (log : Journal) → Shows self.old log → Shows self.new log }
         ensures dropped { self.new ≡ settled self.old }
     {

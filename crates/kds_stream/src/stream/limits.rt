@@ -17,7 +17,8 @@ impl Stream {
     /// Data Streams Developer Guide, Quotas and Limits.
     pub fn enforce(&mut self, on: bool) -> Answer
         ensures answered { Decides self.old self.new result (λ log by. enforce log self.old.clock by self.old.no on) }
-        ensures fields { (self.new.no ≡ self.old.no) × (self.new.name ≡ self.old.name) × (self.new.clock ≡ self.old.clock) × (self.new.turn ≡ self.old.turn) }
+        ensures fields { (self.new.no ≡ self.old.no) × (self.new.name ≡ self.old.name)
+            × (self.new.clock ≡ self.old.clock) × (self.new.turn ≡ self.old.turn) }
         ensures done { result ≡ Ok Reply.Done }
         ensures changed { IsChangedAt self.old self.new }
         ensures enforced { self.new.enforced ≡ on }
@@ -32,7 +33,8 @@ impl Stream {
     /// The payload and partition key of the record together have `bytes` bytes.
     pub(super) fn holds_back(&self, shard: ShardNo, bytes: u64) -> bool
         requires { shard < length self.now.tree }
-        ensures { (f : ℕ → List SizedPut) → StandFor f 0 self.now.windows → result ≡ (self.now.enforced && is_throttled (f shard) self.now.clock bytes) }
+        ensures { (f : ℕ → List SizedPut) → StandFor f 0 self.now.windows
+            → result ≡ (self.now.enforced && is_throttled (f shard) self.now.clock bytes) }
     {
         self.enforced && !admits_at(&self.windows, shard.0 as usize, self.clock, bytes)
     }

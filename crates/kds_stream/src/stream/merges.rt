@@ -15,7 +15,8 @@ impl Stream {
     /// Returns the reason why a merge of the shards `shard` and `other` would be refused, or `None` if it would be
     /// accepted.
     fn merge_refusal(&self, shard: ShardNo, other: ShardNo) -> Option<Refusal>
-        ensures decided { RefusesAs self.now result (λ log c by s. merge_line log c by s shard other) (λ log c by s. merge log c by s shard other) }
+        ensures decided { RefusesAs self.now result (λ log c by s. merge_line log c by s shard other)
+            (λ log c by s. merge log c by s shard other) }
         ensures merges { IfNone result (merge_refusal self.now.tree shard other ≡ None) }
         ensures free { IfNone result (self.now.next ≢ last_number) }
     {
@@ -39,8 +40,10 @@ impl Stream {
     /// range starts right after the other ends. It is refused with `Spent` if the stream's next sequence number is the
     /// greatest `u64`. If the merge is refused or memory runs out, the stream is unchanged.
     pub fn merge(&mut self, shard: ShardNo, other: ShardNo) -> Result<Answer, Memory>
-        ensures answered { IfOk result (λ a. Decides self.old self.new a (λ log by. merge log self.old.clock by self.old.no shard other)) }
-        ensures fields { (self.new.no ≡ self.old.no) × (self.new.name ≡ self.old.name) × (self.new.clock ≡ self.old.clock) × (self.new.turn ≡ self.old.turn) }
+        ensures answered { IfOk result
+            (λ a. Decides self.old self.new a (λ log by. merge log self.old.clock by self.old.no shard other)) }
+        ensures fields { (self.new.no ≡ self.old.no) × (self.new.name ≡ self.old.name)
+            × (self.new.clock ≡ self.old.clock) × (self.new.turn ≡ self.old.turn) }
         ensures refused { IfOk result (λ a. OnErr a (self.new ≡ self.old)) }
         ensures changed { IfOk result (λ a. OnOk a (IsChangedAt self.old self.new)) }
         ensures kept { OnErr result (self.new ≡ self.old) }

@@ -20,8 +20,10 @@ impl Stream {
     /// is unchanged.
     pub fn put(&mut self, item: NewItem) -> Result<Answer, Memory>
         requires { IsItem item }
-        ensures answered { IfOk result (λ a. Decides self.old self.new a (λ log by. put log self.old.clock by self.old.no item)) }
-        ensures fields { (self.new.no ≡ self.old.no) × (self.new.name ≡ self.old.name) × (self.new.clock ≡ self.old.clock) × (self.new.turn ≡ self.old.turn) }
+        ensures answered { IfOk result
+            (λ a. Decides self.old self.new a (λ log by. put log self.old.clock by self.old.no item)) }
+        ensures fields { (self.new.no ≡ self.old.no) × (self.new.name ≡ self.old.name)
+            × (self.new.clock ≡ self.old.clock) × (self.new.turn ≡ self.old.turn) }
         ensures refused { IfOk result (λ a. OnErr a (self.new ≡ self.old)) }
         ensures changed { IfOk result (λ a. OnOk a (IsChangedAt self.old self.new)) }
         ensures kept { OnErr result (self.new ≡ self.old) }
@@ -57,8 +59,10 @@ impl Stream {
     /// `u64`. If the request is refused or memory runs out, the stream is unchanged.
     pub fn put_many(&mut self, items: Items<NewItem>) -> Result<Answer, Memory>
         requires { AreItems items }
-        ensures answered { IfOk result (λ a. Decides self.old self.new a (λ log by. put_many log self.old.clock by self.old.no items)) }
-        ensures fields { (self.new.no ≡ self.old.no) × (self.new.name ≡ self.old.name) × (self.new.clock ≡ self.old.clock) × (self.new.turn ≡ self.old.turn) }
+        ensures answered { IfOk result
+            (λ a. Decides self.old self.new a (λ log by. put_many log self.old.clock by self.old.no items)) }
+        ensures fields { (self.new.no ≡ self.old.no) × (self.new.name ≡ self.old.name)
+            × (self.new.clock ≡ self.old.clock) × (self.new.turn ≡ self.old.turn) }
         ensures refused { IfOk result (λ a. OnErr a (self.new ≡ self.old)) }
         ensures changed { IfOk result (λ a. OnOk a (IsChangedAt self.old self.new)) }
         ensures kept { OnErr result (self.new ≡ self.old) }

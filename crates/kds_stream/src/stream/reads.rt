@@ -46,7 +46,8 @@ impl Stream {
     /// Appends the keys of the stream's listed (unexpired) shards to `keys`, in the order of the shards' numbers. The
     /// key of a shard consists of the number of its stream and the number of the shard.
     pub fn add_listed(&self, keys: &mut Items<ShardRef>) -> Result<(), Memory>
-        ensures { OnOk result (keys.new ≡ keys.old ++ refs_of self.now.no (listed_among (floor_of self.now.cut) self.now.tree)) }
+        ensures { OnOk result (keys.new ≡ keys.old
+            ++ refs_of self.now.no (listed_among (floor_of self.now.cut) self.now.tree)) }
     {
         for i in 0..self.logs.len() {
             if let Some(shard) = self.listed(ShardNo(i as u64)) {
@@ -63,7 +64,8 @@ impl Stream {
     /// (Kinesis API Reference, GetShardIterator). The call is refused with `NoShard` if the shard was never made or has
     /// expired, and with `BadNumber` if `from` names a sequence number that doesn't belong to the shard.
     pub fn iterator(&self, shard: ShardNo, from: Start) -> Answer
-        ensures { (log : Journal) → Shows self.now log → result ≡ answer_of (get_iterator log self.now.clock self.now.no shard from) }
+        ensures { (log : Journal) → Shows self.now log
+            → result ≡ answer_of (get_iterator log self.now.clock self.now.no shard from) }
     {
         let Some(state) = self.listed(shard) else {
             return Err(Refusal::NoShard);
@@ -88,7 +90,8 @@ impl Stream {
     pub fn records(&self, alloc: Global, iter: &Iter, limit: u32) -> Result<Answer, Memory>
         requires stream { iter.now.stream ≡ self.now.no }
         requires limit { IsLimit limit }
-        ensures { (log : Journal) → Shows self.now log → IfOk result (λ a. a ≡ answer_of (get_records log self.now.clock iter.now limit)) }
+        ensures { (log : Journal) → Shows self.now log
+            → IfOk result (λ a. a ≡ answer_of (get_records log self.now.clock iter.now limit)) }
     {
         if iter_expired(iter, self.clock) {
             return Ok(Err(Refusal::Expired));
@@ -130,7 +133,8 @@ impl Stream {
     /// shards follow.
     pub fn shards(&self, after: Option<ShardNo>, limit: u32) -> Result<Answer, Memory>
         requires { IsLimit limit }
-        ensures { (log : Journal) → Shows self.now log → IfOk result (λ a. a ≡ answer_of (list_shards log self.now.clock self.now.no after limit)) }
+        ensures { (log : Journal) → Shows self.now log
+            → IfOk result (λ a. a ≡ answer_of (list_shards log self.now.clock self.now.no after limit)) }
     {
         let (shards, more) = self.tree.listed(self.cut, after, limit)?;
         let page = Page {
@@ -150,7 +154,8 @@ impl Stream {
     pub fn more(&self, page: &Page, limit: u32) -> Result<Answer, Memory>
         requires stream { page.now.stream ≡ self.now.no }
         requires limit { IsLimit limit }
-        ensures { (log : Journal) → Shows self.now log → IfOk result (λ a. a ≡ answer_of (more log self.now.clock page.now limit)) }
+        ensures { (log : Journal) → Shows self.now log
+            → IfOk result (λ a. a ≡ answer_of (more log self.now.clock page.now limit)) }
     {
         if page_expired(page, self.clock) {
             return Ok(Err(Refusal::PageExpired));
@@ -165,7 +170,8 @@ impl Stream {
     /// there is no such record.
     pub fn position(&self, shard: ShardNo, from: Origin) -> u64
         requires { is_listed_at (floor_of self.now.cut) (slice_get self.now.tree shard) ≡ true }
-        ensures { (log : Journal) → Shows self.now log → result ≡ origin_position log self.now.clock (ref self.now.no shard) from }
+        ensures { (log : Journal) → Shows self.now log
+            → result ≡ origin_position log self.now.clock (ref self.now.no shard) from }
     {
         let log = &self.logs[shard.0 as usize];
         origin_position(from, self.next, log, self.cut)
@@ -182,9 +188,11 @@ impl Stream {
         limit: u32,
     ) -> Result<(Items<Stored>, bool), Memory>
         requires { is_listed_at (floor_of self.now.cut) (slice_get self.now.tree shard) ≡ true }
-        ensures batch { (log : Journal) → Shows self.now log → IfOk result (λ r. r.0 ≡ map stored (batch log self.now.clock self.now.no shard position limit)) }
+        ensures batch { (log : Journal) → Shows self.now log
+            → IfOk result (λ r. r.0 ≡ map stored (batch log self.now.clock self.now.no shard position limit)) }
         ensures numbers { IfOk result (λ r. AllByRecursion (λ x. x.seq < 2 ^ 64 - 1) r.0) }
-        ensures end { (log : Journal) → Shows self.now log → IfOk result (λ r. r.1 ≡ read_ends log self.now.clock self.now.no shard position limit) }
+        ensures end { (log : Journal) → Shows self.now log
+            → IfOk result (λ r. r.1 ≡ read_ends log self.now.clock self.now.no shard position limit) }
     {
         let log = &self.logs[shard.0 as usize];
         let (batch, place) = batch_at(log, alloc, self.cut, position, limit)?;

@@ -28,8 +28,10 @@ impl Stream {
     /// fewer hours than at present, or a decrease to more hours.
     pub fn keep(&mut self, hours: u32, raise: bool) -> Answer
         requires { IsRetention hours }
-        ensures answered { Decides self.old self.new result (λ log by. keep log self.old.clock by self.old.no hours raise) }
-        ensures fields { (self.new.no ≡ self.old.no) × (self.new.name ≡ self.old.name) × (self.new.clock ≡ self.old.clock) × (self.new.turn ≡ self.old.turn) }
+        ensures answered { Decides self.old self.new result
+            (λ log by. keep log self.old.clock by self.old.no hours raise) }
+        ensures fields { (self.new.no ≡ self.old.no) × (self.new.name ≡ self.old.name)
+            × (self.new.clock ≡ self.old.clock) × (self.new.turn ≡ self.old.turn) }
         ensures refused { OnErr result (self.new ≡ self.old) }
         ensures changed { OnOk result (IsKeptAt hours self.old self.new) }
     {

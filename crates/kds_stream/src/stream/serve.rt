@@ -18,7 +18,8 @@ impl Stream {
         requires own { is_of_stream what ≡ true }
         requires token { (s : ℕ) → token_of what ≡ Some s → s ≡ self.old.no }
         ensures answered { IfOk result (λ a. Serves what room self.old self.new a) }
-        ensures fields { (self.new.no ≡ self.old.no) × (self.new.name ≡ self.old.name) × (self.new.clock ≡ self.old.clock) × (self.new.turn ≡ self.old.turn) }
+        ensures fields { (self.new.no ≡ self.old.no) × (self.new.name ≡ self.old.name)
+            × (self.new.clock ≡ self.old.clock) × (self.new.turn ≡ self.old.turn) }
         ensures kept { OnErr result (self.new ≡ self.old) }
     {
         // Each arm binds the name although no arm uses it, because the borrow checker doesn't track a field that a

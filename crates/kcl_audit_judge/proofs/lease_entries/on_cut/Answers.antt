@@ -7,4 +7,6 @@ pub returns : goal.returns
 returns c =
     let a = c.args in
     let s = (facing a.shards.now.clock (Shows a.shards.now)) in
-    λ log st. cut_entry (leases s a.table.now a.book.now.tenures) (leases s c.cut.new.table a.book.now.tenures) a.by c.cut.result c.by_answer.result c.by_answer.ensures log st a.key.now a.counter (c.cut.ensures a.by a.book.now.tenures)
+    λ log st. cut_entry (leases s a.table.now a.book.now.tenures) (leases s c.cut.new.table a.book.now.tenures)
+    a.by c.cut.result c.by_answer.result c.by_answer.ensures log st a.key.now a.counter
+    (c.cut.ensures a.by a.book.now.tenures)

@@ -7,4 +7,5 @@ pub returns : goal.returns
 returns c =
     let a = c.args in
     let s = (facing a.shards.now.clock (Shows a.shards.now)) in
-    λ log st. freed_entry (leases s a.table.now a.book.now.tenures) (leases s c.free.new.table a.book.now.tenures) a.by c.free.result c.by_answer.result c.by_answer.ensures log st a.tenure a.counter c.requires c.free.ensures
+    λ log st. freed_entry (leases s a.table.now a.book.now.tenures) (leases s c.free.new.table a.book.now.tenures)
+    a.by c.free.result c.by_answer.result c.by_answer.ensures log st a.tenure a.counter c.requires c.free.ensures

@@ -7,4 +7,5 @@ pub returns : goal.returns
 returns c =
     let a = c.args in
     let s = (facing a.shards.now.clock (Shows a.shards.now)) in
-    λ log st. given_entry (leases s a.table.now a.book.now.tenures) (leases s a.table.now c.give.new.book.tenures) a.by c.give.result c.by_answer.result c.by_answer.ensures log st a.tenure (c.give.ensures a.table.now)
+    λ log st. given_entry (leases s a.table.now a.book.now.tenures) (leases s a.table.now c.give.new.book.tenures)
+    a.by c.give.result c.by_answer.result c.by_answer.ensures log st a.tenure (c.give.ensures a.table.now)

@@ -7,4 +7,6 @@ pub returns : goal.returns
 returns c =
     let a = c.args in
     let s = (facing a.shards.now.clock (Shows a.shards.now)) in
-    λ log st. marked_entry (leases s a.table.now a.book.now.tenures) (leases s c.mark.new.table a.book.now.tenures) a.by c.mark.result c.by_answer.result c.by_answer.ensures log st a.tenure a.counter a.to c.requires c.mark.ensures
+    λ log st. marked_entry (leases s a.table.now a.book.now.tenures) (leases s c.mark.new.table a.book.now.tenures)
+    a.by c.mark.result c.by_answer.result c.by_answer.ensures log st a.tenure a.counter a.to c.requires
+    c.mark.ensures

@@ -13,8 +13,10 @@ pub returns-in-Err-clause-judged : goal.returns-in-Err-clause-judged
 returns-in-Err-clause-judged c =
     let a = c.args in
     let s = facing a.shards.now.clock (Shows a.shards.now) in
-    λ log st. read_refused_entry a.shards.now a.table.now a.book.now.tenures a.by a.no a.limit c.reach-position.result a.end a.numbers.now c.reach-position.ensures log st
-    c.in-Err.refusal (read_refused s a.table.now a.book.now.tenures a.by a.no c.reach-position.result a.limit c.in-Err.refusal (λ log st. c.in-Err.ensures.value log st.shows))
+    λ log st. read_refused_entry a.shards.now a.table.now a.book.now.tenures a.by a.no a.limit c.reach-position.result
+    a.end a.numbers.now c.reach-position.ensures log st
+    c.in-Err.refusal (read_refused s a.table.now a.book.now.tenures a.by a.no c.reach-position.result a.limit
+    c.in-Err.refusal (λ log st. c.in-Err.ensures.value log st.shows))
 
 pub returns-then-not-same_end-clause-judged : goal.returns-then-not-same_end-clause-judged
 returns-then-not-same_end-clause-judged c =
@@ -26,7 +28,8 @@ returns-then-not-same_end-clause-judged c =
     let ms = c.in_ok-batch.batch in
     let e = c.in_ok-batch.ends in
     let other : same_flag e a.end ≡ false = search rules in
-    λ log st. read_other w a.table.now a.book.now.tenures a.by a.no a.limit p a.end a.numbers.now c.reach-position.ensures log st
+    λ log st. read_other w a.table.now a.book.now.tenures a.by a.no a.limit p a.end a.numbers.now
+    c.reach-position.ensures log st
     y (c.in-Ok.ensures.value log st.shows) v (search rules) ms (search rules) e (search rules) (rw other refl)
 
 pub returns-then-not-same_numbers-clause-judged : goal.returns-then-not-same_numbers-clause-judged
@@ -40,7 +43,8 @@ returns-then-not-same_numbers-clause-judged c =
     let e = c.in_ok-batch.ends in
     let same : same_flag e a.end ≡ true = search rules in
     let other : same_list ms a.numbers.now ≡ false = search rules in
-    λ log st. read_other w a.table.now a.book.now.tenures a.by a.no a.limit p a.end a.numbers.now c.reach-position.ensures log st
+    λ log st. read_other w a.table.now a.book.now.tenures a.by a.no a.limit p a.end a.numbers.now
+    c.reach-position.ensures log st
     y (c.in-Ok.ensures.value log st.shows) v (search rules) ms (search rules) e (search rules) (rw (same, other) refl)
 
 pub returns-clause-judged : goal.returns-clause-judged
@@ -52,17 +56,21 @@ returns-clause-judged c =
     let p = c.reach-position.result in
     let ms = c.in_ok-batch.batch in
     let e = c.in_ok-batch.ends in
-    λ log st. read_entry w a.table.now a.book.now.tenures a.by a.no a.limit p a.end a.numbers.now c.reach-position.ensures log st
-    y (c.in-Ok.ensures.value log st.shows) v (search rules) ms (search rules) e (search rules) c.read-2.new.self.tenures c.place_after_numbers.result
+    λ log st. read_entry w a.table.now a.book.now.tenures a.by a.no a.limit p a.end a.numbers.now
+    c.reach-position.ensures log st
+    y (c.in-Ok.ensures.value log st.shows) v (search rules) ms (search rules) e (search rules) c.read-2.new.self.tenures
+    c.place_after_numbers.result
     (λ log line sh at none. shows_lease w log line sh at none) (search rules)
     (of_book (tenure_at a.book.now.tenures a.no) c.read-2.new.self a.book.now
-    (λ x. slice_set a.book.now.tenures (a.no - 1) (with_read c.place_after_numbers.result e x)) c.read-2.ensures) (search rules) (search rules)
+    (λ x. slice_set a.book.now.tenures (a.no - 1) (with_read c.place_after_numbers.result e x)) c.read-2.ensures)
+    (search rules) (search rules)
 
 pub read-requires-2-clause-room : goal.read-requires-2-clause-room
 read-requires-2-clause-room c =
     let a = c.args in
     let log = c.requires.stands.0 in
-    room_from (tenure_at a.book.now.tenures a.no) a.by log a.shards.now.clock c.reach-position.result c.in-Ok.tenure (c.in-Ok.ensures.value log c.requires.stands.1.shows)
+    room_from (tenure_at a.book.now.tenures a.no) a.by log a.shards.now.clock c.reach-position.result c.in-Ok.tenure
+    (c.in-Ok.ensures.value log c.requires.stands.1.shows)
 
 pub read-requires-2-clause-onward : goal.read-requires-2-clause-onward
 read-requires-2-clause-onward c =
@@ -76,7 +84,9 @@ read-requires-2-clause-onward c =
     let at : c.place_after_numbers.result ≡ place_after p ms = search rules in
     let log = c.requires.stands.0 in
     let st = c.requires.stands.1 in
-    let ns = numbers_are w a.table.now a.book.now.tenures a.by a.no a.limit p a.end a.numbers.now c.reach-position.ensures log st
+    let ns = numbers_are w a.table.now a.book.now.tenures a.by a.no a.limit p a.end a.numbers.now
+    c.reach-position.ensures log st
     y (c.in-Ok.ensures.value log st.shows) v (search rules) ms (search rules) e (search rules) in
-    reads_from (tenure_at a.book.now.tenures a.no) a.by log w.clock p c.place_after_numbers.result y (c.in-Ok.ensures.value log st.shows)
+    reads_from (tenure_at a.book.now.tenures a.no) a.by log w.clock p c.place_after_numbers.result y
+    (c.in-Ok.ensures.value log st.shows)
     (subst (λ n. p ≤ n) (sym (at ∙ ap (place_after p) ns)) (goes_onward log w.clock y.key.stream y.key.shard p a.limit))

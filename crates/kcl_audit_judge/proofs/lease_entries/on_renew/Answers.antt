@@ -7,4 +7,5 @@ pub returns : goal.returns
 returns c =
     let a = c.args in
     let s = (facing a.shards.now.clock (Shows a.shards.now)) in
-    λ log st. renewed_entry (leases s a.table.now a.book.now.tenures) (leases s c.renew.new.table a.book.now.tenures) a.by c.renew.result c.by_answer.result c.by_answer.ensures log st a.tenure a.counter c.requires c.renew.ensures
+    λ log st. renewed_entry (leases s a.table.now a.book.now.tenures) (leases s c.renew.new.table a.book.now.tenures)
+    a.by c.renew.result c.by_answer.result c.by_answer.ensures log st a.tenure a.counter c.requires c.renew.ensures

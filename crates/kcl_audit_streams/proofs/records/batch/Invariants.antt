@@ -7,5 +7,6 @@ use Rattle.kcl_audit_streams.proofs.records.batch.Given as goal
 -- the numbers so far, and those of the beginning of what is left
 abbrev pub invariant-loop-item : goal.invariant-loop-item
 invariant-loop-item l =
-    l.numbers ++ numbers_of (beginning l.left l.room (left_among l.floor l.position (records_in (drop l.item-index l.records) l.shard)))
+    l.numbers ++ numbers_of
+    (beginning l.left l.room (left_among l.floor l.position (records_in (drop l.item-index l.records) l.shard)))
     ≡ numbers_of (beginning l.limit BATCH_BYTES (left_among l.floor l.position (records_in l.records l.shard)))

@@ -6,4 +6,5 @@ use Rattle.kcl_audit_streams.proofs.records.first_since.Given as goal
 -- none so far was it
 abbrev pub invariant-loop-item : goal.invariant-loop-item
 invariant-loop-item l =
-    first_at (left_among l.floor 0 (records_in (drop l.item-index l.records) l.shard)) l.moment l.otherwise ≡ first_at (left_among l.floor 0 (records_in l.records l.shard)) l.moment l.otherwise
+    first_at (left_among l.floor 0 (records_in (drop l.item-index l.records) l.shard)) l.moment l.otherwise
+    ≡ first_at (left_among l.floor 0 (records_in l.records l.shard)) l.moment l.otherwise

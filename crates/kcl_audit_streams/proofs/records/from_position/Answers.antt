@@ -8,5 +8,6 @@ pub returns : goal.returns
 returns c = λ shard floor.
     let xs = c.args.records.now in
     let parted = IsPartitionedBy-ltb (λ r. r.seq) xs c.args.position c.requires in
-    let point = IsPartitionPoint-from_clause (λ r. nat_lt r.seq c.args.position) xs c.partition_point-start.result c.partition_point-start.ensures.partitioned parted (λ a r f' k. search rules) in
+    let point = IsPartitionPoint-from_clause (λ r. nat_lt r.seq c.args.position) xs c.partition_point-start.result
+    c.partition_point-start.ensures.partitioned parted (λ a r f' k. search rules) in
     left_from shard floor c.args.position xs c.partition_point-start.result point

@@ -5,4 +5,6 @@ use Rattle.kcl_audit_streams.proofs.streams.lacks_room.Given as goal
 
 -- the open shards so far, and those ahead
 abbrev pub invariant-loop-no : goal.invariant-loop-no
-invariant-loop-no l = (l.open + open_among l.streams (drop l.no-index l.numbers) ≡ open_among l.streams l.numbers + l.more) × (l.open ≤ OPEN_SHARDS)
+invariant-loop-no l =
+    (l.open + open_among l.streams (drop l.no-index l.numbers) ≡ open_among l.streams l.numbers + l.more)
+    × (l.open ≤ OPEN_SHARDS)

@@ -6,5 +6,6 @@ pub returns : goal.returns
 returns c =
     record {
       live = λ h number records is. live_alone c.step.ensures.history h number records is.lawful is.below is.asks;
-      text = λ h number records is drained. text_alone c.step.ensures.history h number records is.lawful is.below is.asks drained;
+      text = λ h number records is drained.
+          text_alone c.step.ensures.history h number records is.lawful is.below is.asks drained;
     }

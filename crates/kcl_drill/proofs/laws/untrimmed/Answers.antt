@@ -6,4 +6,5 @@ use Rattle.kcl_drill.proofs.laws.untrimmed.Goals as goal
 pub returns : goal.returns
 returns c h at s lawful later below =
     let reached = c.step.ensures.history h lawful in
-    untrimmed (journal h) at s (young_if_legal (journal h) reached.legal (omega (arith, reached.order, later, below))) below
+    untrimmed (journal h) at s (young_if_legal (journal h) reached.legal (omega (arith, reached.order, later, below)))
+    below

@@ -4,5 +4,6 @@ use Rattle.kcl_drill_drain.proofs.asking.ask.Goals as goal
 
 pub returns-clause-leased : goal.returns-clause-leased
 returns-clause-leased g c = λ h has.
-    leased_on (g.M.Machine.stands_for c.args.machine.now) (g.M.Machine.stands_for c.apply.new.self) c.args.by c.args.at h c.args.what c.apply.result c.requires.leases (c.ms-ms.ensures.range, c.requires.lawful) has
+    leased_on (g.M.Machine.stands_for c.args.machine.now) (g.M.Machine.stands_for c.apply.new.self) c.args.by c.args.at
+    h c.args.what c.apply.result c.requires.leases (c.ms-ms.ensures.range, c.requires.lawful) has
     (c.apply.ensures.answered (has.more ++ h) has.stands_now) (c.apply.ensures.kept (has.more ++ h) has.stands_now)

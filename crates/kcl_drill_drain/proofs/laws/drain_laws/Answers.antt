@@ -7,7 +7,8 @@ use Rattle.kds_defs.specs.Histories.{clock, journal}
 use Rattle.kcl_drill_drain.proofs.LawLemmas.{ended_closed, live_numbers, starts}
 use Rattle.kcl_drill_drain.proofs.laws.drain_laws.Goals as goal
 
-few_of : (log : Journal) (key : ShardRef) (r : Row) (n : ℕ) → row log key ≡ Some r → counter_in (row log key) ≤ n → r.counter ≤ n
+few_of : (log : Journal) (key : ShardRef) (r : Row) (n : ℕ) → row log key ≡ Some r → counter_in (row log key) ≤ n
+    → r.counter ≤ n
 few_of log key r n there le = let P : Option Row → Type 0 = λ o. counter_in o ≤ n in subst P there le
 
 pub returns : goal.returns
@@ -21,7 +22,8 @@ returns c = λ h at can.
       sized = c.shard_records.ensures.sizes h can.lawful;
       fresh = λ key r there. record {
         few = few_of log key r (length h) there ((c.lease_counts.ensures h).counters key);
-        start = starts log key r.floor r.checkpoint (c.checkpoints.ensures.floor h can.lawful key r (there, can.horizon key r there))
+        start = starts log key r.floor r.checkpoint
+            (c.checkpoints.ensures.floor h can.lawful key r (there, can.horizon key r there))
             (λ q is. c.checkpoints.ensures.reached h can.lawful key r q (there, can.horizon key r there) is)
             (ended_closed log reached.legal (clock h) reached.order key r there);
       };

@@ -4,15 +4,19 @@ use Rattle.kcl_drill_drain.proofs.reading.finish_or_continue.Goals as goal
 
 pub returns-in_ok-mark-clause-ok : goal.returns-in_ok-mark-clause-ok
 returns-in_ok-mark-clause-ok g c = λ w x spot ready same ended is l.
-    ends w c.args.at spot (c.drain_laws.ensures w.history c.args.at spot.can) (g.M.Machine.stands_for c.args.machine.now) (g.M.Machine.stands_for c.mark.new.machine) c.args.by _ c.args.held x
+    ends w c.args.at spot (c.drain_laws.ensures w.history c.args.at spot.can)
+    (g.M.Machine.stands_for c.args.machine.now) (g.M.Machine.stands_for c.mark.new.machine) c.args.by _ c.args.held
+    x
     c.in_ok-mark.ensures.ok ready (ended ∙ c.if-ended.true) is l
 
 pub returns-then-held-place-clause-ok : goal.returns-then-held-place-clause-ok
 returns-then-held-place-clause-ok g c = λ w x spot ready same ended is l.
     let above : x.place < c.args.held.place = omega (arith, same, c.if-held-place.true) in
-    goes_on w c.args.at spot (c.drain_laws.ensures w.history c.args.at spot.can) (g.M.Machine.stands_for c.args.machine.now) c.args.by c.args.held x ready above is l
+    goes_on w c.args.at spot (c.drain_laws.ensures w.history c.args.at spot.can)
+    (g.M.Machine.stands_for c.args.machine.now) c.args.by c.args.held x ready above is l
 
 pub returns-else-held-place-clause-ok : goal.returns-else-held-place-clause-ok
 returns-else-held-place-clause-ok g c = λ w x spot ready same ended is l.
     let le : c.args.held.place ≤ x.place = omega (arith, same, c.if-held-place.false) in
-    stops w c.args.at spot (c.drain_laws.ensures w.history c.args.at spot.can) (g.M.Machine.stands_for c.args.machine.now) c.args.by c.args.held x ready le (ended ∙ c.if-ended.false) is l
+    stops w c.args.at spot (c.drain_laws.ensures w.history c.args.at spot.can)
+    (g.M.Machine.stands_for c.args.machine.now) c.args.by c.args.held x ready le (ended ∙ c.if-ended.false) is l

@@ -11,7 +11,8 @@ no_fetch a h = cc
 pub returns-in-Some-clause-ok : goal.returns-in-Some-clause-ok
 returns-in-Some-clause-ok g c = λ w spot reads.
     let f = c.in_ok-answer.ensures.ok w reads.now spot reads.ready reads.is reads.leads in
-    c.deliver.ensures.ok w reads.now spot reads.ready reads.is (same_fetch _ _ (sym c.in-Some.is ∙ c.in_ok-fetch.ensures _ _ _ f.0)) f.1
+    c.deliver.ensures.ok w reads.now spot reads.ready reads.is
+    (same_fetch _ _ (sym c.in-Some.is ∙ c.in_ok-fetch.ensures _ _ _ f.0)) f.1
 
 pub returns-clause-ok : goal.returns-clause-ok
 returns-clause-ok g c = λ w spot reads.

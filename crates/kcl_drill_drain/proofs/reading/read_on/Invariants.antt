@@ -7,8 +7,10 @@ use Rattle.kcl_drill_drain.proofs.reading.read_on.Given as goal
 -- the machine has answered turns on leases, and its tenure reads on
 abbrev pub invariant-loop-next : goal.invariant-loop-next
 invariant-loop-next g l =
-    ((h : List Asked) → HasLeased (g.M.Machine.stands_for l.fn.machine) l.by l.at h → HasLeased (g.M.Machine.stands_for l.machine) l.by l.at h)
-    × ((w : Spot) → IsSpot w l.at → ReadsOn (g.M.Machine.stands_for l.fn.machine) w l.by l.at l.fn.from → ReadsOn (g.M.Machine.stands_for l.machine) w l.by l.at l.held)
+    ((h : List Asked) → HasLeased (g.M.Machine.stands_for l.fn.machine) l.by l.at h
+    → HasLeased (g.M.Machine.stands_for l.machine) l.by l.at h)
+    × ((w : Spot) → IsSpot w l.at → ReadsOn (g.M.Machine.stands_for l.fn.machine) w l.by l.at l.fn.from
+    → ReadsOn (g.M.Machine.stands_for l.machine) w l.by l.at l.held)
 
 abbrev pub decreases-loop-next : goal.decreases-loop-next
 decreases-loop-next g l = 2 ^ 64 - l.held.place

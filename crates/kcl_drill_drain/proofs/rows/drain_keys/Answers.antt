@@ -9,5 +9,7 @@ loop-key-preserved g c = (
       let i = c.loop-key.key-index in
       let key = c.key-item.result in
       let few : length c.args.keys.now * 16 < 2 ^ 63 = omega arith in
-      c.in_ok-drain_row.ensures.ok (spot_of h c.args.keys.now c.args.among.now i key) (is_spot h c.args.at c.args.keys.now c.args.among.now i key can keys c.loop-key-test.true c.key-item.is few) refl (sym c.row_among.ensures) (c.loop-key.invariant.1 h can keys l),
+      c.in_ok-drain_row.ensures.ok (spot_of h c.args.keys.now c.args.among.now i key)
+      (is_spot h c.args.at c.args.keys.now c.args.among.now i key can keys c.loop-key-test.true c.key-item.is few)
+      refl (sym c.row_among.ensures) (c.loop-key.invariant.1 h can keys l),
 )

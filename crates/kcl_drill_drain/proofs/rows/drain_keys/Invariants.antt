@@ -8,6 +8,8 @@ use Rattle.kcl_drill_drain.proofs.rows.drain_keys.Given as goal
 -- the machine has answered turns on leases, and the rows of the first keys are drained
 abbrev pub invariant-loop-key : goal.invariant-loop-key
 invariant-loop-key g l =
-    ((h : List Asked) → HasLeased (g.M.Machine.stands_for l.fn.machine) l.by l.at h → HasLeased (g.M.Machine.stands_for l.machine) l.by l.at h)
-    × ((h : List Asked) → CanDrain h l.at → l.keys ≡ listed_keys h l.at → Leads (g.M.Machine.stands_for l.fn.machine) l.by l.at h (AreDrainedTo h l.keys l.among 0)
+    ((h : List Asked) → HasLeased (g.M.Machine.stands_for l.fn.machine) l.by l.at h
+    → HasLeased (g.M.Machine.stands_for l.machine) l.by l.at h)
+    × ((h : List Asked) → CanDrain h l.at → l.keys ≡ listed_keys h l.at
+    → Leads (g.M.Machine.stands_for l.fn.machine) l.by l.at h (AreDrainedTo h l.keys l.among 0)
     → Leads (g.M.Machine.stands_for l.machine) l.by l.at h (AreDrainedTo h l.keys l.among l.key-index))

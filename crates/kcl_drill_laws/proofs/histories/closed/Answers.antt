@@ -9,7 +9,8 @@ returns c =
       drill = λ number records root feeder members h is. record {
         lawful = is.history;
         below = is_below number records root feeder members h is;
-        asks = c.one_order.ensures number records root.by feeder.by h is.apart (is_fed number records root feeder members h is);
+        asks = c.one_order.ensures number records root.by feeder.by h is.apart
+            (is_fed number records root feeder members h is);
       };
       horizon = λ number records root feeder members h is. from_horizon c.rows.ensures.removed c.rows.ensures.made h
           (are_drill_turns number records root feeder members h is);

@@ -10,5 +10,6 @@ returns c h number count is =
       lawful = is.lawful;
       stream = 1;
       named = c.one_text.ensures.live h number count is;
-      whole = λ sh. none_below _ (records (journal h) 1 sh) (c.untrimmed.ensures h (clock h) 1 is.lawful (omega arith) is.below);
+      whole = λ sh. none_below _ (records (journal h) 1 sh)
+          (c.untrimmed.ensures h (clock h) 1 is.lawful (omega arith) is.below);
     }

@@ -17,7 +17,8 @@ returns-clause-drilled c = λ number records ran.
     let laws : HasLaws = record { drill = c.closed.ensures.drill; horizon = c.closed.ensures.horizon } in
     let end = c.close-world.ensures in
     has_drilled c.args.hall number records c.args.participants ran c.join_all-root.result c.join_all-root.ensures.taken
-    c.close-world.result.1 end.history end.seen end.all end.own laws c.stopped.ensures c.close-world.result.0 end.machine
+    c.close-world.result.1 end.history end.seen end.all end.own laws c.stopped.ensures c.close-world.result.0
+    end.machine
 
 pub returns-clause-short : goal.returns-clause-short
 returns-clause-short c =

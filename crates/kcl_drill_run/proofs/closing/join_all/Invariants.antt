@@ -17,10 +17,12 @@ invariant-loop-member l =
       hall : l.root.hall ≡ l.hall.id;
       by : l.root.by ≡ p.root.by;
       own : l.root.own ≡ p.root.own;
-      joined : l.root.joined ++ flat_map accounts_in left ≡ p.root.joined ++ (accounts_of p.feeder ++ flat_map accounts_in p.members.items);
+      joined : l.root.joined ++ flat_map accounts_in left ≡ p.root.joined
+          ++ (accounts_of p.feeder ++ flat_map accounts_in p.members.items);
       seen_root : Continues l.root.seen p.root.seen;
       seen : Continues l.root.seen p.feeder.seen;
-      seen_members : (s : List Turn) → Continues s l.root.seen → AllByRecursion (λ m. Continues s m.pass.seen) left → AllByRecursion (λ m. Continues s m.pass.seen) p.members.items;
+      seen_members : (s : List Turn) → Continues s l.root.seen → AllByRecursion (λ m. Continues s m.pass.seen) left
+          → AllByRecursion (λ m. Continues s m.pass.seen) p.members.items;
       len : into_iter_len l.member-iterator ≡ length left;
       halls : All (λ m. m.pass.hall ≡ l.hall.id) left;
     }

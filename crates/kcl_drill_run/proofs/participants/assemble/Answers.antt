@@ -10,8 +10,10 @@ members_of-requires c =
 
 pub returns : goal.returns
 returns c =
-    let made : Participants = record { root = c.remove-root.result; feeder = c.remove-feeder.result; members = c.in_ok-members.members } in
-    dealt c.in-Ok.hall c.args.workers c.in-Ok.passes.items c.remove-root.new.self.items c.remove-feeder.new.self.items c.in-Ok.ensures.ok.1
+    let made : Participants =
+    record { root = c.remove-root.result; feeder = c.remove-feeder.result; members = c.in_ok-members.members } in
+    dealt c.in-Ok.hall c.args.workers c.in-Ok.passes.items c.remove-root.new.self.items c.remove-feeder.new.self.items
+    c.in-Ok.ensures.ok.1
     made.root (record { value = c.remove-root.ensures.value; left_are = c.remove-root.ensures.items })
     made.feeder (record { value = c.remove-feeder.ensures.value; left_are = c.remove-feeder.ensures.items })
     made refl refl c.in_ok-members.ensures c.in-Ok.ensures.ok.0 c.requires

@@ -19,7 +19,8 @@ loop-pass-preserved c =
       so_far = (
         used ++ pass ∷ [],
         subst (AreMembersOf 1 (used ++ pass ∷ [])) (sym items)
-            (one_more 1 used made pass c.member.result inv.so_far.1 (subst (λ n. IsMemberOf n pass c.member.result) name c.member.ensures)),
+            (one_more 1 used made pass c.member.result inv.so_far.1
+            (subst (λ n. IsMemberOf n pass c.member.result) name c.member.ensures)),
         inv.so_far.2 ∙ ap (λ xs. used ++ xs) step ∙ sym (append_assoc used (pass ∷ []) rest),
       );
       named = omega (arith, longer, inv.named);

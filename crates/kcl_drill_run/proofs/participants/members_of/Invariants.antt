@@ -7,7 +7,8 @@ use Rattle.kcl_drill_run.proofs.participants.members_of.Given as goal
 -- a worker for each pass so far, and the passes that are left
 abbrev pub invariant-loop-pass : goal.invariant-loop-pass
 invariant-loop-pass l = record {
-  so_far : (used : List Standing) × AreMembersOf 1 used l.made.items × (l.fn.passes.items ≡ used ++ into_iter_items l.pass-iterator);
+  so_far : (used : List Standing) × AreMembersOf 1 used l.made.items
+      × (l.fn.passes.items ≡ used ++ into_iter_items l.pass-iterator);
   named : l.name ≡ length l.made.items;
   few : l.name + length (into_iter_items l.pass-iterator) ≤ 64;
 }

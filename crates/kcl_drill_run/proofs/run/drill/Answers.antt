@@ -9,4 +9,6 @@ pub unreachable-requires : goal.unreachable-requires
 unreachable-requires g c =
     let p = c.run_threads-ran.new.participants in
     let spent : c.in-Err-Spent.field-0 ≡ failed.Spent = search rules in
-    not_full p c.close-world.ensures.short (subst (λ r. IfErr r (λ e. e ≡ failed.Spent → AreFull p)) c.in-Err-Spent.is c.run_threads-ran.ensures.full spent)
+    not_full p c.close-world.ensures.short
+    (subst (λ r. IfErr r (λ e. e ≡ failed.Spent → AreFull p)) c.in-Err-Spent.is c.run_threads-ran.ensures.full
+    spent)

@@ -18,16 +18,25 @@ pub crowd-requires-clause-ready : goal.crowd-requires-clause-ready
 crowd-requires-clause-ready g c κs within =
     let hall = c.args.hall.now in
     let members = c.args.participants.now.members.items in
-    subst (All (IsReady StandsFor hall)) (sym c.as_mut_slice.ensures.value) (all_ready hall 1 3 (length members) members c.requires.dealt.members)
+    subst (All (IsReady StandsFor hall)) (sym c.as_mut_slice.ensures.value)
+    (all_ready hall 1 3 (length members) members c.requires.dealt.members)
 
 pub returns-in-Err-clause-stopped : goal.returns-in-Err-clause-stopped
 returns-in-Err-clause-stopped g c =
     let before = c.args.participants.now in
-    let after : Participants = record { root = c.crowd.new.root; feeder = c.crowd.new.feeder; members = with_items before.members c.crowd.new.members } in
+    let after : Participants =
+    record {
+      root = c.crowd.new.root;
+      feeder = c.crowd.new.feeder;
+      members = with_items before.members c.crowd.new.members;
+    } in
     let items : c.as_mut_slice.result.now ≡ before.members.items = c.as_mut_slice.ensures.value in
-    let now : after.members.items ≡ c.crowd.new.members = with_items_is before.members c.crowd.new.members (omega (arith, c.crowd.auto.members, c.as_mut_slice.ensures.len)) in
+    let now : after.members.items ≡ c.crowd.new.members =
+    with_items_is before.members c.crowd.new.members
+    (omega (arith, c.crowd.auto.members, c.as_mut_slice.ensures.len)) in
     let ended = subst (λ ms. HaveEndedOrNot StandsFor (200 + c.args.records / 100) before.members.items ms) (sym now)
-    (subst (λ ms. HaveEndedOrNot StandsFor (200 + c.args.records / 100) ms c.crowd.new.members) items c.in-Err.ensures.members_or_not) in
+    (subst (λ ms. HaveEndedOrNot StandsFor (200 + c.args.records / 100) ms c.crowd.new.members)
+    items c.in-Err.ensures.members_or_not) in
     let same : length after.members.items ≡ length before.members.items = search rules in
     have_stopped c.args.hall.now c.args.number c.args.records before after c.requires.dealt c.requires.few
     c.in-Err.ensures.kept.0 c.in-Err.ensures.kept.1 same c.in-Err.ensures.fed_so_far ended
@@ -38,17 +47,30 @@ returns-in-Err-clause-err g c = inl c.in-Err.ensures.err
 pub returns-in-Err-clause-full : goal.returns-in-Err-clause-full
 returns-in-Err-clause-full g c =
     let before = c.args.participants.now in
-    let after : Participants = record { root = c.crowd.new.root; feeder = c.crowd.new.feeder; members = with_items before.members c.crowd.new.members } in
+    let after : Participants =
+    record {
+      root = c.crowd.new.root;
+      feeder = c.crowd.new.feeder;
+      members = with_items before.members c.crowd.new.members;
+    } in
     crowd_full before.root after c.in-Err.error c.in-Err.ensures.err
 
 pub returns-in-Ok-clause-stopped : goal.returns-in-Ok-clause-stopped
 returns-in-Ok-clause-stopped g c =
     let before = c.args.participants.now in
-    let after : Participants = record { root = c.crowd.new.root; feeder = c.crowd.new.feeder; members = with_items before.members c.crowd.new.members } in
+    let after : Participants =
+    record {
+      root = c.crowd.new.root;
+      feeder = c.crowd.new.feeder;
+      members = with_items before.members c.crowd.new.members;
+    } in
     let items : c.as_mut_slice.result.now ≡ before.members.items = c.as_mut_slice.ensures.value in
-    let now : after.members.items ≡ c.crowd.new.members = with_items_is before.members c.crowd.new.members (omega (arith, c.crowd.auto.members, c.as_mut_slice.ensures.len)) in
+    let now : after.members.items ≡ c.crowd.new.members =
+    with_items_is before.members c.crowd.new.members
+    (omega (arith, c.crowd.auto.members, c.as_mut_slice.ensures.len)) in
     let ended = subst (λ ms. HaveEnded StandsFor (200 + c.args.records / 100) before.members.items ms) (sym now)
-    (subst (λ ms. HaveEnded StandsFor (200 + c.args.records / 100) ms c.crowd.new.members) items c.in-Ok.ensures.members) in
+    (subst (λ ms. HaveEnded StandsFor (200 + c.args.records / 100) ms c.crowd.new.members)
+    items c.in-Ok.ensures.members) in
     let same : length after.members.items ≡ length before.members.items = search rules in
     have_stopped_all c.args.hall.now c.args.number c.args.records before after c.requires.dealt c.requires.few
     c.in-Ok.ensures.kept.0 c.in-Ok.ensures.kept.1 same c.in-Ok.ensures.fed ended
@@ -56,35 +78,61 @@ returns-in-Ok-clause-stopped g c =
 pub returns-in-Ok-clause-ran : goal.returns-in-Ok-clause-ran
 returns-in-Ok-clause-ran g c =
     let before = c.args.participants.now in
-    let after : Participants = record { root = c.crowd.new.root; feeder = c.crowd.new.feeder; members = with_items before.members c.crowd.new.members } in
+    let after : Participants =
+    record {
+      root = c.crowd.new.root;
+      feeder = c.crowd.new.feeder;
+      members = with_items before.members c.crowd.new.members;
+    } in
     let items : c.as_mut_slice.result.now ≡ before.members.items = c.as_mut_slice.ensures.value in
-    let now : after.members.items ≡ c.crowd.new.members = with_items_is before.members c.crowd.new.members (omega (arith, c.crowd.auto.members, c.as_mut_slice.ensures.len)) in
+    let now : after.members.items ≡ c.crowd.new.members =
+    with_items_is before.members c.crowd.new.members
+    (omega (arith, c.crowd.auto.members, c.as_mut_slice.ensures.len)) in
     let ended = subst (λ ms. HaveEnded StandsFor (200 + c.args.records / 100) before.members.items ms) (sym now)
-    (subst (λ ms. HaveEnded StandsFor (200 + c.args.records / 100) ms c.crowd.new.members) items c.in-Ok.ensures.members) in
+    (subst (λ ms. HaveEnded StandsFor (200 + c.args.records / 100) ms c.crowd.new.members)
+    items c.in-Ok.ensures.members) in
     let same : length after.members.items ≡ length before.members.items = search rules in
     let slice : c.as_slice.result.now ≡ after.members.items = c.as_slice.ensures.value in
-    then_ok c.first_error.result (AllEnded c.as_slice.result.now) (HaveRun c.args.hall.now c.args.number c.args.records after)
+    then_ok c.first_error.result (AllEnded c.as_slice.result.now)
+    (HaveRun c.args.hall.now c.args.number c.args.records after)
     (λ ran. have_run c.args.hall.now c.args.number c.args.records before after c.requires.dealt c.requires.few
-    c.in-Ok.ensures.kept.0 c.in-Ok.ensures.kept.1 same c.in-Ok.ensures.fed ended c.horizon.ensures (subst AllEnded slice ran))
+    c.in-Ok.ensures.kept.0 c.in-Ok.ensures.kept.1 same c.in-Ok.ensures.fed ended c.horizon.ensures
+    (subst AllEnded slice ran))
     c.first_error.ensures.ok
 
 pub returns-in-Ok-clause-err : goal.returns-in-Ok-clause-err
 returns-in-Ok-clause-err g c =
     let before = c.args.participants.now in
-    let after : Participants = record { root = c.crowd.new.root; feeder = c.crowd.new.feeder; members = with_items before.members c.crowd.new.members } in
+    let after : Participants =
+    record {
+      root = c.crowd.new.root;
+      feeder = c.crowd.new.feeder;
+      members = with_items before.members c.crowd.new.members;
+    } in
     let slice : c.as_slice.result.now ≡ after.members.items = c.as_slice.ensures.value in
-    then_err c.first_error.result (λ e. SomeFailed e c.as_slice.result.now) (HaveFailed before after) (λ e some. inr (subst (SomeFailed e) slice some)) c.first_error.ensures.err
+    then_err c.first_error.result (λ e. SomeFailed e c.as_slice.result.now) (HaveFailed before after)
+    (λ e some. inr (subst (SomeFailed e) slice some)) c.first_error.ensures.err
 
 pub returns-in-Ok-clause-full : goal.returns-in-Ok-clause-full
 returns-in-Ok-clause-full g c =
     let before = c.args.participants.now in
-    let after : Participants = record { root = c.crowd.new.root; feeder = c.crowd.new.feeder; members = with_items before.members c.crowd.new.members } in
+    let after : Participants =
+    record {
+      root = c.crowd.new.root;
+      feeder = c.crowd.new.feeder;
+      members = with_items before.members c.crowd.new.members;
+    } in
     let items : c.as_mut_slice.result.now ≡ before.members.items = c.as_mut_slice.ensures.value in
-    let now : after.members.items ≡ c.crowd.new.members = with_items_is before.members c.crowd.new.members (omega (arith, c.crowd.auto.members, c.as_mut_slice.ensures.len)) in
+    let now : after.members.items ≡ c.crowd.new.members =
+    with_items_is before.members c.crowd.new.members
+    (omega (arith, c.crowd.auto.members, c.as_mut_slice.ensures.len)) in
     let ended = subst (λ ms. HaveEnded StandsFor (200 + c.args.records / 100) before.members.items ms) (sym now)
-    (subst (λ ms. HaveEnded StandsFor (200 + c.args.records / 100) ms c.crowd.new.members) items c.in-Ok.ensures.members) in
+    (subst (λ ms. HaveEnded StandsFor (200 + c.args.records / 100) ms c.crowd.new.members)
+    items c.in-Ok.ensures.members) in
     let same : length after.members.items ≡ length before.members.items = search rules in
     let slice : c.as_slice.result.now ≡ after.members.items = c.as_slice.ensures.value in
     then_err c.first_error.result (λ e. SomeFailed e c.as_slice.result.now) (λ e. e ≡ failed.Spent → AreFull after)
-    (λ e some is. inr (inr (members_full StandsFor (200 + c.args.records / 100) e before.members.items after.members.items is same ended (subst (SomeFailed e) slice some))))
+    (λ e some is. inr (inr
+    (members_full StandsFor (200 + c.args.records / 100) e before.members.items after.members.items is same
+    ended (subst (SomeFailed e) slice some))))
     c.first_error.ensures.err

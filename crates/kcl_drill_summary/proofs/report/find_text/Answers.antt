@@ -15,5 +15,12 @@ returns-clause-text g c = λ h has can.
       sized = c.shard_records.ensures.sizes h can.lawful;
     } in
     told_text log at can.stream c.as_slice.result.now c.text_of.result facts can.named
-    (c.as_slice.ensures.value ∙ c.in_ok-sums.ensures.ok h can.stream _ _ (c.in_ok-answer.ensures.ok h has) (record { read = c.ask.ensures.read h has; rows = refl; named = can.named; countable = countable log facts at can.stream can.whole }))
+    (c.as_slice.ensures.value
+    ∙ c.in_ok-sums.ensures.ok h can.stream _ _ (c.in_ok-answer.ensures.ok h has)
+    (record {
+      read = c.ask.ensures.read h has;
+      rows = refl;
+      named = can.named;
+      countable = countable log facts at can.stream can.whole;
+    }))
     c.text_of.ensures

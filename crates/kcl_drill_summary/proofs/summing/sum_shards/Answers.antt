@@ -12,9 +12,13 @@ loop-key-preserved g c = (
   λ h s can.
       let log = journal h in
       let key = c.key-item.result in
-      let one = all_at (λ (key : ShardRef). (key.stream == s) ≡ true → CanCount (journal h) (max (clock h) c.args.at) s key.shard) c.args.keys.now c.loop-key.key-index key c.loop-key-test.true c.key-item.is can.countable in
+      let one = all_at (λ (key : ShardRef). (key.stream == s) ≡ true
+      → CanCount (journal h) (max (clock h) c.args.at) s key.shard) c.args.keys.now c.loop-key.key-index key
+      c.loop-key-test.true c.key-item.is can.countable in
       let counts = c.in_ok-found.ensures.ok h s (c.loop-key.invariant.0 h can.read) can.named one in
-      told_more log s c.loop-key.sums.items _ c.args.keys.now c.loop-key.key-index key c.in_ok-found.found c.checkpoint_among.result c.loop-key-test.true c.key-item.is
-      (told_is log s key c.args.among.now c.in_ok-found.found c.checkpoint_among.result can.rows counts c.checkpoint_among.ensures)
+      told_more log s c.loop-key.sums.items _ c.args.keys.now c.loop-key.key-index key c.in_ok-found.found
+      c.checkpoint_among.result c.loop-key-test.true c.key-item.is
+      (told_is log s key c.args.among.now c.in_ok-found.found c.checkpoint_among.result can.rows counts
+      c.checkpoint_among.ensures)
       c.in_ok-add_sum.ensures (c.loop-key.invariant.1 h s can),
 )

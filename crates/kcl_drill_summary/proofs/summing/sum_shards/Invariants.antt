@@ -9,6 +9,8 @@ use Rattle.kcl_drill_summary.proofs.summing.sum_shards.Given as goal
 -- the machine has only read, and what is told so far and what is to be told of the rest are all
 abbrev pub invariant-loop-key : goal.invariant-loop-key
 invariant-loop-key g l =
-    ((h : List Asked) → HasRead (g.M.Machine.stands_for l.fn.machine) l.by l.at h → HasRead (g.M.Machine.stands_for l.machine) l.by l.at h)
+    ((h : List Asked) → HasRead (g.M.Machine.stands_for l.fn.machine) l.by l.at h
+    → HasRead (g.M.Machine.stands_for l.machine) l.by l.at h)
     × ((h : List Asked) (s : ℕ) → CanTell (g.M.Machine.stands_for l.fn.machine) l.by l.at h s l.keys l.among
-    → IsTold (journal h) s l.keys (l.sums.items ++ map (summed_key (journal h)) (of_stream s (drop l.key-index l.keys))))
+    → IsTold (journal h) s l.keys
+    (l.sums.items ++ map (summed_key (journal h)) (of_stream s (drop l.key-index l.keys))))

@@ -4,4 +4,5 @@ use Rattle.kcl_drill_summary.proofs.text.bytes_of.Given as goal
 
 -- those so far and those of the rest are all
 abbrev pub invariant-loop-x : goal.invariant-loop-x
-invariant-loop-x l = sum_of (λ (x : Summed). x.bytes) l.sums < 2 ^ 128 → l.all + sum_of (λ (x : Summed). x.bytes) (drop l.x-index l.sums) ≡ sum_of (λ (x : Summed). x.bytes) l.sums
+invariant-loop-x l = sum_of (λ (x : Summed). x.bytes) l.sums < 2 ^ 128
+    → l.all + sum_of (λ (x : Summed). x.bytes) (drop l.x-index l.sums) ≡ sum_of (λ (x : Summed). x.bytes) l.sums

@@ -16,7 +16,9 @@ loop-k-init g c = record {
 }
 
 pub returns-in_err-round-clause-seen : goal.returns-in_err-round-clause-seen
-returns-in_err-round-clause-seen g c = continues_all c.round.new.pass.seen c.loop-k.pass.seen c.args.pass.now.seen c.round.ensures.seen c.loop-k.invariant.seen
+returns-in_err-round-clause-seen g c =
+    continues_all c.round.new.pass.seen c.loop-k.pass.seen c.args.pass.now.seen c.round.ensures.seen
+    c.loop-k.invariant.seen
 
 pub loop-k-preserved : goal.loop-k-preserved
 loop-k-preserved g c =
@@ -31,15 +33,21 @@ loop-k-preserved g c =
       seen = continues_all c.round.new.pass.seen c.loop-k.pass.seen c.args.pass.now.seen c.round.ensures.seen inv.seen;
       free = c.in_ok-round.ensures.free;
       going = c.in_ok-round.ensures.going;
-      moments = moments_added c.args.tick c.moment.result ((n + 1) * c.args.tick) n c.loop-k.pass.own c.round.new.pass.own added (c.moment.ensures ∙ ap (λ m. (m + 1) * c.args.tick) (sym inv.count)) refl refl inv.moments;
+      moments = moments_added c.args.tick c.moment.result ((n + 1) * c.args.tick) n c.loop-k.pass.own
+          c.round.new.pass.own added (c.moment.ensures ∙ ap (λ m. (m + 1) * c.args.tick) (sym inv.count))
+          refl refl inv.moments;
       count = omega (arith, one, inv.count);
     }
 
 pub finish-requires-clause-finishing : goal.finish-requires-clause-finishing
 finish-requires-clause-finishing g c =
     let inv = c.loop-k.invariant in
-    let count : length c.loop-k.pass.own ≡ c.args.turns = omega (arith, inv.count, c.loop-k-test.false, c.loop-k.auto.k-end) in
-    going_stopped g.P.Processor.stands_for c.loop-k.worker c.stop.new.self c.loop-k.pass c.args.turns c.stop.ensures.made c.stop.ensures.stands count inv.going
+    let count : length c.loop-k.pass.own ≡ c.args.turns =
+    omega (arith, inv.count, c.loop-k-test.false, c.loop-k.auto.k-end) in
+    going_stopped g.P.Processor.stands_for c.loop-k.worker c.stop.new.self c.loop-k.pass c.args.turns
+    c.stop.ensures.made c.stop.ensures.stands count inv.going
 
 pub returns-clause-seen : goal.returns-clause-seen
-returns-clause-seen g c = continues_all c.finish.new.pass.seen c.loop-k.pass.seen c.args.pass.now.seen c.finish.ensures.seen c.loop-k.invariant.seen
+returns-clause-seen g c =
+    continues_all c.finish.new.pass.seen c.loop-k.pass.seen c.args.pass.now.seen c.finish.ensures.seen
+    c.loop-k.invariant.seen

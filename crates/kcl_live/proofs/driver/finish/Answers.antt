@@ -6,7 +6,8 @@ use Rattle.kcl_live.proofs.driver.finish.Goals as goal
 
 pub returns-in-Err-clause-err : goal.returns-in-Err-clause-err
 returns-in-Err-clause-err g c =
-    finishing_failed g.P.Processor.stands_for c.args.worker.now c.call_all.new.worker c.args.pass.now (3 * c.args.turns) c.in-Err.error c.call_all.ensures.made c.call_all.ensures.called c.requires.finishing
+    finishing_failed g.P.Processor.stands_for c.args.worker.now c.call_all.new.worker c.args.pass.now (3 * c.args.turns)
+    c.in-Err.error c.call_all.ensures.made c.call_all.ensures.called c.requires.finishing
     (c.in-Err.ensures.left c.requires.finishing.past c.requires.finishing.driven.stood) c.in-Err.ensures.error
 
 pub loop-at-init : goal.loop-at-init
@@ -16,7 +17,8 @@ loop-at-init g c = record {
   seen = continues_same c.args.pass.now.seen;
   free = c.call_all.ensures.free;
   none_due = c.in-Ok.ensures.none_due;
-  finishing = finishing_called g.P.Processor.stands_for c.args.worker.now c.call_all.new.worker c.args.pass.now (3 * c.args.turns) c.call_all.ensures.made c.call_all.ensures.called c.requires.finishing;
+  finishing = finishing_called g.P.Processor.stands_for c.args.worker.now c.call_all.new.worker c.args.pass.now
+      (3 * c.args.turns) c.call_all.ensures.made c.call_all.ensures.called c.requires.finishing;
   moments = c.requires.so_far.0;
   at = ap (λ n. n * c.args.tick) (sym c.requires.so_far.1);
   least = omega (arith, c.requires.so_far.1);
@@ -25,21 +27,27 @@ loop-at-init g c = record {
 pub overflow_add-at : goal.overflow_add-at
 overflow_add-at g c =
     let inv = c.loop-at.invariant in
-    let more = finishing_left g.P.Processor.stands_for c.loop-at.worker c.loop-at.pass (3 * c.args.turns) inv.finishing inv.none_due (sym c.loop-at-test.ensures) in
-    let low : c.loop-at.at + c.args.tick < 2 ^ 62 = moment_left (length c.loop-at.pass.own) (3 * c.args.turns) c.args.tick c.loop-at.at inv.at more c.requires.moments in
+    let more = finishing_left g.P.Processor.stands_for c.loop-at.worker c.loop-at.pass (3 * c.args.turns)
+    inv.finishing inv.none_due (sym c.loop-at-test.ensures) in
+    let low : c.loop-at.at + c.args.tick < 2 ^ 62 =
+    moment_left (length c.loop-at.pass.own) (3 * c.args.turns) c.args.tick c.loop-at.at inv.at more
+    c.requires.moments in
     omega (arith, low)
 
 pub moment-requires : goal.moment-requires
 moment-requires g c =
     let inv = c.loop-at.invariant in
-    let more = finishing_left g.P.Processor.stands_for c.loop-at.worker c.loop-at.pass (3 * c.args.turns) inv.finishing inv.none_due (sym c.loop-at-test.ensures) in
+    let more = finishing_left g.P.Processor.stands_for c.loop-at.worker c.loop-at.pass (3 * c.args.turns)
+    inv.finishing inv.none_due (sym c.loop-at-test.ensures) in
     moment_left (length c.loop-at.pass.own) (3 * c.args.turns) c.args.tick c.loop-at.at inv.at more c.requires.moments
 
 pub loop-at-smaller : goal.loop-at-smaller
 loop-at-smaller g c =
     let inv = c.loop-at.invariant in
-    let more = finishing_left g.P.Processor.stands_for c.loop-at.worker c.loop-at.pass (3 * c.args.turns) inv.finishing inv.none_due (sym c.loop-at-test.ensures) in
-    let one = length_added c.moment.result c.loop-at.pass.own c.last_round.new.pass.own c.in_ok-last_round.ensures.added in
+    let more = finishing_left g.P.Processor.stands_for c.loop-at.worker c.loop-at.pass (3 * c.args.turns)
+    inv.finishing inv.none_due (sym c.loop-at-test.ensures) in
+    let one = length_added c.moment.result c.loop-at.pass.own c.last_round.new.pass.own
+    c.in_ok-last_round.ensures.added in
     omega (arith, more, one)
 
 pub loop-at-preserved : goal.loop-at-preserved
@@ -53,20 +61,26 @@ loop-at-preserved g c =
     record {
       kept = (kept.0 ∙ inv.kept.0, kept.1 ∙ inv.kept.1, kept.2 ∙ inv.kept.2);
       made = c.last_round.ensures.made ∙ inv.made;
-      seen = continues_all c.last_round.new.pass.seen c.loop-at.pass.seen c.args.pass.now.seen c.last_round.ensures.seen inv.seen;
+      seen = continues_all c.last_round.new.pass.seen c.loop-at.pass.seen c.args.pass.now.seen c.last_round.ensures.seen
+          inv.seen;
       free = c.in_ok-last_round.ensures.free;
       none_due = c.in_ok-last_round.ensures.none_due;
       finishing = c.in_ok-last_round.ensures.finishing (3 * c.args.turns) inv.finishing;
-      moments = moments_added c.args.tick c.moment.result (c.loop-at.at + c.args.tick) n c.loop-at.pass.own c.last_round.new.pass.own added c.moment.ensures refl next inv.moments;
+      moments = moments_added c.args.tick c.moment.result (c.loop-at.at + c.args.tick) n c.loop-at.pass.own
+          c.last_round.new.pass.own added c.moment.ensures refl next inv.moments;
       at = next ∙ ap (λ m. m * c.args.tick) (sym one);
       least = omega (arith, inv.least, one);
     }
 
 pub returns-in_err-last_round-clause-seen : goal.returns-in_err-last_round-clause-seen
-returns-in_err-last_round-clause-seen g c = continues_all c.last_round.new.pass.seen c.loop-at.pass.seen c.args.pass.now.seen c.last_round.ensures.seen c.loop-at.invariant.seen
+returns-in_err-last_round-clause-seen g c =
+    continues_all c.last_round.new.pass.seen c.loop-at.pass.seen c.args.pass.now.seen c.last_round.ensures.seen
+    c.loop-at.invariant.seen
 
 pub returns-in_err-last_round-clause-most : goal.returns-in_err-last_round-clause-most
 returns-in_err-last_round-clause-most g c =
     let inv = c.loop-at.invariant in
-    let more = finishing_left g.P.Processor.stands_for c.loop-at.worker c.loop-at.pass (3 * c.args.turns) inv.finishing inv.none_due (sym c.loop-at-test.ensures) in
-    most_may c.moment.result (3 * c.args.turns) c.loop-at.pass.own c.last_round.new.pass.own c.in_err-last_round.ensures.added_or_not more
+    let more = finishing_left g.P.Processor.stands_for c.loop-at.worker c.loop-at.pass (3 * c.args.turns)
+    inv.finishing inv.none_due (sym c.loop-at-test.ensures) in
+    most_may c.moment.result (3 * c.args.turns) c.loop-at.pass.own c.last_round.new.pass.own
+    c.in_err-last_round.ensures.added_or_not more

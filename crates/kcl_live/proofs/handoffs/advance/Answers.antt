@@ -14,9 +14,11 @@ returns-in-Ok-answer_one-clause-few g c = omega (arith, c.in-Ok.ensures.few, c.i
 pub returns-in-Ok-answer_one-clause-goes : goal.returns-in-Ok-answer_one-clause-goes
 returns-in-Ok-answer_one-clause-goes g c =
     goes_on g.P.Processor.stands_for c.args.at c.args.hand.now c.call_one.new.hand c.answer_one.new.hand
-    c.args.pass.now c.args.pass.now c.answer_one.new.pass refl (c.call_one.ensures.goes c.args.at c.args.pass.now) c.answer_one.ensures.goes
+    c.args.pass.now c.args.pass.now c.answer_one.new.pass refl (c.call_one.ensures.goes c.args.at c.args.pass.now)
+    c.answer_one.ensures.goes
 
 pub returns-in-Err-answer_one-clause-goes : goal.returns-in-Err-answer_one-clause-goes
 returns-in-Err-answer_one-clause-goes g c =
     goes_on g.P.Processor.stands_for c.args.at c.args.hand.now c.call_one.new.hand c.answer_one.new.hand
-    c.args.pass.now c.args.pass.now c.answer_one.new.pass refl (c.call_one.ensures.goes c.args.at c.args.pass.now) c.answer_one.ensures.goes
+    c.args.pass.now c.args.pass.now c.answer_one.new.pass refl (c.call_one.ensures.goes c.args.at c.args.pass.now)
+    c.answer_one.ensures.goes

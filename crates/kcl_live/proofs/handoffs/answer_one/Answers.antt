@@ -4,7 +4,8 @@ use Rattle.kcl_live.proofs.handoffs.answer_one.Goals as goal
 
 pub returns-in-Ok-clause-goes : goal.returns-in-Ok-clause-goes
 returns-in-Ok-clause-goes g c =
-    goes_answered g.P.Processor.stands_for c.args.at c.args.hand.now c.absorb.new.self c.args.pass.now c.turn.new.pass c.next-what.result c.in-Ok.answer
+    goes_answered g.P.Processor.stands_for c.args.at c.args.hand.now c.absorb.new.self c.args.pass.now c.turn.new.pass
+    c.next-what.result c.in-Ok.answer
     c.absorb.ensures.held c.absorb.ensures.made c.absorb.ensures.processor c.next-what.ensures.next
     c.absorb.ensures.adds c.turn.ensures.kept.1 c.in-Ok.ensures.answered
 

@@ -7,7 +7,8 @@ returns-in-Ok-clause-ok g c = λ past st.
     c.args.pass.now c.carry.new.pass c.in-Some.held c.in-Some.consumer c.new-hand.result c.carry.new.hand
     c.new-hand.ensures.held c.new-hand.ensures.made c.new-hand.ensures.processor c.new-hand.ensures.stands
     c.carry.ensures.held c.carry.ensures.made c.carry.ensures.goes c.in-Some.ensures.some c.in-Some.ensures.consumer
-    c.service.ensures.served c.handed.ensures c.in-Ok.left c.into_processor.result c.in-Ok.ensures.ended c.into_processor.ensures past st
+    c.service.ensures.served c.handed.ensures c.in-Ok.left c.into_processor.result c.in-Ok.ensures.ended
+    c.into_processor.ensures past st
 
 pub returns-in-Err-clause-err : goal.returns-in-Err-clause-err
 returns-in-Err-clause-err g c = λ past st.

@@ -20,5 +20,6 @@ pub returns-in-Err-clause-left : goal.returns-in-Err-clause-left
 returns-in-Err-clause-left g c = λ past s.
     let inv = c.loop-due.invariant in
     let r = inv.called past s in
-    due_again g.P.Processor.stands_for c.loop-due.worker c.call-called.new.self (with_calls r.0 past) c.in-Err.ensures.made r.1 (c.in-Err.ensures.err (with_calls r.0 past) r.1)
+    due_again g.P.Processor.stands_for c.loop-due.worker c.call-called.new.self (with_calls r.0 past)
+    c.in-Err.ensures.made r.1 (c.in-Err.ensures.err (with_calls r.0 past) r.1)
     (is_some_of (due_in c.loop-due.worker.consumers) c.due.result _ (sym c.due.ensures) c.in-Some.is)

@@ -11,7 +11,8 @@ abbrev pub invariant-loop-due : goal.invariant-loop-due
 invariant-loop-due g l = record {
   made : l.worker.made ≡ l.fn.worker.made;
   free : l.worker.waiting ≡ None;
-  called : (past : WorkerPast) → StandsFor g.P.Processor.stands_for l.fn.worker past → (asked : List Ask) × StandsFor g.P.Processor.stands_for l.worker (with_calls asked past);
+  called : (past : WorkerPast) → StandsFor g.P.Processor.stands_for l.fn.worker past → (asked : List Ask)
+      × StandsFor g.P.Processor.stands_for l.worker (with_calls asked past);
 }
 
 abbrev pub decreases-loop-due : goal.decreases-loop-due

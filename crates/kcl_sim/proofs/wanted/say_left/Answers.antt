@@ -4,7 +4,8 @@ use Rattle.kcl_sim.proofs.wanted.say_left.Goals as goal
 
 pub returns-then-wants_answers : goal.returns-then-wants_answers
 returns-then-wants_answers g c =
-    on_ok_so c.print_left.result c.print_left.ensures (λ wrote. said g.K.Keep.wanted _ c.args.line.now _ c.if-wants_answers.ensures wrote)
+    on_ok_so c.print_left.result c.print_left.ensures
+    (λ wrote. said g.K.Keep.wanted _ c.args.line.now _ c.if-wants_answers.ensures wrote)
 
 pub returns-else-wants_answers : goal.returns-else-wants_answers
 returns-else-wants_answers g c = unsaid g.K.Keep.wanted _ c.args.line.now c.if-wants_answers.ensures

@@ -6,7 +6,9 @@ use Rattle.kcl_sim.proofs.workers.call_all.Given as goal
 
 -- the calls so far lead to where all of them lead
 abbrev pub invariant-loop-worker : goal.invariant-loop-worker
-invariant-loop-worker l = (l.worker.waiting ≡ None) × ((e : Employed) → Employs l.fn.worker e → (d : Employed) × Employs l.worker d × (all_called d ≡ all_called e))
+invariant-loop-worker l =
+    (l.worker.waiting ≡ None)
+    × ((e : Employed) → Employs l.fn.worker e → (d : Employed) × Employs l.worker d × (all_called d ≡ all_called e))
 
 abbrev pub decreases-loop-worker : goal.decreases-loop-worker
 decreases-loop-worker l = due_count l.worker.consumers

@@ -4,4 +4,5 @@ use Rattle.kcl_sim_scribe.proofs.entries.puts.Given as goal
 
 -- the entries so far, and those of what is left
 abbrev pub invariant-loop-item : goal.invariant-loop-item
-invariant-loop-item l = l.entries ++ put_entries l.stream l.item-iterator.a.rest.now l.item-iterator.b.rest.now ≡ put_entries l.stream l.items l.outcomes
+invariant-loop-item l = l.entries ++ put_entries l.stream l.item-iterator.a.rest.now l.item-iterator.b.rest.now
+    ≡ put_entries l.stream l.items l.outcomes

@@ -15,17 +15,20 @@ loop-i-preserved c =
     let i = c.loop-i.i in
     let within : i < length xs = search rules in
     ap (slice_set c.loop-i.streams.items i) c.renumber.ensures
-    ∙ map_over_more f xs c.loop-i.streams.items i c.index_mut.result.now within c.loop-i.invariant c.index_mut.ensures.value
+    ∙ map_over_more f xs c.loop-i.streams.items i c.index_mut.result.now within c.loop-i.invariant
+    c.index_mut.ensures.value
 
 pub returns-in-Gone : goal.returns-in-Gone
 returns-in-Gone c =
     let over : length c.args.streams.now.items ≤ c.loop-i.i = search rules in
     let done = c.loop-i.invariant ∙ all_done (renumbered c.args.what.now) c.args.streams.now.items c.loop-i.i over in
-    filter_same _ (λ (v : Known). not (is_gone c.args.what.now v.no)) _ (λ x b f' k. search rules) _ _ c.retain.ensures.filtered
+    filter_same _ (λ (v : Known). not (is_gone c.args.what.now v.no)) _ (λ x b f' k. search rules)
+    _ _ c.retain.ensures.filtered
     ∙ ap (filter (λ (v : Known). not (is_gone c.args.what.now v.no))) done
 
 pub returns-in_default : goal.returns-in_default
 returns-in_default c =
     let over : length c.args.streams.now.items ≤ c.loop-i.i = search rules in
     let done = c.loop-i.invariant ∙ all_done (renumbered c.args.what.now) c.args.streams.now.items c.loop-i.i over in
-    done ∙ sym (stay c.args.what.now (λ s is. c.in_default.not-Gone s is) (map (renumbered c.args.what.now) c.args.streams.now.items))
+    done ∙ sym (stay c.args.what.now (λ s is. c.in_default.not-Gone s is)
+    (map (renumbered c.args.what.now) c.args.streams.now.items))

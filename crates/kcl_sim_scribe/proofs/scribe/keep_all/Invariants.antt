@@ -5,4 +5,5 @@ use Rattle.kcl_sim_scribe.proofs.scribe.keep_all.Given as goal
 
 -- what the lines that are left make of the streams
 abbrev pub invariant-loop-line : goal.invariant-loop-line
-invariant-loop-line l = changed_by (map (λ (x : EntryLine). x.what) (drop l.line-index l.lines)) l.streams.items ≡ changed_by (map (λ (x : EntryLine). x.what) l.lines) l.initial.streams.items
+invariant-loop-line l = changed_by (map (λ (x : EntryLine). x.what) (drop l.line-index l.lines)) l.streams.items
+    ≡ changed_by (map (λ (x : EntryLine). x.what) l.lines) l.initial.streams.items

@@ -4,4 +4,5 @@ use Rattle.kcl_defs.specs.Workers.{is_giving_phase}
 use Rattle.kcl_worker_lists.proofs.consumers.any_giving.Given as goal
 
 abbrev pub invariant-loop-c : goal.invariant-loop-c
-invariant-loop-c g l = list_any (λ c. is_giving_phase c.phase) (drop l.c-index l.consumers) ≡ list_any (λ c. is_giving_phase c.phase) l.consumers
+invariant-loop-c g l = list_any (λ c. is_giving_phase c.phase) (drop l.c-index l.consumers)
+    ≡ list_any (λ c. is_giving_phase c.phase) l.consumers

@@ -8,4 +8,5 @@ use Rattle.kcl_worker_lists.proofs.consumers.index_of.Given as goal
 -- none before the place is of this lease
 abbrev pub invariant-loop-i : goal.invariant-loop-i
 invariant-loop-i g l =
-    (answer : Result Reply Refusal) → take l.i l.consumers ++ answered_among l.fn.id answer (drop l.i l.consumers) ≡ answered_among l.fn.id answer l.consumers
+    (answer : Result Reply Refusal) → take l.i l.consumers ++ answered_among l.fn.id answer (drop l.i l.consumers)
+    ≡ answered_among l.fn.id answer l.consumers

@@ -5,4 +5,5 @@ use Rattle.kcl_worker_lists.proofs.consumers.lose_gone.Given as goal
 
 abbrev pub invariant-loop-c : goal.invariant-loop-c
 invariant-loop-c g l =
-    l.c-items ≡ lost_among (is_among l.fn.gone) (take l.c-index l.fn.consumers.items) ++ drop l.c-index l.fn.consumers.items
+    l.c-items ≡ lost_among (is_among l.fn.gone) (take l.c-index l.fn.consumers.items)
+    ++ drop l.c-index l.fn.consumers.items

@@ -5,6 +5,7 @@ use Rattle.kcl_worker_lists.proofs.releases.take_consumer.Given as goal
 -- none before the place is of this lease
 abbrev pub invariant-loop-i : goal.invariant-loop-i
 invariant-loop-i g l =
-    (take l.i l.consumers.items ++ without_consumer l.fn.id (drop l.i l.consumers.items) ≡ without_consumer l.fn.id l.fn.consumers.items)
+    (take l.i l.consumers.items ++ without_consumer l.fn.id (drop l.i l.consumers.items)
+    ≡ without_consumer l.fn.id l.fn.consumers.items)
     × (one_of l.fn.id (drop l.i l.consumers.items) ≡ one_of l.fn.id l.fn.consumers.items)
     × (l.consumers ≡ l.fn.consumers)

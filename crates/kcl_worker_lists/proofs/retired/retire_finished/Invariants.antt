@@ -8,7 +8,8 @@ use Rattle.kcl_worker_lists.proofs.retired.retire_finished.Given as goal
 abbrev pub invariant-loop-i : goal.invariant-loop-i
 invariant-loop-i g l =
     (take l.i l.consumers.items ++ live_among (drop l.i l.consumers.items) ≡ live_among l.fn.consumers.items)
-    × (map retirement l.retired.items ++ retired_among (drop l.i l.consumers.items) ≡ map retirement l.fn.retired.items ++ retired_among l.fn.consumers.items)
+    × (map retirement l.retired.items ++ retired_among (drop l.i l.consumers.items) ≡ map retirement l.fn.retired.items
+    ++ retired_among l.fn.consumers.items)
     × (vec_len l.retired + vec_len l.consumers ≤ vec_capacity l.retired)
 
 abbrev pub decreases-loop-i : goal.decreases-loop-i

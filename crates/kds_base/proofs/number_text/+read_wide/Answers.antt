@@ -34,5 +34,6 @@ returns t c =
     let number : digits_of 128 front ≡ Some c.in_ok-number.number = search rules in
     let digits : digits_of 64 block ≡ Some c.in_ok-block.block = search rules in
     let long : length block ≡ 19 = omega (arith, c.split_at.ensures.back_len, c.if-text-le-BLOCK_DIGITS.false) in
-    let made = both_as_made front block _ _ long number digits c.with_block.result c.with_block.ensures.some c.with_block.ensures.small c.with_block.ensures.none in
+    let made = both_as_made front block _ _ long number digits c.with_block.result c.with_block.ensures.some
+    c.with_block.ensures.small c.with_block.ensures.none in
     made ∙ ap (digits_of 128) (sym c.split_at.ensures.by_index.0)

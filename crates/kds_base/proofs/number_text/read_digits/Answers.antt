@@ -2,14 +2,16 @@ use Rattle.std.proofs.Common.{◌≡◌, ◌+◌, ◌^◌, ◌≤◌, true, None
 use Rattle.std.specs.Char.{is_ascii_digit}
 use Rattle.std.specs.List.{list_all}
 use Rattle.std.specs.Str.Parse.{digits_value}
-use Rattle.kds_base.proofs.NumberLemmas.{next_digit, more_digits, none_of_nothing, none_of_others, none_of_large, all_read}
+use Rattle.kds_base.proofs.NumberLemmas.{next_digit, more_digits, none_of_nothing, none_of_others, none_of_large}
+use Rattle.kds_base.proofs.NumberLemmas.{all_read}
 use Rattle.kds_base.proofs.number_text.read_digits.Goals as goal
 
 pub returns-then-is_empty : goal.returns-then-is_empty
 returns-then-is_empty c = none_of_nothing 64 c.args.text.now (search rules)
 
 pub returns-then-not-is_ascii_digit : goal.returns-then-not-is_ascii_digit
-returns-then-not-is_ascii_digit c = none_of_others 64 c.loop-byte.byte-index c.args.text.now c.loop-byte-test.true (search rules)
+returns-then-not-is_ascii_digit c =
+    none_of_others 64 c.loop-byte.byte-index c.args.text.now c.loop-byte-test.true (search rules)
 
 pub returns-in_err-number : goal.returns-in_err-number
 returns-in_err-number c =
@@ -23,7 +25,11 @@ pub loop-byte-preserved : goal.loop-byte-preserved
 loop-byte-preserved c =
     let text = c.args.text.now in
     let next = next_digit text _ _ c.loop-byte-test.true (search rules) c.loop-byte.invariant.value in
-    record { digits = more_digits text _ c.loop-byte-test.true c.loop-byte.invariant.digits (search rules); value = grind arith; small = search rules }
+    record {
+      digits = more_digits text _ c.loop-byte-test.true c.loop-byte.invariant.digits (search rules);
+      value = grind arith;
+      small = search rules;
+    }
 
 pub returns : goal.returns
 returns c =

@@ -21,10 +21,13 @@ returns-in-Ok-clause-ran g c =
 pub returns-in-Err-clause-ran : goal.returns-in-Err-clause-ran
 returns-in-Err-clause-ran g c =
     let line : c.as_slice.result.now ≡ first_line = search rules in
-    none_ran_all (g.S.Source.left c.args.input.now) _ _ c.keeping-sim.result c.as_slice.result.now line c.keeping-sim.ensures c.in-Err.ensures.err
+    none_ran_all (g.S.Source.left c.args.input.now) _ _ c.keeping-sim.result c.as_slice.result.now line
+    c.keeping-sim.ensures c.in-Err.ensures.err
 
 pub returns-in-Ok-clause-sound : goal.returns-in-Ok-clause-sound
-returns-in-Ok-clause-sound g c = λ done. audited_all (g.S.Source.left c.args.input.now) c.lawful.ensures.whole c.sound_histories.ensures.sound (c.write_rest.ensures.bits done)
+returns-in-Ok-clause-sound g c =
+    λ done. audited_all (g.S.Source.left c.args.input.now) c.lawful.ensures.whole c.sound_histories.ensures.sound
+    (c.write_rest.ensures.bits done)
 
 pub returns-in-Err-clause-sound : goal.returns-in-Err-clause-sound
 returns-in-Err-clause-sound g c = λ done. absurd (no_write done)

@@ -16,31 +16,37 @@ returns-in-Ok-Some-clause-usage g c =
 
 pub returns-in-Ok-Some-clause-refused : goal.returns-in-Ok-Some-clause-refused
 returns-in-Ok-Some-clause-refused g c =
-    let is : Some c.in-Ok-Some.task ≡ task_of (texts_of c.args.words.now.items) = sym c.in-Ok-Some.field-0-is ∙ c.in-Ok-Some.ensures.task in
+    let is : Some c.in-Ok-Some.task ≡ task_of (texts_of c.args.words.now.items) =
+    sym c.in-Ok-Some.field-0-is ∙ c.in-Ok-Some.ensures.task in
     λ none. absurd (not_none _ _ is none)
 
 pub returns-in-Ok-Some-clause-untouched : goal.returns-in-Ok-Some-clause-untouched
 returns-in-Ok-Some-clause-untouched g c =
-    let is : Some c.in-Ok-Some.task ≡ task_of (texts_of c.args.words.now.items) = sym c.in-Ok-Some.field-0-is ∙ c.in-Ok-Some.ensures.task in
+    let is : Some c.in-Ok-Some.task ≡ task_of (texts_of c.args.words.now.items) =
+    sym c.in-Ok-Some.field-0-is ∙ c.in-Ok-Some.ensures.task in
     λ none. absurd (not_none _ _ is none)
 
 pub returns-in-Ok-Some-clause-performed : goal.returns-in-Ok-Some-clause-performed
 returns-in-Ok-Some-clause-performed g c =
-    asked_so _ (task_of (texts_of c.args.words.now.items)) c.in-Ok-Some.task (sym c.in-Ok-Some.field-0-is ∙ c.in-Ok-Some.ensures.task)
+    asked_so _ (task_of (texts_of c.args.words.now.items)) c.in-Ok-Some.task (sym c.in-Ok-Some.field-0-is
+    ∙ c.in-Ok-Some.ensures.task)
     c.perform.ensures.performed
 
 pub returns-in-Ok-Some-clause-complete : goal.returns-in-Ok-Some-clause-complete
 returns-in-Ok-Some-clause-complete g c = λ read write door.
-    asked_so _ (task_of (texts_of c.args.words.now.items)) c.in-Ok-Some.task (sym c.in-Ok-Some.field-0-is ∙ c.in-Ok-Some.ensures.task)
+    asked_so _ (task_of (texts_of c.args.words.now.items)) c.in-Ok-Some.task (sym c.in-Ok-Some.field-0-is
+    ∙ c.in-Ok-Some.ensures.task)
     (c.perform.ensures.complete read write door)
 
 pub returns-in-Ok-Some-clause-door_left : goal.returns-in-Ok-Some-clause-door_left
 returns-in-Ok-Some-clause-door_left g c = λ none.
-    c.perform.ensures.door_left (no_door _ c.in-Ok-Some.task (sym c.in-Ok-Some.field-0-is ∙ c.in-Ok-Some.ensures.task) none)
+    c.perform.ensures.door_left
+    (no_door _ c.in-Ok-Some.task (sym c.in-Ok-Some.field-0-is ∙ c.in-Ok-Some.ensures.task) none)
 
 pub returns-in-Ok-Some-clause-input_left : goal.returns-in-Ok-Some-clause-input_left
 returns-in-Ok-Some-clause-input_left g c = λ none.
-    c.perform.ensures.input_left (no_input _ c.in-Ok-Some.task (sym c.in-Ok-Some.field-0-is ∙ c.in-Ok-Some.ensures.task) none)
+    c.perform.ensures.input_left
+    (no_input _ c.in-Ok-Some.task (sym c.in-Ok-Some.field-0-is ∙ c.in-Ok-Some.ensures.task) none)
 
 pub returns-in-Ok-Some-clause-read : goal.returns-in-Ok-Some-clause-read
 returns-in-Ok-Some-clause-read g c = c.perform.ensures.read
@@ -80,10 +86,17 @@ returns-in-Err-clause-performed g c =
     let held = g.K.Sink.held c.args.out.now in
     let moments = g.C.Clock.moments c.args.clock in
     let listens = g.D.Door.listens c.args.door.now in
-    each (λ task. Performed task Memory (record { input = around left left; out = around held held; moments = moments; listens = listens }))
-    (λ task. listens_or_not task (around left left) (around held held) moments listens (c.no_room.ensures task left left moments held))
+    each (λ task. Performed task Memory (record {
+      input = around left left;
+      out = around held held;
+      moments = moments;
+      listens = listens;
+    }))
+    (λ task. listens_or_not task (around left left) (around held held) moments listens
+    (c.no_room.ensures task left left moments held))
     (task_of (texts_of c.args.words.now.items))
 
 pub returns-in-Err-clause-complete : goal.returns-in-Err-clause-complete
-returns-in-Err-clause-complete g c = λ read write door. each (λ task. Completed task Memory _) (λ task. none_completed task _)
+returns-in-Err-clause-complete g c =
+    λ read write door. each (λ task. Completed task Memory _) (λ task. none_completed task _)
     (task_of (texts_of c.args.words.now.items))

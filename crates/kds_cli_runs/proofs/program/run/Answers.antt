@@ -9,10 +9,13 @@ use Rattle.kds_cli_runs.proofs.Codes.{done_by, door_by, each, read_by, refused_c
 use Rattle.kds_cli_runs.proofs.program.run.Goals as goal
 
 pub returns-clause-usage : goal.returns-clause-usage
-returns-clause-usage g c = λ two. c.perform_words-status.ensures.usage (usage_by c.perform_words-status.result (sym c.code.ensures ∙ two))
+returns-clause-usage g c =
+    λ two. c.perform_words-status.ensures.usage (usage_by c.perform_words-status.result (sym c.code.ensures ∙ two))
 
 pub returns-clause-refused : goal.returns-clause-refused
-returns-clause-refused g c = λ none. refused_code c.perform_words-status.result c.code.result c.code.ensures (c.perform_words-status.ensures.refused none)
+returns-clause-refused g c =
+    λ none. refused_code c.perform_words-status.result c.code.result c.code.ensures
+    (c.perform_words-status.ensures.refused none)
 
 pub returns-clause-untouched : goal.returns-clause-untouched
 returns-clause-untouched g c = c.perform_words-status.ensures.untouched
@@ -39,23 +42,28 @@ returns-clause-complete g c = λ read write door. record {
 }
 
 pub returns-clause-safe : goal.returns-clause-safe
-returns-clause-safe g c = λ journal is. each (λ bytes. IsSafe (journal_of (history bytes)) (clock (history bytes))) c.schedules.ensures.safe
+returns-clause-safe g c =
+    λ journal is. each (λ bytes. IsSafe (journal_of (history bytes)) (clock (history bytes))) c.schedules.ensures.safe
     (g.S.Source.left c.args.input.now)
 
 pub returns-clause-served : goal.returns-clause-served
-returns-clause-served g c = λ journal is. each (λ bytes. AreAllServed (ran bytes)) c.schedules.ensures.served (g.S.Source.left c.args.input.now)
+returns-clause-served g c =
+    λ journal is. each (λ bytes. AreAllServed (ran bytes)) c.schedules.ensures.served (g.S.Source.left c.args.input.now)
 
 pub returns-clause-handed : goal.returns-clause-handed
 returns-clause-handed g c = λ journal is. each AreHandedOn c.schedules.ensures.handed (g.S.Source.left c.args.input.now)
 
 pub returns-clause-read : goal.returns-clause-read
-returns-clause-read g c = λ four. c.perform_words-status.ensures.read (read_by c.perform_words-status.result (sym c.code.ensures ∙ four))
+returns-clause-read g c =
+    λ four. c.perform_words-status.ensures.read (read_by c.perform_words-status.result (sym c.code.ensures ∙ four))
 
 pub returns-clause-write : goal.returns-clause-write
-returns-clause-write g c = λ five. c.perform_words-status.ensures.write (write_by c.perform_words-status.result (sym c.code.ensures ∙ five))
+returns-clause-write g c =
+    λ five. c.perform_words-status.ensures.write (write_by c.perform_words-status.result (sym c.code.ensures ∙ five))
 
 pub returns-clause-door : goal.returns-clause-door
-returns-clause-door g c = λ eight. c.perform_words-status.ensures.door (door_by c.perform_words-status.result (sym c.code.ensures ∙ eight))
+returns-clause-door g c =
+    λ eight. c.perform_words-status.ensures.door (door_by c.perform_words-status.result (sym c.code.ensures ∙ eight))
 
 pub returns-clause-sound : goal.returns-clause-sound
 returns-clause-sound g c = λ zero asked.

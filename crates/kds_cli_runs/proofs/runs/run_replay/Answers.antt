@@ -16,7 +16,8 @@ returns-then-journal-clause-told g c = rw c.if-journal.true c.record_schedule.en
 pub returns-then-journal-clause-ran : goal.returns-then-journal-clause-ran
 returns-then-journal-clause-ran g c =
     rw c.if-journal.true
-    (ran_safely (recorded c.record_schedule.result.status) c.record_schedule.result.status (g.S.Source.left c.args.input.now) _ _
+    (ran_safely (recorded c.record_schedule.result.status) c.record_schedule.result.status
+    (g.S.Source.left c.args.input.now) _ _
     c.record_schedule.result.sim (record {
       lawful = c.lawful.ensures.first;
       part = c.lawful.ensures.part;
@@ -31,7 +32,8 @@ returns-clause-told g c = rw c.if-journal.false c.run_schedule.ensures.told
 pub returns-clause-ran : goal.returns-clause-ran
 returns-clause-ran g c =
     rw c.if-journal.false
-    (ran_safely (outputs fresh) c.run_schedule.result.status (g.S.Source.left c.args.input.now) _ _ c.run_schedule.result.sim
+    (ran_safely (outputs fresh) c.run_schedule.result.status (g.S.Source.left c.args.input.now)
+    _ _ c.run_schedule.result.sim
     (record {
       lawful = c.lawful.ensures.first;
       part = c.lawful.ensures.part;
@@ -48,19 +50,23 @@ returns-clause-sound g c = λ asked done. absurd (false_true (sym c.if-journal.f
 
 pub returns-then-journal-clause-complete : goal.returns-then-journal-clause-complete
 returns-then-journal-clause-complete g c = λ read write.
-    replays true c.record_schedule.result.status (g.S.Source.left c.args.input.now) _ _ _ (λ is. read (c.record_schedule.ensures.read is)) (λ is. write (c.record_schedule.ensures.write is))
+    replays true c.record_schedule.result.status (g.S.Source.left c.args.input.now) _ _ _
+    (λ is. read (c.record_schedule.ensures.read is)) (λ is. write (c.record_schedule.ensures.write is))
     c.record_schedule.ensures.told
 
 pub returns-clause-complete : goal.returns-clause-complete
 returns-clause-complete g c = λ read write.
-    replays false c.run_schedule.result.status (g.S.Source.left c.args.input.now) _ _ _ (λ is. read (c.run_schedule.ensures.read is)) (λ is. write (c.run_schedule.ensures.write is))
+    replays false c.run_schedule.result.status (g.S.Source.left c.args.input.now) _ _ _
+    (λ is. read (c.run_schedule.ensures.read is)) (λ is. write (c.run_schedule.ensures.write is))
     c.run_schedule.ensures.told
 
 pub returns-then-journal-clause-served : goal.returns-then-journal-clause-served
-returns-then-journal-clause-served g c = each (λ bytes. AreAllServed (ran bytes)) c.served.ensures.whole (g.S.Source.left c.args.input.now)
+returns-then-journal-clause-served g c =
+    each (λ bytes. AreAllServed (ran bytes)) c.served.ensures.whole (g.S.Source.left c.args.input.now)
 
 pub returns-clause-served : goal.returns-clause-served
-returns-clause-served g c = each (λ bytes. AreAllServed (ran bytes)) c.served.ensures.whole (g.S.Source.left c.args.input.now)
+returns-clause-served g c =
+    each (λ bytes. AreAllServed (ran bytes)) c.served.ensures.whole (g.S.Source.left c.args.input.now)
 
 pub returns-then-journal-clause-handed : goal.returns-then-journal-clause-handed
 returns-then-journal-clause-handed g c = each AreHandedOn c.schedules.ensures.handed (g.S.Source.left c.args.input.now)

@@ -4,4 +4,5 @@ use Rattle.kds_cli_runs.proofs.runs.run_serve.Goals as goal
 
 pub returns-in-Ok-clause-told : goal.returns-in-Ok-clause-told
 returns-in-Ok-clause-told g c =
-    crew_tells c.serve_door.result _ _ c.as_slice.result.now _ (search rules) c.serve_door.ensures.kinds c.in-Ok.ensures.ok (c.serve_door.ensures.listens _ (search rules))
+    crew_tells c.serve_door.result _ _ c.as_slice.result.now _ (search rules) c.serve_door.ensures.kinds
+    c.in-Ok.ensures.ok (c.serve_door.ensures.listens _ (search rules))

@@ -41,8 +41,10 @@ returns-in-Audit-clause-complete g c = λ read write door. rw c.in-Audit.is (c.r
 
 pub returns-in-Serve-clause-complete : goal.returns-in-Serve-clause-complete
 returns-in-Serve-clause-complete g c = λ read write door.
-    rw c.in-Serve.is (serves c.run_serve.result _ _ _ (λ is. write (c.run_serve.ensures.write is)) (λ is. door (c.run_serve.ensures.door is)) c.run_serve.ensures.told)
+    rw c.in-Serve.is (serves c.run_serve.result _ _ _ (λ is. write (c.run_serve.ensures.write is))
+    (λ is. door (c.run_serve.ensures.door is)) c.run_serve.ensures.told)
 
 pub returns-in-Drill-clause-complete : goal.returns-in-Drill-clause-complete
 returns-in-Drill-clause-complete g c = λ read write door.
-    rw c.in-Drill.is (drills c.run_drill.result _ _ _ _ (λ is. write (c.run_drill.ensures.write is)) c.run_drill.ensures.told)
+    rw c.in-Drill.is (drills c.run_drill.result _ _ _ _ (λ is. write (c.run_drill.ensures.write is))
+    c.run_drill.ensures.told)

@@ -7,7 +7,14 @@ pub returns : goal.returns
 returns c = record {
   app = ap app_of_fields c.disable_help_subcommand-bare.ensures
       ∙ ap (λ f. app_of_fields (record f { disable_help_subcommand = true })) c.disable_help_flag.ensures
-      ∙ ap (λ f. app_of_fields (record f { disable_help_flag = true; disable_help_subcommand = true })) c.no_binary_name.ensures
-      ∙ ap (λ (a : App). record a { top = record a.top { no_binary_name = true; disable_help_flag = true; disable_help_subcommand = true } }) c.new.ensures.app;
+      ∙ ap (λ f. app_of_fields (record f { disable_help_flag = true; disable_help_subcommand = true }))
+      c.no_binary_name.ensures
+      ∙ ap (λ (a : App). record a {
+        top = record a.top {
+          no_binary_name = true;
+          disable_help_flag = true;
+          disable_help_subcommand = true;
+        };
+      }) c.new.ensures.app;
   local = search rules;
 }

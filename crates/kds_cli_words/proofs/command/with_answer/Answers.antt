@@ -6,4 +6,5 @@ use Rattle.kds_cli_words.proofs.command.with_answer.Goals as goal
 pub returns : goal.returns
 returns c =
     let sub : HasApp c.new.result answer_app = record { app = c.new.ensures.app; local = c.new.ensures.local } in
-    IfOk-weaker c.subcommand.result _ _ (λ m h. added _ _ m replay_kds answer_app h c.in_ok-one.ensures sub) c.subcommand.ensures
+    IfOk-weaker c.subcommand.result _ _ (λ m h. added _ _ m replay_kds answer_app h c.in_ok-one.ensures sub)
+    c.subcommand.ensures

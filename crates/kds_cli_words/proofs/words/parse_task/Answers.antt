@@ -13,7 +13,8 @@ returns-in-Ok-clause-task c =
     let words = c.args.words.now.items in
     let app = c.in_ok-command.ensures.app in
     let texts : map string_bytes c.as_slice.result.now ≡ texts_of words = search rules in
-    let fine : fault_of kds_app (texts_of words) ≡ [] = sym (ap₂ fault_of app texts) ∙ c.in-Ok.ensures.kinds (ap is_simple_and_free app ∙ free) in
+    let fine : fault_of kds_app (texts_of words) ≡ [] =
+    sym (ap₂ fault_of app texts) ∙ c.in-Ok.ensures.kinds (ap is_simple_and_free app ∙ free) in
     c.read_task.ensures.task
     ∙ ap told ((c.in-Ok.ensures.matches (ap is_simple app ∙ simple)).1 ∙ ap₂ subcommand_of app texts)
     ∙ read_words words c.requires.words c.requires.few fine
@@ -23,5 +24,6 @@ returns-clause-task c =
     let words = c.args.words.now.items in
     let app = c.in_ok-command.ensures.app in
     let texts : map string_bytes c.as_slice.result.now ≡ texts_of words = search rules in
-    refused words _ c.kind.result _ c.requires.words c.requires.few (ap₂ fault_of app texts) c.kind.ensures (search rules)
+    refused words _ c.kind.result _ c.requires.words c.requires.few (ap₂ fault_of app texts) c.kind.ensures
+    (search rules)
     (c.in-Err.ensures.kinds (ap is_simple_and_free app ∙ free))

@@ -79,7 +79,8 @@ returns c =
     let some = body_is v (Some c.in-Some.body) hs c.in-Some.ensures f.length.value in
     let target = value_in c.args.front.now c.read_headers-found.result.target in
     let named = operation_is target _ hs (c.in_ok-operation.ensures ∙ c.operation.ensures) f.target.value in
-    let json = json_is (value_in c.args.front.now c.read_headers-found.result.media_type) _ hs c.says_json.ensures f.media_type.value in
+    let json = json_is (value_in c.args.front.now c.read_headers-found.result.media_type) _ hs c.says_json.ensures
+    f.media_type.value in
     let close = close_is c.args.spans.now.version c.read_headers-found.result.close _ hs c.closes.ensures f.close in
     passes _ _ _ _ (sym c.too_many.ensures ∙ c.if-too_many.false)
     (passes _ _ _ _ (sym f.encoding.some ∙ sym c.is_somewhere.ensures ∙ c.if-is_somewhere.false)

@@ -5,7 +5,8 @@ use Rattle.kds_lines.proofs.read.next_piece.Goals as goal
 
 pub returns-in-Err-clause-err : goal.returns-in-Err-clause-err
 returns-in-Err-clause-err g c = λ all start r.
-    halted_read (g.T.Taker.took c.args.taker.now) (g.T.Taker.broke c.args.taker.now) g.T.Taker.refuses g.T.Taker.output all _ _ start _ _ r c.in-Err.ensures.bytes
+    halted_read (g.T.Taker.took c.args.taker.now) (g.T.Taker.broke c.args.taker.now) g.T.Taker.refuses g.T.Taker.output
+    all _ _ start _ _ r c.in-Err.ensures.bytes
 
 pub returns-in-Err-flush-clause-err : goal.returns-in-Err-flush-clause-err
 returns-in-Err-flush-clause-err g c = λ all start r.
@@ -14,7 +15,10 @@ returns-in-Err-flush-clause-err g c = λ all start r.
     record {
       fed = r.fed ++ piece;
       consumed = Consumes-trans all _ _ r.fed piece r.consumed bytes;
-      halted = rw c.lost_after.ensures (fed_lost (g.T.Taker.took c.args.taker.now) (g.T.Taker.took c.feed-fed.new.taker) (g.T.Taker.broke c.feed-fed.new.taker) g.T.Taker.refuses g.T.Taker.output c.feed-fed.result piece c.args.reading.now c.feed-fed.new.reading _ _ _
+      halted = rw c.lost_after.ensures
+          (fed_lost (g.T.Taker.took c.args.taker.now) (g.T.Taker.took c.feed-fed.new.taker)
+          (g.T.Taker.broke c.feed-fed.new.taker) g.T.Taker.refuses g.T.Taker.output c.feed-fed.result piece
+          c.args.reading.now c.feed-fed.new.reading _ _ _
           c.feed-fed.ensures.ok c.feed-fed.ensures.err r.fed start r.stands (c.in-Err-flush.ensures.err start));
     }
 
@@ -25,7 +29,9 @@ returns-in-Ok-fed-clause-goes_on g c = λ all start r.
     record {
       fed = r.fed ++ piece;
       consumed = Consumes-trans all _ _ r.fed piece r.consumed bytes;
-      stands = stands_written (g.T.Taker.took c.args.taker.now) (g.T.Taker.took c.feed-fed.new.taker) (g.T.Taker.broke c.feed-fed.new.taker) g.T.Taker.refuses g.T.Taker.output (r.fed ++ piece) c.feed-fed.new.reading c.flush.new.self start _ _
+      stands = stands_written (g.T.Taker.took c.args.taker.now) (g.T.Taker.took c.feed-fed.new.taker)
+          (g.T.Taker.broke c.feed-fed.new.taker) g.T.Taker.refuses g.T.Taker.output (r.fed ++ piece)
+          c.feed-fed.new.reading c.flush.new.self start _ _
           c.flush.ensures.held c.flush.ensures.count c.flush.ensures.used (c.in-Ok-fed.ensures.ok r.fed start r.stands)
           (rw c.flush.ensures.output (c.in-Ok-flush.ensures.ok start));
       flushed = c.flush.ensures.output;
@@ -38,6 +44,8 @@ returns-in-Err-fed-clause-err g c = λ all start r.
     record {
       fed = r.fed ++ piece;
       consumed = Consumes-trans all _ _ r.fed piece r.consumed bytes;
-      halted = halted_written (g.T.Taker.took c.args.taker.now) (g.T.Taker.took c.feed-fed.new.taker) (g.T.Taker.broke c.feed-fed.new.taker) g.T.Taker.refuses g.T.Taker.output c.in-Err-fed.outcome (r.fed ++ piece) c.feed-fed.new.reading.output start _ _
+      halted = halted_written (g.T.Taker.took c.args.taker.now) (g.T.Taker.took c.feed-fed.new.taker)
+          (g.T.Taker.broke c.feed-fed.new.taker) g.T.Taker.refuses g.T.Taker.output c.in-Err-fed.outcome
+          (r.fed ++ piece) c.feed-fed.new.reading.output start _ _
           (c.in-Err-fed.ensures.err r.fed start r.stands) (c.in-Ok-flush.ensures.ok start);
     }

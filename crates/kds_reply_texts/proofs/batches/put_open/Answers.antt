@@ -16,4 +16,5 @@ returns c = λ children.
     let five = more t _ _ _ _ four c.in_ok-push_piece-4.ensures in
     let six = more t _ _ _ _ five c.in_ok-put_records.ensures in
     let seven = more t _ _ _ _ six c.in_ok-push_piece-5.ensures in
-    seven ∙ ap (λ (text : List ℕ). t ++ text) (open_pieces c.args.batch.now next c.args.behind children c.as_slice.result.now token)
+    seven ∙ ap (λ (text : List ℕ). t ++ text)
+    (open_pieces c.args.batch.now next c.args.behind children c.as_slice.result.now token)

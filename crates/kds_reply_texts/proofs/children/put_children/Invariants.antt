@@ -9,6 +9,7 @@ use Rattle.kds_reply_texts.proofs.children.put_children.Given as goal
 -- with those of the shards that are left, the tokens so far are all of them
 abbrev pub invariant-loop-shard : goal.invariant-loop-shard
 invariant-loop-shard l = record {
-  all : l.out.tokens ++ items_tokens (items_outline (items_of (map child_data (drop l.shard-index l.shards)))) ≡ l.fn.out.tokens ++ begin_array ∷ items_tokens (items_outline (items_of (map child_data l.shards)));
+  all : l.out.tokens ++ items_tokens (items_outline (items_of (map child_data (drop l.shard-index l.shards))))
+      ≡ l.fn.out.tokens ++ begin_array ∷ items_tokens (items_outline (items_of (map child_data l.shards)));
   before : l.out.before ≡ l.fn.out.before;
 }

@@ -10,7 +10,10 @@ pub returns-clause-text : goal.returns-clause-text
 returns-clause-text c =
     let bytes = c.args.bytes.now in
     let end : c.args.at + c.in-Ok.size ≡ c.args.at + encoded_size (length bytes) true = search rules in
-    let written = encoded_by c.args.engine.now bytes _ c.encode_slice.new.output c.requires.standard c.in-Ok.ensures.written in
-    over_part c.args.at _ (c.args.at + c.in-Ok.size) c.args.buffer.now c.encode_slice.new.output (encode_of standard bytes) _
+    let written = encoded_by c.args.engine.now bytes _ c.encode_slice.new.output c.requires.standard
+    c.in-Ok.ensures.written in
+    over_part c.args.at _ (c.args.at + c.in-Ok.size) c.args.buffer.now c.encode_slice.new.output
+    (encode_of standard bytes) _
     written (omega arith) (omega (arith, length-encoded bytes))
-    ∙ ap (λ (text : List ℕ). take c.args.at c.args.buffer.now ++ text) (sym (escape-encoded bytes (λ k. omega (arith, c.type_inv.bytes k))))
+    ∙ ap (λ (text : List ℕ). take c.args.at c.args.buffer.now ++ text)
+    (sym (escape-encoded bytes (λ k. omega (arith, c.type_inv.bytes k))))

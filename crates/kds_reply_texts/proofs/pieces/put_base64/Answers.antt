@@ -15,14 +15,17 @@ returns c =
     let at : ℕ = c.len-at.result in
     let new : List ℕ = c.encode_slice.new.output in
     let made : List ℕ = c.push_zeros.new.out.items in
-    let size = size_is (length bytes) c.in-Some.size _ c.encoded_len.ensures.fits c.encoded_len.ensures.too_long c.in-Some.is in
+    let size = size_is (length bytes) c.in-Some.size _ c.encoded_len.ensures.fits c.encoded_len.ensures.too_long
+    c.in-Some.is in
     let front : take at s ≡ old =
-    ap (λ (x : List ℕ). take at x) c.as_mut_slice.ensures.value ∙ ap (λ (n : ℕ). take n made) c.len-at.ensures ∙ c.push_zeros.ensures.front in
+    ap (λ (x : List ℕ). take at x) c.as_mut_slice.ensures.value ∙ ap (λ (n : ℕ). take n made) c.len-at.ensures
+    ∙ c.push_zeros.ensures.front in
     let begun = c.len-at.ensures in
     let sizes = c.as_mut_slice.ensures.len in
     let grown = c.in_ok-push_zeros.ensures.len in
     let same = c.encode_slice.auto.output in
     let whole : length new + at ≡ length s = omega (arith, length-take (length s - at) (drop at s), length-drop at s) in
-    written_over s new made old (encode_of standard bytes) _ at c.in-Some.size (encoded_size (length bytes) true) c.push_zeros.new.out.len front (omega arith) (omega arith) (omega arith) size same whole
+    written_over s new made old (encode_of standard bytes) _ at c.in-Some.size (encoded_size (length bytes) true)
+    c.push_zeros.new.out.len front (omega arith) (omega arith) (omega arith) size same whole
     c.in-Ok.ensures.written
     ∙ ap (λ (text : List ℕ). old ++ text) (sym (escape-encoded bytes (λ k. omega (arith, c.type_inv.bytes k))))

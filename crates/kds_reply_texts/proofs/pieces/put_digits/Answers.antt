@@ -3,4 +3,5 @@ use Rattle.kds_reply_texts.proofs.PlainTexts.{escape-decimal}
 use Rattle.kds_reply_texts.proofs.pieces.put_digits.Goals as goal
 
 pub returns : goal.returns
-returns c = c.in_ok-put_decimal.ensures ∙ ap (λ (text : List ℕ). c.args.out.now.items ++ text) (sym (escape-decimal c.args.n (search rules)))
+returns c = c.in_ok-put_decimal.ensures
+    ∙ ap (λ (text : List ℕ). c.args.out.now.items ++ text) (sym (escape-decimal c.args.n (search rules)))

@@ -8,4 +8,5 @@ pub returns : goal.returns
 returns c =
     let bytes : c.as_bytes.result.now ≡ c.args.text.now = search rules in
     let utf8 : IsUtf8 c.args.text.now = search rules in
-    c.in_ok-put_escaped.ensures ∙ ap (λ (s : List ℕ). c.args.out.now.items ++ escape s) (rw bytes (utf8_lossy-IsUtf8 c.args.text.now utf8))
+    c.in_ok-put_escaped.ensures
+    ∙ ap (λ (s : List ℕ). c.args.out.now.items ++ escape s) (rw bytes (utf8_lossy-IsUtf8 c.args.text.now utf8))

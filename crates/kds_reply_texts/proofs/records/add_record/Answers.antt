@@ -19,7 +19,9 @@ returns-clause-text c =
     let same : length c.write_record.new.buffer ≡ c.ensure_length.new.out.len =
     omega (arith, c.write_record.ensures.len, c.write_comma-at.ensures.len, c.as_mut_slice-buffer.ensures.len) in
     let parted = c.write_comma-at.ensures.text ∙ ap (λ (s : List ℕ). s ++ comma_if c.args.later) front in
-    over_vec c.write_record.result c.ensure_length.new.out.len c.write_record.new.buffer c.ensure_length.new.out.items same
+    over_vec c.write_record.result c.ensure_length.new.out.len c.write_record.new.buffer c.ensure_length.new.out.items
+    same
     ∙ more t _ _ _ _ parted c.write_record.ensures.text
     ∙ ap (λ (s : List ℕ). t ++ (comma_if c.args.later ++ s))
-    (record_over r c.args.front.now c.as_slice-payload.result.now c.as_slice-key.result.now c.requires.front payload key)
+    (record_over r c.args.front.now c.as_slice-payload.result.now c.as_slice-key.result.now c.requires.front payload
+    key)

@@ -10,7 +10,8 @@ returns c =
     let payload : c.as_slice.result.now ≡ r.payload = search rules in
     let name : c.as_slice-2.result.now ≡ r.key = search rules in
     let t = c.args.out.now.items in
-    let two = more t c.push_piece.new.out.items c.put_decimal.new.out.items _ _ c.in_ok-push_piece.ensures c.in_ok-put_decimal.ensures in
+    let two = more t c.push_piece.new.out.items c.put_decimal.new.out.items _ _ c.in_ok-push_piece.ensures
+    c.in_ok-put_decimal.ensures in
     let three = more t c.put_decimal.new.out.items c.push_piece-2.new.out.items _ _ two c.in_ok-push_piece-2.ensures in
     let four = more t c.push_piece-2.new.out.items c.put_base64.new.out.items _ _ three c.in_ok-put_base64.ensures in
     let five = more t c.put_base64.new.out.items c.push_piece-3.new.out.items _ _ four c.in_ok-push_piece-3.ensures in
@@ -18,4 +19,5 @@ returns c =
     let seven = more t c.put_replaced.new.out.items c.push_piece-4.new.out.items _ _ six c.in_ok-push_piece-4.ensures in
     let eight = more t c.push_piece-4.new.out.items c.put_seq.new.out.items _ _ seven c.in_ok-put_seq.ensures in
     let nine = more t c.put_seq.new.out.items c.push_piece-5.new.out.items _ _ eight c.in_ok-push_piece-5.ensures in
-    nine ∙ ap (λ (text : List ℕ). t ++ text) (record_pieces r c.seconds.result c.as_slice.result.now c.as_slice-2.result.now arrival payload name)
+    nine ∙ ap (λ (text : List ℕ). t ++ text)
+    (record_pieces r c.seconds.result c.as_slice.result.now c.as_slice-2.result.now arrival payload name)

@@ -12,4 +12,5 @@ returns-clause-text c =
     let five = more t _ _ _ _ four c.write_piece-at-4.ensures.text in
     let six = more t _ _ _ _ five c.write_seq-at.ensures.text in
     let seven = more t _ _ _ _ six c.write_piece.ensures.text in
-    seven ∙ ap (λ (text : List ℕ). t ++ text) (record_in_pieces c.args.front.now c.args.payload.now c.args.key.now c.args.seq)
+    seven ∙ ap (λ (text : List ℕ). t ++ text)
+    (record_in_pieces c.args.front.now c.args.payload.now c.args.key.now c.args.seq)

@@ -13,5 +13,7 @@ text_of-requires c =
 pub returns : goal.returns
 returns c =
     let token : c.text_of.result.now ≡ iter_token c.args.iter.now = search rules in
-    let all = added _ _ _ _ (added _ _ _ _ (begun _ _ _ c.in_ok-out.ensures.nothing c.in_ok-begin_object.ensures.ok) c.in_ok-put_text.ensures.ok) c.in_ok-end_object.ensures.ok in
+    let all = added _ _ _ _
+    (added _ _ _ _ (begun _ _ _ c.in_ok-out.ensures.nothing c.in_ok-begin_object.ensures.ok)
+    c.in_ok-put_text.ensures.ok) c.in_ok-end_object.ensures.ok in
     c.written.ensures (iterator_data c.args.iter.now) (all ∙ iterator_tokens c.args.iter.now _ token)

@@ -8,7 +8,8 @@ use Rattle.kds_service.proofs.clocks.advance_all.Given as goal
 -- the streams so far stand at the clock, and the others are as they were; all show what they showed
 abbrev pub invariant-loop-i : goal.invariant-loop-i
 invariant-loop-i l = record {
-  value : values l.streams ≡ map (advanced l.clock) (take l.i (values l.initial.streams)) ++ drop l.i (values l.initial.streams);
+  value : values l.streams ≡ map (advanced l.clock) (take l.i (values l.initial.streams))
+      ++ drop l.i (values l.initial.streams);
   keys : keys l.streams ≡ keys l.initial.streams;
   shows : (log : Journal) → AreShown log (values l.initial.streams) → AreShown log (values l.streams);
 }

@@ -10,8 +10,10 @@ loop-i-preserved c =
     let i = c.loop-i.i in
     let vs = values c.args.streams.now in
     let new = c.retreat.new.self in
-    let here = sym (get_rest retreated vs i) ∙ ap (λ xs. slice_get xs i) (sym c.loop-i.invariant.value) ∙ c.index_mut.ensures.value in
+    let here = sym (get_rest retreated vs i) ∙ ap (λ xs. slice_get xs i) (sym c.loop-i.invariant.value)
+    ∙ c.index_mut.ensures.value in
     record {
-      value = values_set c.loop-i.streams.entries i new ∙ ap (λ xs. slice_set xs i new) c.loop-i.invariant.value ∙ ap (slice_set _ i) c.retreat.ensures ∙ set_rest retreated vs i _ here;
+      value = values_set c.loop-i.streams.entries i new ∙ ap (λ xs. slice_set xs i new) c.loop-i.invariant.value
+          ∙ ap (slice_set _ i) c.retreat.ensures ∙ set_rest retreated vs i _ here;
       keys = keys_set c.loop-i.streams.entries i new ∙ c.loop-i.invariant.keys;
     }

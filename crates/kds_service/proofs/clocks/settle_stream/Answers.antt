@@ -11,7 +11,8 @@ use Rattle.kds_service.proofs.clocks.settle_stream.Goals as goal
 pub returns-then-i-len-clause-value : goal.returns-then-i-len-clause-value
 returns-then-i-len-clause-value c =
     let vs = values c.args.streams.now in
-    values_set c.args.streams.now.entries c.args.i c.settle.new.self ∙ settled_here c.args.i vs _ c.settle.new.self c.index_mut.ensures.value c.settle.ensures.dropped
+    values_set c.args.streams.now.entries c.args.i c.settle.new.self
+    ∙ settled_here c.args.i vs _ c.settle.new.self c.index_mut.ensures.value c.settle.ensures.dropped
 
 pub returns-then-i-len-clause-keys : goal.returns-then-i-len-clause-keys
 returns-then-i-len-clause-keys c = keys_set c.args.streams.now.entries c.args.i c.settle.new.self
@@ -24,4 +25,6 @@ returns-then-i-len-clause-shows c log shown =
     (c.settle.ensures.shows log (all_get (λ v. Shows v log) c.args.i vs _ shown c.index_mut.ensures.value)))
 
 pub returns-else-i-len-clause-value : goal.returns-else-i-len-clause-value
-returns-else-i-len-clause-value c = settled_beyond c.args.i (values c.args.streams.now) (omega (arith, length-values_of c.args.streams.now.entries, c.if-i-len.false))
+returns-else-i-len-clause-value c =
+    settled_beyond c.args.i (values c.args.streams.now)
+    (omega (arith, length-values_of c.args.streams.now.entries, c.if-i-len.false))

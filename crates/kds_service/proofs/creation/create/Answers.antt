@@ -21,12 +21,16 @@ returns-then-is_some-clause-leads c before =
 pub returns-then-is_full-clause-leads : goal.returns-then-is_full-clause-leads
 returns-then-is_full-clause-leads c before =
     let a = c.args in
-    create_full a.clock before a.made.now (values a.streams.now) a.name a.shards (ap is_some (sym c.index_by_name.ensures.value) ∙ sym c.is_some.ensures ∙ c.if-is_some.false) (sym c.is_full.ensures ∙ c.if-is_full.true)
+    create_full a.clock before a.made.now (values a.streams.now) a.name a.shards
+    (ap is_some (sym c.index_by_name.ensures.value) ∙ sym c.is_some.ensures ∙ c.if-is_some.false)
+    (sym c.is_full.ensures ∙ c.if-is_full.true)
 
 pub returns-then-last-clause-leads : goal.returns-then-last-clause-leads
 returns-then-last-clause-leads c before =
     let a = c.args in
-    create_spent a.clock before a.made.now (values a.streams.now) a.name a.shards (ap is_some (sym c.index_by_name.ensures.value) ∙ sym c.is_some.ensures ∙ c.if-is_some.false) (sym c.is_full.ensures ∙ c.if-is_full.false)
+    create_spent a.clock before a.made.now (values a.streams.now) a.name a.shards
+    (ap is_some (sym c.index_by_name.ensures.value) ∙ sym c.is_some.ensures ∙ c.if-is_some.false)
+    (sym c.is_full.ensures ∙ c.if-is_full.false)
     (eq-eqb a.made.now last_number c.if-last.true)
 
 pub returns-clause-leads : goal.returns-clause-leads
@@ -35,13 +39,17 @@ returns-clause-leads c before =
     let es = a.streams.now.entries in
     let absent = ap is_some (sym c.index_by_name.ensures.value) ∙ sym c.is_some.ensures ∙ c.if-is_some.false in
     let none =
-    ap (λ k. position_from (same_name k) 0 (keys_of es)) c.in_ok-key.ensures ∙ ap (position_from (same_name a.name) 0) c.requires.placed.named
+    ap (λ k. position_from (same_name k) 0 (keys_of es)) c.in_ok-key.ensures
+    ∙ ap (position_from (same_name a.name) 0) c.requires.placed.named
     ∙ of_none _ absent in
-    let pushed = c.in_ok-insert.ensures.entries ∙ insert_last same_name 0 es c.in_ok-key.key c.in_ok-stream.stream none in
+    let pushed = c.in_ok-insert.ensures.entries
+    ∙ insert_last same_name 0 es c.in_ok-key.key c.in_ok-stream.stream none in
     let of = c.in_ok-stream.ensures in
-    create_done a.clock before a.made.now (values a.streams.now) a.name a.shards _ _ c.in_ok-stream.stream c.others.ensures.added absent (sym c.is_full.ensures ∙ c.if-is_full.false)
+    create_done a.clock before a.made.now (values a.streams.now) a.name a.shards _ _ c.in_ok-stream.stream
+    c.others.ensures.added absent (sym c.is_full.ensures ∙ c.if-is_full.false)
     (is_other a.made.now last_number c.if-last.false) refl
-    (ap values_of pushed ∙ map-append (λ e. e.1) es ((c.in_ok-key.key, c.in_ok-stream.stream) ∷ [])) of.fields.0 of.fields.2 of.shows
+    (ap values_of pushed ∙ map-append (λ e. e.1) es ((c.in_ok-key.key, c.in_ok-stream.stream) ∷ []))
+    of.fields.0 of.fields.2 of.shows
 
 pub returns-clause-placed : goal.returns-clause-placed
 returns-clause-placed c =
@@ -49,7 +57,10 @@ returns-clause-placed c =
     let es = a.streams.now.entries in
     let absent = ap is_some (sym c.index_by_name.ensures.value) ∙ sym c.is_some.ensures ∙ c.if-is_some.false in
     let none =
-    ap (λ k. position_from (same_name k) 0 (keys_of es)) c.in_ok-key.ensures ∙ ap (position_from (same_name a.name) 0) c.requires.placed.named
+    ap (λ k. position_from (same_name k) 0 (keys_of es)) c.in_ok-key.ensures
+    ∙ ap (position_from (same_name a.name) 0) c.requires.placed.named
     ∙ of_none _ absent in
-    let pushed = c.in_ok-insert.ensures.entries ∙ insert_last same_name 0 es c.in_ok-key.key c.in_ok-stream.stream none in
-    placed_push a.clock es _ c.in_ok-key.key c.in_ok-stream.stream c.requires.placed pushed (c.in_ok-key.ensures ∙ sym c.in_ok-stream.ensures.fields.1) c.in_ok-stream.ensures.fields.2
+    let pushed = c.in_ok-insert.ensures.entries
+    ∙ insert_last same_name 0 es c.in_ok-key.key c.in_ok-stream.stream none in
+    placed_push a.clock es _ c.in_ok-key.key c.in_ok-stream.stream c.requires.placed pushed (c.in_ok-key.ensures
+    ∙ sym c.in_ok-stream.ensures.fields.1) c.in_ok-stream.ensures.fields.2

@@ -7,14 +7,17 @@ use Rattle.kds_service.proofs.Lists.{there_is}
 use Rattle.kds_service.proofs.creation.delete.Goals as goal
 
 pub returns-in-None-clause-leads : goal.returns-in-None-clause-leads
-returns-in-None-clause-leads c = delete_none c.args.clock (values c.args.streams.now) c.args.name.now c.in-None.ensures.value
+returns-in-None-clause-leads c =
+    delete_none c.args.clock (values c.args.streams.now) c.args.name.now c.in-None.ensures.value
 
 pub returns-in-Some-clause-leads : goal.returns-in-Some-clause-leads
 returns-in-Some-clause-leads c =
     let a = c.args in
     let x = there_is c.in-Some.i (values a.streams.now) c.in-Some.ensures.within in
-    delete_done a.clock (values a.streams.now) a.name.now c.in-Some.i _ x.0 c.others.ensures.removed c.in-Some.ensures.value x.1
+    delete_done a.clock (values a.streams.now) a.name.now c.in-Some.i _ x.0 c.others.ensures.removed
+    c.in-Some.ensures.value x.1
     (ap values_of c.shift_remove_index.ensures.entries ∙ map_take_out (λ e. e.1) a.streams.now.entries c.in-Some.i)
 
 pub returns-in-Some-clause-placed : goal.returns-in-Some-clause-placed
-returns-in-Some-clause-placed c = placed_remove c.args.clock c.in-Some.i c.args.streams.now.entries _ c.requires c.shift_remove_index.ensures.entries
+returns-in-Some-clause-placed c =
+    placed_remove c.args.clock c.in-Some.i c.args.streams.now.entries _ c.requires c.shift_remove_index.ensures.entries

@@ -9,4 +9,5 @@ pub returns-in-Some : goal.returns-in-Some
 returns-in-Some c = λ clock b n log all.
     let a = c.args in
     at_key (λ m s. c.position.result ≡ origin_position log m (ref s a.key.now.shard) a.from)
-    log clock b n a.key.now.stream (values a.streams.now) c.in-Some.stream.now all c.in-Some.ensures (c.position.ensures log)
+    log clock b n a.key.now.stream (values a.streams.now) c.in-Some.stream.now all c.in-Some.ensures
+    (c.position.ensures log)

@@ -10,10 +10,14 @@ pub returns-in-Some-clause-batch : goal.returns-in-Some-clause-batch
 returns-in-Some-clause-batch c = λ clock b n log all.
     let a = c.args in
     at_key (λ m s. IfOk c.read.result (λ r. r.0 ≡ map stored (batch log m s a.key.now.shard a.position a.limit)))
-    log clock b n a.key.now.stream (values a.streams.now) c.in-Some.stream.now all c.in-Some.ensures (c.read.ensures.batch log)
+    log clock b n a.key.now.stream (values a.streams.now) c.in-Some.stream.now all c.in-Some.ensures
+    (c.read.ensures.batch log)
 
 pub returns-in-Some-clause-end : goal.returns-in-Some-clause-end
 returns-in-Some-clause-end c = λ clock b n log all.
     let a = c.args in
-    at_key (λ m s. IfOk c.read.result (λ r. r.1 ≡ ends_at log m s a.key.now.shard (place_after a.position (numbers_of (batch log m s a.key.now.shard a.position a.limit)))))
-    log clock b n a.key.now.stream (values a.streams.now) c.in-Some.stream.now all c.in-Some.ensures (c.read.ensures.end log)
+    at_key (λ m s. IfOk c.read.result
+    (λ r. r.1 ≡ ends_at log m s a.key.now.shard
+    (place_after a.position (numbers_of (batch log m s a.key.now.shard a.position a.limit)))))
+    log clock b n a.key.now.stream (values a.streams.now) c.in-Some.stream.now all c.in-Some.ensures
+    (c.read.ensures.end log)

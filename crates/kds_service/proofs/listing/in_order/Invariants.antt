@@ -5,4 +5,5 @@ use Rattle.kds_service.proofs.listing.in_order.Given as goal
 
 -- with the names that are left, the names so far are all of them
 abbrev pub invariant-loop-i : goal.invariant-loop-i
-invariant-loop-i l = map (λ n. n.now) l.names.items ++ names_of (drop l.i (values l.streams)) ≡ names_of (values l.streams)
+invariant-loop-i l = map (λ n. n.now) l.names.items ++ names_of (drop l.i (values l.streams))
+    ≡ names_of (values l.streams)

@@ -6,4 +6,5 @@ use Rattle.kds_service.proofs.lookup.find.Goals as goal
 
 pub returns-in-Some-clause-value : goal.returns-in-Some-clause-value
 returns-in-Some-clause-value c =
-    c.index_by_number.ensures.value ∙ sym (token_place (values c.args.streams.now) c.args.what.now c.in-Some.no (sym c.in-Some.ensures))
+    c.index_by_number.ensures.value
+    ∙ sym (token_place (values c.args.streams.now) c.args.what.now c.in-Some.no (sym c.in-Some.ensures))

@@ -11,7 +11,8 @@ pub returns-in-Delete-clause-leads : goal.returns-in-Delete-clause-leads
 returns-in-Delete-clause-leads c before =
     let a = c.args in
     let w = c.in-Delete in
-    serve_leads {E = Unit {0}} (Ok c.delete.result) a.clock before a.made.now (values a.streams.now) (values c.delete.new.streams) a.what
+    serve_leads {E = Unit {0}} (Ok c.delete.result) a.clock before a.made.now (values a.streams.now)
+    (values c.delete.new.streams) a.what
     (command.Delete w.name) c.delete.ensures.leads w.is
 
 pub returns-in-Streams-clause-leads : goal.returns-in-Streams-clause-leads

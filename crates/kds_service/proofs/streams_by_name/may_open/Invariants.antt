@@ -6,4 +6,5 @@ use Rattle.kds_service.proofs.streams_by_name.may_open.Given as goal
 
 -- what may still be open, less what is open in the streams that are left
 abbrev pub invariant-loop-i : goal.invariant-loop-i
-invariant-loop-i l = l.left + open_total (values l.streams) + l.more ≡ OPEN_SHARDS + open_total (drop l.i (values l.streams))
+invariant-loop-i l = l.left + open_total (values l.streams) + l.more
+    ≡ OPEN_SHARDS + open_total (drop l.i (values l.streams))

@@ -7,4 +7,5 @@ use Rattle.kds_service.proofs.streams_by_name.open_limit.Given as goal
 
 -- less what is open in the streams that are left, what may still be open is what may be beside all
 abbrev pub invariant-loop-i : goal.invariant-loop-i
-invariant-loop-i l = l.left - open_beside (drop l.i (values l.streams)) l.no ≡ OPEN_SHARDS - open_beside (values l.streams) l.no
+invariant-loop-i l = l.left - open_beside (drop l.i (values l.streams)) l.no
+    ≡ OPEN_SHARDS - open_beside (values l.streams) l.no

@@ -11,16 +11,21 @@ use Rattle.kds_stream_logs.proofs.reading.batch_at.Goals as goal
 
 pub place_after-place-requires : goal.place_after-place-requires
 place_after-place-requires c =
-    subst (AllByRecursion (λ (r : Stored). r.seq < 18446744073709551615)) (sym (c.as_slice.ensures ∙ c.in_ok-batch.ensures.value))
-    (batch_below 18446744073709551615 (floor_of c.args.cut) c.args.position c.args.limit (log_of c.args.log.now) c.requires c.batch.ensures.orderly)
+    subst (AllByRecursion (λ (r : Stored). r.seq < 18446744073709551615))
+    (sym (c.as_slice.ensures ∙ c.in_ok-batch.ensures.value))
+    (batch_below 18446744073709551615 (floor_of c.args.cut) c.args.position c.args.limit (log_of c.args.log.now)
+    c.requires c.batch.ensures.orderly)
 
 pub returns-clause-place : goal.returns-clause-place
 returns-clause-place c =
     c.place_after-place.ensures
-    ∙ ap (λ (items : List Stored). place_after c.args.position (map (λ (r : Stored). r.seq) items)) (c.as_slice.ensures ∙ c.in_ok-batch.ensures.value)
-    ∙ ap (place_after c.args.position) (numbers_stored (batch_among (floor_of c.args.cut) c.args.position c.args.limit c.args.log.now.kept))
+    ∙ ap (λ (items : List Stored). place_after c.args.position (map (λ (r : Stored). r.seq) items)) (c.as_slice.ensures
+    ∙ c.in_ok-batch.ensures.value)
+    ∙ ap (place_after c.args.position)
+    (numbers_stored (batch_among (floor_of c.args.cut) c.args.position c.args.limit c.args.log.now.kept))
 
 pub returns-clause-numbers : goal.returns-clause-numbers
 returns-clause-numbers c =
     subst (AllByRecursion (λ (r : Stored). r.seq < 18446744073709551615)) (sym c.in_ok-batch.ensures.value)
-    (batch_below 18446744073709551615 (floor_of c.args.cut) c.args.position c.args.limit (log_of c.args.log.now) c.requires c.batch.ensures.orderly)
+    (batch_below 18446744073709551615 (floor_of c.args.cut) c.args.position c.args.limit (log_of c.args.log.now)
+    c.requires c.batch.ensures.orderly)

@@ -10,31 +10,44 @@ use Rattle.kds_stream_logs.proofs.routes.append_all.Goals as goal
 pub append_reserved-requires-clause-room : goal.append_reserved-requires-clause-room
 append_reserved-requires-clause-room c =
     let can = subst (CanTakeAll c.loop-next.logs) c.in-Some.ensures.items c.loop-next.invariant.can in
-    let below : c.shard.inside.0 < length c.loop-next.logs = omega (arith, can.each.0.within, as_many_logs c.loop-next.logs, c.shard.view_is) in
+    let below : c.shard.inside.0 < length c.loop-next.logs =
+    omega (arith, can.each.0.within, as_many_logs c.loop-next.logs, c.shard.view_is) in
     let at : c.shard.inside.0 ≡ c.in-Some.next.shard = c.shard.view_is in
-    omega (arith, room_left c.loop-next.logs c.shard.inside.0 c.in-Some.next c.pop_front.new.self.items at can, room_is c.loop-next.logs c.shard.inside.0 c.index-logs-shard.result below)
+    omega (
+      arith,
+      room_left c.loop-next.logs c.shard.inside.0 c.in-Some.next c.pop_front.new.self.items at can,
+      room_is c.loop-next.logs c.shard.inside.0 c.index-logs-shard.result below,
+    )
 
 pub append_reserved-requires-clause-number : goal.append_reserved-requires-clause-number
 append_reserved-requires-clause-number c =
     let can = subst (CanTakeAll c.loop-next.logs) c.in-Some.ensures.items c.loop-next.invariant.can in
-    let below : c.shard.inside.0 < length c.loop-next.logs = omega (arith, can.each.0.within, as_many_logs c.loop-next.logs, c.shard.view_is) in
-    under_some _ _ (all_logs_at (IsBelow c.in-Some.next.item.seq) c.loop-next.logs c.shard.inside.0 c.index-logs-shard.result below can.each.0.number)
+    let below : c.shard.inside.0 < length c.loop-next.logs =
+    omega (arith, can.each.0.within, as_many_logs c.loop-next.logs, c.shard.view_is) in
+    under_some _ _ (all_logs_at (IsBelow c.in-Some.next.item.seq) c.loop-next.logs c.shard.inside.0
+    c.index-logs-shard.result below can.each.0.number)
 
 pub append_reserved-requires-clause-arrival : goal.append_reserved-requires-clause-arrival
 append_reserved-requires-clause-arrival c =
     let can = subst (CanTakeAll c.loop-next.logs) c.in-Some.ensures.items c.loop-next.invariant.can in
-    let below : c.shard.inside.0 < length c.loop-next.logs = omega (arith, can.each.0.within, as_many_logs c.loop-next.logs, c.shard.view_is) in
-    all_logs_at (HasArrived c.in-Some.next.item.arrival) c.loop-next.logs c.shard.inside.0 c.index-logs-shard.result below can.each.0.arrival
+    let below : c.shard.inside.0 < length c.loop-next.logs =
+    omega (arith, can.each.0.within, as_many_logs c.loop-next.logs, c.shard.view_is) in
+    all_logs_at (HasArrived c.in-Some.next.item.arrival) c.loop-next.logs c.shard.inside.0 c.index-logs-shard.result
+    below can.each.0.arrival
 
 pub loop-next-preserved : goal.loop-next-preserved
 loop-next-preserved c =
     let next = c.in-Some.next in
     let rest = c.pop_front.new.self.items in
     let can = subst (CanTakeAll c.loop-next.logs) c.in-Some.ensures.items c.loop-next.invariant.can in
-    let below : c.shard.inside.0 < length c.loop-next.logs = omega (arith, can.each.0.within, as_many_logs c.loop-next.logs, c.shard.view_is) in
+    let below : c.shard.inside.0 < length c.loop-next.logs =
+    omega (arith, can.each.0.within, as_many_logs c.loop-next.logs, c.shard.view_is) in
     record {
-      can = taken_one c.loop-next.logs c.shard.inside.0 c.index-logs-shard.result c.append_reserved.new.self next rest c.shard.view_is below c.append_reserved.ensures.room c.append_reserved.ensures.value can;
+      can = taken_one c.loop-next.logs c.shard.inside.0 c.index-logs-shard.result c.append_reserved.new.self next rest
+          c.shard.view_is below c.append_reserved.ensures.room c.append_reserved.ensures.value can;
       goes_on =
-          with_one c.loop-next.logs c.shard.inside.0 c.index-logs-shard.result c.append_reserved.new.self next rest c.shard.view_is below c.append_reserved.ensures.room c.append_reserved.ensures.value can
-          ∙ ap (λ (rs : List Routed). with_each rs (map log_of c.loop-next.logs)) (sym c.in-Some.ensures.items) ∙ c.loop-next.invariant.goes_on;
+          with_one c.loop-next.logs c.shard.inside.0 c.index-logs-shard.result c.append_reserved.new.self next rest
+          c.shard.view_is below c.append_reserved.ensures.room c.append_reserved.ensures.value can
+          ∙ ap (λ (rs : List Routed). with_each rs (map log_of c.loop-next.logs)) (sym c.in-Some.ensures.items)
+          ∙ c.loop-next.invariant.goes_on;
     }

@@ -8,7 +8,8 @@ abbrev pub invariant-loop-next : goal.invariant-loop-next
 invariant-loop-next l =
     record {
       can : CanTakeAll l.logs l.routed.items;
-      goes_on : with_each l.routed.items (map log_of l.logs) ≡ with_each l.initial.routed.items (map log_of l.initial.logs);
+      goes_on : with_each l.routed.items (map log_of l.logs)
+          ≡ with_each l.initial.routed.items (map log_of l.initial.logs);
     }
 
 abbrev pub decreases-loop-next : goal.decreases-loop-next

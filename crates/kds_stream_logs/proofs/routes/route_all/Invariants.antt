@@ -10,7 +10,8 @@ use Rattle.kds_stream_logs.proofs.routes.route_all.Given as goal
 abbrev pub invariant-loop-item : goal.invariant-loop-item
 invariant-loop-item l =
     record {
-      goes_on : (f : ℕ → List SizedPut) → StandFor f 0 l.initial.windows → GoesOn l.tree.shards l.clock l.enforced f l.first l.initial.items.items l.items.items l.routes l.windows;
+      goes_on : (f : ℕ → List SizedPut) → StandFor f 0 l.initial.windows
+          → GoesOn l.tree.shards l.clock l.enforced f l.first l.initial.items.items l.items.items l.routes l.windows;
       placed : ArePlaced l.tree.shards l.clock l.first l.routes;
       counted : AllByRecursion (IsCounted l.clock) l.windows;
       many : length l.windows ≡ length l.tree.shards;

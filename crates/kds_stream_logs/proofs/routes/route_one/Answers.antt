@@ -5,11 +5,17 @@ use Rattle.kds_stream_logs.proofs.routes.route_one.Goals as goal
 
 pub returns-then-holds_back-clause-placed : goal.returns-then-holds_back-clause-placed
 returns-then-holds_back-clause-placed c _ first placed =
-    let saved = placed_same c.args.tree.now.shards c.args.clock first c.args.routes.now c.save.new.self c.save.ensures.routed c.save.ensures.places c.save.ensures.next placed in
-    placed_same c.args.tree.now.shards c.args.clock first c.save.new.self c.hold_back.new.self c.in_ok-hold_back.ensures.routed c.in_ok-hold_back.ensures.places c.in_ok-hold_back.ensures.next saved
+    let saved = placed_same c.args.tree.now.shards c.args.clock first c.args.routes.now c.save.new.self
+    c.save.ensures.routed c.save.ensures.places c.save.ensures.next placed in
+    placed_same c.args.tree.now.shards c.args.clock first c.save.new.self c.hold_back.new.self
+    c.in_ok-hold_back.ensures.routed c.in_ok-hold_back.ensures.places c.in_ok-hold_back.ensures.next saved
 
 pub returns-clause-placed : goal.returns-clause-placed
 returns-clause-placed c _ first placed =
-    let saved = placed_same c.args.tree.now.shards c.args.clock first c.args.routes.now c.save.new.self c.save.ensures.routed c.save.ensures.places c.save.ensures.next placed in
-    placed_more c.args.tree.now.shards c.args.clock first c.home-shard.result c.save.new.self c.store.new.self c.args.item c.home-shard.ensures.value c.in_ok-store.ensures.routed c.in_ok-store.ensures.places c.in_ok-store.ensures.next (omega (arith, saved.fits, c.in_ok-store.ensures.next))
-    (slice_get_within c.args.tree.now.shards c.home-shard.result c.home-shard.ensures.found.state c.home-shard.ensures.found.made) saved
+    let saved = placed_same c.args.tree.now.shards c.args.clock first c.args.routes.now c.save.new.self
+    c.save.ensures.routed c.save.ensures.places c.save.ensures.next placed in
+    placed_more c.args.tree.now.shards c.args.clock first c.home-shard.result c.save.new.self c.store.new.self
+    c.args.item c.home-shard.ensures.value c.in_ok-store.ensures.routed c.in_ok-store.ensures.places
+    c.in_ok-store.ensures.next (omega (arith, saved.fits, c.in_ok-store.ensures.next))
+    (slice_get_within c.args.tree.now.shards c.home-shard.result c.home-shard.ensures.found.state
+    c.home-shard.ensures.found.made) saved

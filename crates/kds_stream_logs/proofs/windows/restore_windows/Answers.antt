@@ -19,7 +19,8 @@ loop-last-preserved c =
     let ws = c.loop-last.windows in
     let left = c.pop.new.self.items in
     let s = c.in-Some.last in
-    let over : length ws ≤ s.shard = omega (arith, c.if-i-windows.false, ap (λ (t : SavedWindow). t.shard) c.last.view_is) in
+    let over : length ws ≤ s.shard =
+    omega (arith, c.if-i-windows.false, ap (λ (t : SavedWindow). t.shard) c.last.view_is) in
     ap (restored left) (sym (set_outside ws s.shard s.window over))
     ∙ sym (restored_more left s ws)
     ∙ sym (ap (λ (ss : List SavedWindow). restored ss ws) c.in-Some.ensures.items)

@@ -9,4 +9,5 @@ returns-in-Ok c = sym (ap result_ok c.in-Ok.ensures.ok)
 
 pub returns-in-Err-DecodeError : goal.returns-in-Err-DecodeError
 unfolding decoded_of
-returns-in-Err-DecodeError c = sym (ap result_ok (rw c.in-Err-DecodeError.field-0-is at c.in-Err-DecodeError.ensures.err))
+returns-in-Err-DecodeError c =
+    sym (ap result_ok (rw c.in-Err-DecodeError.field-0-is at c.in-Err-DecodeError.ensures.err))

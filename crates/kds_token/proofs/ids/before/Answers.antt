@@ -8,4 +8,9 @@ returns-clause-bytes c =
     c.loop-known.invariant.zeros ∙ ap (λ k. codes "shardId-" ++ replicate k 48) same
 
 pub returns-clause-room : goal.returns-clause-room
-returns-clause-room c = omega (arith, ap length c.loop-known.invariant.zeros, length-replicate {A = ℕ} (c.loop-known.known - c.args.digits) 48)
+returns-clause-room c =
+    omega (
+      arith,
+      ap length c.loop-known.invariant.zeros,
+      length-replicate {A = ℕ} (c.loop-known.known - c.args.digits) 48,
+    )

@@ -11,7 +11,8 @@ returns-then-eq c =
 pub returns-else-eq : goal.returns-else-eq
 returns-else-eq c =
     let other : c.args.text.now ≢ shard_id c.in-Some.number = search rules in
-    no_id c.args.text.now (Some c.in-Some.number) _ refl c.in-Some.ensures (λ n same. let e : c.in-Some.number ≡ n = cc in λ is. other (is ∙ sym (ap shard_id e)))
+    no_id c.args.text.now (Some c.in-Some.number) _ refl c.in-Some.ensures (λ n same. let e : c.in-Some.number
+    ≡ n = cc in λ is. other (is ∙ sym (ap shard_id e)))
 
 pub returns-in-None : goal.returns-in-None
 returns-in-None c = no_id c.args.text.now None _ refl c.in-None.ensures (λ n same. cc)

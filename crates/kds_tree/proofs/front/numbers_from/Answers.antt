@@ -1,4 +1,5 @@
-use Rattle.std.proofs.Common.{◌≡◌, ◌-◌, ◌+◌, ◌<◌, ◌≤◌, List, ℕ, drop, get_or, length, ltb, refl, rules, arith, subst, sym}
+use Rattle.std.proofs.Common.{◌≡◌, ◌-◌, ◌+◌, ◌<◌, ◌≤◌, List, ℕ, drop, get_or, length, ltb, refl, rules, arith, subst}
+use Rattle.std.proofs.Common.{sym}
 use Rattle.std.proofs.lemmas.Bool.{ltb-false, ltb-true}
 use Rattle.std.proofs.lemmas.List.Sorted.{IsPartitionPoint-from_clause, IsPartitionedBy-ltb}
 use Rattle.kds_tree.specs.Front.{AreLeft}
@@ -10,8 +11,10 @@ returns c = λ floor count xs front.
     let names = c.args.numbers.now in
     let t = c.args.start in
     let at = c.partition_point-before.result in
-    let point = IsPartitionPoint-from_clause (λ (no : ℕ). ltb no t) names at c.partition_point-before.ensures.partitioned
-    (IsPartitionedBy-ltb (λ (no : ℕ). no) names t (names_rise floor 0 count names xs front)) (λ a r f' q. search rules) in
+    let point = IsPartitionPoint-from_clause (λ (no : ℕ). ltb no t)
+    names at c.partition_point-before.ensures.partitioned
+    (IsPartitionedBy-ltb (λ (no : ℕ). no) names t (names_rise floor 0 count names xs front))
+    (λ a r f' q. search rules) in
     let bound : at ≤ length names = search rules in
     subst (λ (us : List ℕ). AreLeft floor t (count - t) us (drop t xs)) (sym c.split_at.ensures.back)
     (names_behind floor 0 count t t (count - t) at names xs (omega arith) refl

@@ -11,7 +11,8 @@ loop-count-preserved c front = c.in-Ok.ensures.ok (c.loop-count.invariant front)
 
 pub returns-in-Err : goal.returns-in-Err
 returns-in-Err c front =
-    subst (λ (names : List ℕ). AreLeft (floor_of c.args.cut.now) 0 c.loop-count.count names c.args.shards.now) (sym c.in-Err.ensures.err)
+    subst (λ (names : List ℕ). AreLeft (floor_of c.args.cut.now) 0 c.loop-count.count names c.args.shards.now)
+    (sym c.in-Err.ensures.err)
     (c.loop-count.invariant front)
 
 pub returns-else-count-shards : goal.returns-else-count-shards

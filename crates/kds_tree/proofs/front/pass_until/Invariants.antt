@@ -6,7 +6,8 @@ use Rattle.kds_tree.proofs.front.pass_until.Given as goal
 -- all so far have expired or are named
 abbrev pub invariant-loop-count : goal.invariant-loop-count
 invariant-loop-count l =
-    AreLeft (floor_of l.cut) 0 l.start l.initial.left.items l.shards → AreLeft (floor_of l.cut) 0 l.count l.left.items l.shards
+    AreLeft (floor_of l.cut) 0 l.start l.initial.left.items l.shards
+    → AreLeft (floor_of l.cut) 0 l.count l.left.items l.shards
 
 abbrev pub decreases-loop-count : goal.decreases-loop-count
 decreases-loop-count l = length l.shards - l.count

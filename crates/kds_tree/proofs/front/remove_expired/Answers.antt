@@ -1,4 +1,5 @@
-use Rattle.std.proofs.Common.{◌≡◌, ◌+◌, ◌∙◌, Bool, true, false, List, ℕ, Option, Some, None, ap, arith, refl, rules, subst, sym}
+use Rattle.std.proofs.Common.{◌≡◌, ◌+◌, ◌∙◌, Bool, true, false, List, ℕ, Option, Some, None, ap, arith, refl, rules}
+use Rattle.std.proofs.Common.{subst, sym}
 use Rattle.std.specs.Prelude.{not, slice_get}
 use Rattle.std.proofs.lemmas.Fn.{filter_same}
 use Rattle.kds_defs.specs.Shards.{ShardState, is_closed_below}
@@ -13,5 +14,6 @@ returns c = λ count front.
     let xs = c.args.shards.now in
     let floor = floor_of c.args.cut.now in
     let keep : ℕ → Bool = λ (no : ℕ). not (was_expired floor (slice_get xs no)) in
-    subst (λ (names : List ℕ). AreLeft floor 0 count names xs) (sym (filter_same _ keep _ (λ x b f' k. search rules) _ _ c.retain.ensures.filtered))
+    subst (λ (names : List ℕ). AreLeft floor 0 count names xs)
+    (sym (filter_same _ keep _ (λ x b f' k. search rules) _ _ c.retain.ensures.filtered))
     (kept_left floor 0 count keep c.args.left.now.items xs (drops_expired floor xs) front)

@@ -9,7 +9,9 @@ returns-in-Some c = λ xs tree starts.
     let ss = c.args.starts.now in
     let k = c.args.hash in
     let i = c.partition_point-after.result in
-    let point = IsPartitionPoint-from_clause (λ (s : OpenStart). leb s.key k) ss i c.partition_point-after.ensures.partitioned (IsPartitionedBy-leb (λ (s : OpenStart). s.key) ss k starts.order) (λ a r f' q. search rules) in
+    let point = IsPartitionPoint-from_clause (λ (s : OpenStart). leb s.key k)
+    ss i c.partition_point-after.ensures.partitioned
+    (IsPartitionedBy-leb (λ (s : OpenStart). s.key) ss k starts.order) (λ a r f' q. search rules) in
     let at : c.saturating_sub.result ≡ i - 1 = search rules in
     let is : c.in-Some.start.now ≡ get_or ss c.saturating_sub.result c.in-Some.start.now = search rules in
     let bound : i ≤ length ss = search rules in
@@ -21,7 +23,9 @@ returns-in-None c = λ xs tree starts.
     let ss = c.args.starts.now in
     let k = c.args.hash in
     let i = c.partition_point-after.result in
-    let point = IsPartitionPoint-from_clause (λ (s : OpenStart). leb s.key k) ss i c.partition_point-after.ensures.partitioned (IsPartitionedBy-leb (λ (s : OpenStart). s.key) ss k starts.order) (λ a r f' q. search rules) in
+    let point = IsPartitionPoint-from_clause (λ (s : OpenStart). leb s.key k)
+    ss i c.partition_point-after.ensures.partitioned
+    (IsPartitionedBy-leb (λ (s : OpenStart). s.key) ss k starts.order) (λ a r f' q. search rules) in
     let at : c.saturating_sub.result ≡ i - 1 = search rules in
     let bound : i ≤ length ss = search rules in
     let over : length ss ≤ c.saturating_sub.result = search rules in

@@ -5,6 +5,7 @@ use Rattle.kds_tree.proofs.tree.list_numbers.Given as goal
 -- with those that are left, the listed ones so far are all of them, and there are no more than the limit
 abbrev pub invariant-loop-no : goal.invariant-loop-no
 invariant-loop-no l = record {
-  all : l.listed ++ listing l.cut (picked (drop l.no-index l.numbers) l.shards) ≡ l.initial.listed ++ listing l.cut (picked l.numbers l.shards);
+  all : l.listed ++ listing l.cut (picked (drop l.no-index l.numbers) l.shards) ≡ l.initial.listed
+      ++ listing l.cut (picked l.numbers l.shards);
   few : length l.listed ≤ l.limit;
 }

@@ -10,4 +10,5 @@ first_made : (at : ℕ) (name : List ℕ) → answer [] (request_turn at (comman
 first_made at name = ap answer_of (passed_if _ _ _ refl ∙ passed_if _ _ _ refl ∙ passed_if _ _ _ refl)
 
 pub note-requires-clause-answered : goal.note-requires-clause-answered
-note-requires-clause-answered c = ([], (c.new-scribe.ensures, sym (first_made _ _) ∙ ap (answer []) (sym c.request-turn.ensures)))
+note-requires-clause-answered c =
+    ([], (c.new-scribe.ensures, sym (first_made _ _) ∙ ap (answer []) (sym c.request-turn.ensures)))

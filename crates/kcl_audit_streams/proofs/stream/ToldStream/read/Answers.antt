@@ -6,9 +6,20 @@ use Rattle.kcl_audit_streams.proofs.stream.ToldStream.read.Goals as goal
 pub place_after_numbers-place-requires : goal.place_after_numbers-place-requires
 place_after_numbers-place-requires c =
     let a = c.args in
-    rw (c.as_slice-2.ensures, c.in_ok-numbers.ensures, c.from_position-ahead.ensures a.shard c.floor-floor.result, c.as_slice.ensures) (batch_below (2 ^ 64 - 1) a.shard c.floor-floor.result a.position a.limit BATCH_BYTES c.self.inside.records c.self.invariant.1.0)
+    rw (
+      c.as_slice-2.ensures,
+      c.in_ok-numbers.ensures,
+      c.from_position-ahead.ensures a.shard c.floor-floor.result,
+      c.as_slice.ensures,
+    ) (batch_below (2 ^ 64 - 1) a.shard c.floor-floor.result a.position a.limit BATCH_BYTES
+    c.self.inside.records c.self.invariant.1.0)
 
 pub returns-clause-small : goal.returns-clause-small
 returns-clause-small c =
     let a = c.args in
-    rw (c.in_ok-numbers.ensures, c.from_position-ahead.ensures a.shard c.floor-floor.result, c.as_slice.ensures) (batch_below (2 ^ 64 - 1) a.shard c.floor-floor.result a.position a.limit BATCH_BYTES c.self.inside.records c.self.invariant.1.0)
+    rw (
+      c.in_ok-numbers.ensures,
+      c.from_position-ahead.ensures a.shard c.floor-floor.result,
+      c.as_slice.ensures,
+    ) (batch_below (2 ^ 64 - 1) a.shard c.floor-floor.result a.position a.limit BATCH_BYTES
+    c.self.inside.records c.self.invariant.1.0)

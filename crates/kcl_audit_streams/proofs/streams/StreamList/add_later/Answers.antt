@@ -16,7 +16,8 @@ returns-then-is_deletion-clause-ok c =
     let vs = c.self.inside.all.items in
     let good : in_live (live_at vs a.no) f ≡ Ok tt = ap (λ us. in_live (live_at us a.no) f) c.self.view_is ∙ g.1 in
     let at = c.index_mut in
-    let set = changed_there vs a.no f good c.no.inside.0 c.no.view_is at.result.now at.ensures.value (with_entry a.clock a.what.now) c.add.new.self c.in_ok-add.ensures.ok in
+    let set = changed_there vs a.no f good c.no.inside.0 c.no.view_is at.result.now at.ensures.value
+    (with_entry a.clock a.what.now) c.add.new.self c.in_ok-add.ensures.ok in
     set ∙ ap (changed_at (a.no - 1) (with_entry a.clock a.what.now)) c.self.view_is
 
 pub returns-else-is_deletion-clause-ok : goal.returns-else-is_deletion-clause-ok
@@ -27,7 +28,8 @@ returns-else-is_deletion-clause-ok c =
     let vs = c.self.inside.all.items in
     let good : in_live (live_at vs a.no) f ≡ Ok tt = ap (λ us. in_live (live_at us a.no) f) c.self.view_is ∙ g.1 in
     let at = c.index_mut in
-    let set = changed_there vs a.no f good c.no.inside.0 c.no.view_is at.result.now at.ensures.value (with_entry a.clock a.what.now) c.add.new.self c.in_ok-add.ensures.ok in
+    let set = changed_there vs a.no f good c.no.inside.0 c.no.view_is at.result.now at.ensures.value
+    (with_entry a.clock a.what.now) c.add.new.self c.in_ok-add.ensures.ok in
     set ∙ ap (changed_at (a.no - 1) (with_entry a.clock a.what.now)) c.self.view_is
 
 pub invariant_of-self-then-is_deletion : goal.invariant_of-self-then-is_deletion
@@ -38,7 +40,8 @@ invariant_of-self-then-is_deletion c =
     let vs = c.self.inside.all.items in
     let good : in_live (live_at vs a.no) f ≡ Ok tt = ap (λ us. in_live (live_at us a.no) f) c.self.view_is ∙ g.1 in
     let at = c.index_mut in
-    let set = changed_there vs a.no f good c.no.inside.0 c.no.view_is at.result.now at.ensures.value (with_entry a.clock a.what.now) c.add.new.self c.in_ok-add.ensures.ok in
+    let set = changed_there vs a.no f good c.no.inside.0 c.no.view_is at.result.now at.ensures.value
+    (with_entry a.clock a.what.now) c.add.new.self c.in_ok-add.ensures.ok in
     let some = (is_of vs a.no f good).some in
     let first : a.no ≡ 1 + (a.no - 1) = omega (arith, some) in
     c.take_out.ensures
@@ -54,7 +57,8 @@ invariant_of-self-else-is_deletion c =
     let vs = c.self.inside.all.items in
     let good : in_live (live_at vs a.no) f ≡ Ok tt = ap (λ us. in_live (live_at us a.no) f) c.self.view_is ∙ g.1 in
     let at = c.index_mut in
-    let set = changed_there vs a.no f good c.no.inside.0 c.no.view_is at.result.now at.ensures.value (with_entry a.clock a.what.now) c.add.new.self c.in_ok-add.ensures.ok in
+    let set = changed_there vs a.no f good c.no.inside.0 c.no.view_is at.result.now at.ensures.value
+    (with_entry a.clock a.what.now) c.add.new.self c.in_ok-add.ensures.ok in
     c.self.invariant
     ∙ sym (later_live a.clock (a.no - 1) a.what.now vs (sym c.is_deletion.ensures ∙ c.if-is_deletion.false))
     ∙ ap (live_numbers 1) (sym set)

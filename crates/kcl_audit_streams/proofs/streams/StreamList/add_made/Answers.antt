@@ -10,4 +10,5 @@ invariant_of-self-2 c =
     let v = new_stream c.args.name c.args.shards in
     let more : c.push.new.self.items ≡ me.all.items ++ v ∷ [] = search rules in
     let number : c.push-2.new.self.items ≡ me.live.items ++ (1 + length me.all.items) ∷ [] = search rules in
-    number ∙ ap (λ ns. ns ++ (1 + length me.all.items) ∷ []) c.self.invariant ∙ sym (made_live 1 me.all.items v refl) ∙ ap (live_numbers 1) (sym more)
+    number ∙ ap (λ ns. ns ++ (1 + length me.all.items) ∷ []) c.self.invariant ∙ sym (made_live 1 me.all.items v refl)
+    ∙ ap (live_numbers 1) (sym more)

@@ -9,4 +9,5 @@ returns c =
     let me = c.self.inside in
     let name = c.args.name.now in
     let among : c.is_named.result ≡ is_named_among me.all.items name me.live.items = search rules in
-    among ∙ ap (is_named_among me.all.items name) c.self.invariant ∙ named_live me.all.items name ∙ ap (λ vs. is_named vs name) c.self.view_is
+    among ∙ ap (is_named_among me.all.items name) c.self.invariant ∙ named_live me.all.items name
+    ∙ ap (λ vs. is_named vs name) c.self.view_is

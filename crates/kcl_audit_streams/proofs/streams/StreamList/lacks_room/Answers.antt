@@ -10,6 +10,7 @@ pub returns : goal.returns
 returns c =
     let me = c.self.inside in
     let more = c.args.more in
-    let among : c.lacks_room.result ≡ nat_lt OPEN_SHARDS (open_among me.all.items me.live.items + more) = search rules in
+    let among : c.lacks_room.result ≡ nat_lt OPEN_SHARDS (open_among me.all.items me.live.items + more) =
+    search rules in
     among ∙ ap (λ ns. nat_lt OPEN_SHARDS (open_among me.all.items ns + more)) c.self.invariant
     ∙ ap (λ n. nat_lt OPEN_SHARDS (n + more)) (open_live me.all.items) ∙ ap (λ vs. lacks_room vs more) c.self.view_is

@@ -16,5 +16,6 @@ returns-in-Some c =
     let a = c.args in
     let v = c.in-Some.stream.now in
     let some : Some v ≡ live_at a.self.now.streams a.key.stream = search rules in
-    λ log sh. c.shard.ensures ∙ shown_live v a.key.shard (live_found (stream_at a.self.now.streams a.key.stream) v (sym some)).1
+    λ log sh. c.shard.ensures
+    ∙ shown_live v a.key.shard (live_found (stream_at a.self.now.streams a.key.stream) v (sym some)).1
     ∙ ap (option_map shown) (ap (λ o. shard_of o a.key.shard) some ∙ shard_key a.self.now log a.key sh)

@@ -34,7 +34,8 @@ copy_spec 𝓤 𝓛 𝓜 𝓡 wired =
     let before : Val = vptr a.0.ref_ptr.0 a.0.ref_ptr.1 in
     let y : W.Ghost = ((κs, qs, bounds, a, (before ∷ [], tt)), n) in
     let made : past.the_row.Denot = record { turns = a.0.now.turns } in
-    qed 𝓛 ((raw (alive 𝓛 f.signature κs qs) ⊛ ‵ (owns (types_at f.signature.params κs) a y.0.4)) ∷ raw ((c κs a).requires n) ∷ []) ∵
+    qed 𝓛 ((raw (alive 𝓛 f.signature κs qs) ⊛ ‵ (owns (types_at f.signature.params κs) a y.0.4))
+    ∷ raw ((c κs a).requires n) ∷ []) ∵
     keep ! (0 ∷ []) $ split ! $
     enter ! 𝓣.C 𝓣.Λ code.function (before ∷ []) (W.post y) $ alloc_all ! (λ l. pass_all ! refl ((tt, tt), tt) $
     sets ! (agg ! (no_more !)) refl (tt, tt) $ returns ! (look_at ! 0 refl) $ free_all ! refl $

@@ -23,21 +23,29 @@ use Rattle.kcl_sim.proofs.past.History.then.Statement.{statement}
 use Rattle.kcl_sim.proofs.past.History.then.Code as code
 
 abbrev stayed : Stays f.ended.signature.params f.ended.kept
-stayed = (stay_none_ref (0 ∷ []) tt (plain (λ _. past.the_row)) yes, (stay_none_ref (1 ∷ []) tt (plain (λ _. turn.the_row)) yes, tt))
+stayed = (
+  stay_none_ref (0 ∷ []) tt (plain (λ _. past.the_row)) yes,
+  (stay_none_ref (1 ∷ []) tt (plain (λ _. turn.the_row)) yes, tt),
+)
 
 pub then_spec : {M : Type 1} → statement M
 then_spec 𝓤 𝓛 𝓜 𝓡 wired =
     let c = f.clauses 𝓛 𝓜.mem 𝓡.returns in let W = walk_of 𝓛 f.ended stayed c in let 𝓣 = tables 𝓤 𝓛.H 𝓜 𝓡 𝓡.env in
-    proved 𝓛 f.ended stayed c 𝓜 𝓡
-    (Goes-none_ref 𝓛 2 (0 ∷ []) tt (plain (λ _. past.the_row)) yes, (Goes-none_ref 𝓛 2 (1 ∷ []) tt (plain (λ _. turn.the_row)) yes, tt))
+    proved 𝓛 f.ended stayed c 𝓜 𝓡 (
+      Goes-none_ref 𝓛 2 (0 ∷ []) tt (plain (λ _. past.the_row)) yes,
+      (Goes-none_ref 𝓛 2 (1 ∷ []) tt (plain (λ _. turn.the_row)) yes, tt),
+    )
     key.name code.function (code.unfolded 𝓤 𝓛.H 𝓜 𝓡 wired) (λ κs. (shr_vals, (shr_vals, tt)))
-    (λ κs. (shr_Tells (named 0) κs.0 past.the_row, (shr_Tells (named 1) κs.1.0 turn.the_row, tt))) (λ κs qs bounds a n are.
+    (λ κs. (shr_Tells (named 0) κs.0 past.the_row, (shr_Tells (named 1) κs.1.0 turn.the_row, tt)))
+    (λ κs qs bounds a n are.
     let before : Val = vptr a.0.ref_ptr.0 a.0.ref_ptr.1 in let added : Val = vptr a.1.0.ref_ptr.0 a.1.0.ref_ptr.1 in
     let y : W.Ghost = ((κs, qs, bounds, a, (before ∷ [], (added ∷ [], tt))), n) in
     let made : past.the_row.Denot = record { turns = a.1.0.now ∷ a.0.now.turns } in
-    qed 𝓛 ((raw (alive 𝓛 f.signature κs qs) ⊛ ‵ (owns (types_at f.signature.params κs) a y.0.4)) ∷ raw ((c κs a).requires n) ∷ []) ∵
+    qed 𝓛 ((raw (alive 𝓛 f.signature κs qs) ⊛ ‵ (owns (types_at f.signature.params κs) a y.0.4))
+    ∷ raw ((c κs a).requires n) ∷ []) ∵
     keep ! (0 ∷ []) $ split ! $
-    enter ! 𝓣.C 𝓣.Λ code.function (before ∷ added ∷ []) (W.post y) $ alloc_all ! (λ l. pass_all ! refl ((tt, tt), ((tt, tt), tt)) $
+    enter ! 𝓣.C 𝓣.Λ code.function (before ∷ added ∷ []) (W.post y) $ alloc_all !
+    (λ l. pass_all ! refl ((tt, tt), ((tt, tt), tt)) $
     sets ! (agg ! (no_more !)) refl (tt, tt) $ returns ! (look_at ! 0 refl) $ free_all ! refl $
     suffices ! _ (ends_at 𝓛 f.ended stayed c y (vstruct vnil) made (tt, (tt, tt)) (tt, (tt, tt))) $ says ! refl $
     pure_i ! (past.the_row.own_val made (vstruct vnil ∷ [])) ((λ vss. (tt, tt)), tt) ((tt, (refl, tt)), tt) $

@@ -9,7 +9,8 @@ use Rattle.kcl_sim.proofs.sim.Sim.hand_over.Goals as goal
 
 pub loop-alloc-init : goal.loop-alloc-init
 loop-alloc-init g c =
-    way_begins g.K.Keep.wanted c.args.at c.args.by c.args.self.now c.args.self.now c.args.hand c.call_hand.new.hand c.new-text.result refl
+    way_begins g.K.Keep.wanted c.args.at c.args.by c.args.self.now c.args.self.now c.args.hand c.call_hand.new.hand
+    c.new-text.result refl
     c.new-text.ensures c.requires.few
     c.in_ok-call_hand.ensures.few c.in_ok-call_hand.ensures.none_due c.in_ok-call_hand.ensures.called
 
@@ -21,9 +22,11 @@ loop-alloc-smaller g c = c.in_ok-hand_round.ensures.fewer
 
 pub loop-alloc-preserved : goal.loop-alloc-preserved
 loop-alloc-preserved g c =
-    way_goes g.K.Keep.wanted c.args.at c.args.by c.args.self.now c.loop-alloc.self c.hand_round.new.self c.args.hand c.loop-alloc.hand c.hand_round.new.hand
+    way_goes g.K.Keep.wanted c.args.at c.args.by c.args.self.now c.loop-alloc.self c.hand_round.new.self c.args.hand
+    c.loop-alloc.hand c.hand_round.new.hand
     c.loop-alloc.text c.hand_round.new.text c.loop-alloc.invariant
-    c.in_ok-hand_round.ensures.made c.in_ok-hand_round.ensures.over c.in_ok-hand_round.ensures.workers c.in_ok-hand_round.ensures.told
+    c.in_ok-hand_round.ensures.made c.in_ok-hand_round.ensures.over c.in_ok-hand_round.ensures.workers
+    c.in_ok-hand_round.ensures.told
     c.in_ok-hand_round.ensures.fewer
     c.in_ok-hand_round.ensures.none_due
 
@@ -39,7 +42,8 @@ returns-in_err-hand_round-clause-told g c = c.in_err-hand_round.ensures.told ∙
 pub returns-in_err-hand_round-clause-breaks : goal.returns-in_err-hand_round-clause-breaks
 returns-in_err-hand_round-clause-breaks g c =
     on_any_err c.from_residual-in_err-hand_round.result
-    (broke_round g.K.Keep.wanted c.args.at c.args.by c.args.self.now c.loop-alloc.self c.hand_round.new.self c.args.hand c.loop-alloc.hand c.loop-alloc.text
+    (broke_round g.K.Keep.wanted c.args.at c.args.by c.args.self.now c.loop-alloc.self c.hand_round.new.self c.args.hand
+    c.loop-alloc.hand c.loop-alloc.text
     c.loop-alloc.invariant
     (sym c.over.ensures ∙ no_some c.over.result (sym c.loop-alloc-test.ensures)) c.in_err-hand_round.ensures.breaks)
 
@@ -55,7 +59,8 @@ returns-in_err-say_left-clause-told g c = c.loop-alloc.invariant.told
 pub returns-in_err-say_left-clause-breaks : goal.returns-in_err-say_left-clause-breaks
 returns-in_err-say_left-clause-breaks g c =
     on_any_err c.from_residual-in_err-say_left.result
-    (broke_between g.K.Keep.wanted c.args.at c.args.by c.args.self.now c.loop-alloc.self c.loop-alloc.self c.args.hand c.loop-alloc.hand c.loop-alloc.text
+    (broke_between g.K.Keep.wanted c.args.at c.args.by c.args.self.now c.loop-alloc.self c.loop-alloc.self c.args.hand
+    c.loop-alloc.hand c.loop-alloc.text
     c.loop-alloc.invariant refl)
 
 pub returns-clause-over : goal.returns-clause-over
@@ -70,15 +75,18 @@ returns-clause-told g c = c.loop-alloc.invariant.told
 pub returns-clause-ran : goal.returns-clause-ran
 returns-clause-ran g c =
     on_ok_so c.extend.result c.extend.ensures.ok (λ wrote.
-    way_ends g.K.Keep.wanted c.args.at c.args.by c.args.self.now c.loop-alloc.self c.loop-alloc.self c.args.hand c.loop-alloc.hand c.loop-alloc.text
+    way_ends g.K.Keep.wanted c.args.at c.args.by c.args.self.now c.loop-alloc.self c.loop-alloc.self c.args.hand
+    c.loop-alloc.hand c.loop-alloc.text
     c.say_left.new.line
     c.args.to.now c.extend.new.self c.loop-alloc.invariant
     (subst IsSome c.over.ensures c.loop-alloc-test.ensures)
-    (c.in_ok-say_left.ensures ∙ ap (λ o. c.loop-alloc.text ++ if_wanted g.K.Keep.wanted (left_text o ++ 10 ∷ [])) c.over-2.ensures)
+    (c.in_ok-say_left.ensures
+    ∙ ap (λ o. c.loop-alloc.text ++ if_wanted g.K.Keep.wanted (left_text o ++ 10 ∷ [])) c.over-2.ensures)
     (wrote ∙ ap (λ z. c.args.to.now ++ z) c.as_slice.ensures) refl)
 
 pub returns-clause-breaks : goal.returns-clause-breaks
 returns-clause-breaks g c =
     on_any_err c.extend.result
-    (broke_between g.K.Keep.wanted c.args.at c.args.by c.args.self.now c.loop-alloc.self c.loop-alloc.self c.args.hand c.loop-alloc.hand c.loop-alloc.text
+    (broke_between g.K.Keep.wanted c.args.at c.args.by c.args.self.now c.loop-alloc.self c.loop-alloc.self c.args.hand
+    c.loop-alloc.hand c.loop-alloc.text
     c.loop-alloc.invariant refl)

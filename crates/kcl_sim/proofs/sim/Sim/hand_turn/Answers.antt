@@ -24,4 +24,5 @@ returns-clause-output g c =
     c.in_ok-say_part.ensures ∙ ap (λ l. l ++ if_wanted w end) c.in_ok-say_command.ensures.ok
     ∙ append_assoc c.args.text.now (if_wanted w command) (if_wanted w end)
     ∙ ap (λ l. c.args.text.now ++ l) (joined w command end)
-    ∙ ap (λ a. c.args.text.now ++ if_wanted w (command ++ (codes " = " ++ (answer_text false a ++ codes "; ")))) c.in_ok-answer.ensures.answered
+    ∙ ap (λ a. c.args.text.now ++ if_wanted w (command ++ (codes " = " ++ (answer_text false a ++ codes "; "))))
+    c.in_ok-answer.ensures.answered

@@ -12,14 +12,21 @@ use Rattle.kcl_sim.proofs.sim.Sim.turn_of.Goals as goal
 
 pub returns-clause-worker : goal.returns-clause-worker
 returns-clause-worker g c =
-    let items : c.self.inside.workers.items ≡ c.args.self.now.workers = ap (λ (v : SimValue). v.workers) (c.self.view_is ∙ c.in_ok-answer.ensures.ran) in
-    let lt : c.args.place < length c.self.inside.workers.items = subst (λ ws. c.args.place < length ws) (sym items) c.requires.there in
+    let items : c.self.inside.workers.items ≡ c.args.self.now.workers =
+    ap (λ (v : SimValue). v.workers) (c.self.view_is ∙ c.in_ok-answer.ensures.ran) in
+    let lt : c.args.place < length c.self.inside.workers.items =
+    subst (λ ws. c.args.place < length ws) (sym items) c.requires.there in
     on_any c.extend.result (record {
       was = c.index_mut.result.now;
-      stood = ap (λ ws. slice_get ws c.args.place) (sym items) ∙ got_there c.self.inside.workers.items c.args.place _ c.index_mut.result.now lt c.index_mut.ensures.value;
+      stood = ap (λ ws. slice_get ws c.args.place) (sym items)
+          ∙ got_there c.self.inside.workers.items c.args.place _ c.index_mut.result.now lt c.index_mut.ensures.value;
       is = c.absorb.new.worker;
       stands = ap (λ ws. slice_set ws c.args.place c.absorb.new.worker) items;
-      related = (c.in_ok-absorb.ensures.free, λ e h. subst (λ a. Employs c.absorb.new.worker (answered c.args.at a e)) c.in_ok-answer.ensures.answered (c.in_ok-absorb.ensures.stands e h));
+      related = (
+        c.in_ok-absorb.ensures.free,
+        λ e h. subst (λ a. Employs c.absorb.new.worker (answered c.args.at a e)) c.in_ok-answer.ensures.answered
+            (c.in_ok-absorb.ensures.stands e h),
+      );
     })
 
 pub returns-clause-output : goal.returns-clause-output
@@ -28,6 +35,8 @@ returns-clause-output g c =
     let w = g.K.Keep.wanted in
     let end = codes " = " ++ (answer_text false c.in_ok-answer.answer ++ 10 ∷ []) in
     wrote ∙ ap (λ l. c.args.to.now ++ l) (c.as_slice.ensures ∙ c.in_ok-say_answered.ensures
-    ∙ ap (λ l. l ++ if_wanted w end) (c.in_ok-say_command.ensures.ok ∙ ap (λ n. n ++ if_wanted w (command_text c.args.what)) c.new-text.ensures)
+    ∙ ap (λ l. l ++ if_wanted w end) (c.in_ok-say_command.ensures.ok
+    ∙ ap (λ n. n ++ if_wanted w (command_text c.args.what)) c.new-text.ensures)
     ∙ joined w (command_text c.args.what) end
-    ∙ ap (λ a. if_wanted w (command_text c.args.what ++ (codes " = " ++ (answer_text false a ++ 10 ∷ [])))) c.in_ok-answer.ensures.answered))
+    ∙ ap (λ a. if_wanted w (command_text c.args.what ++ (codes " = " ++ (answer_text false a ++ 10 ∷ []))))
+    c.in_ok-answer.ensures.answered))

@@ -14,9 +14,12 @@ returns c =
     let old : c.self.inside.streams.items ≡ s.streams = ap (λ z. z.streams) c.self.view_is in
     let es : c.in_ok-entries.entries ≡ entries_of s.streams what reply = search rules in
     let told = c.in_ok-lines.ensures ∙ ap (lines_by c.args.clock c.args.by) es in
-    let after = c.keep_all.ensures ∙ (λ i. changed_by (map (λ (l : EntryLine). l.what) ((c.as_slice.ensures ∙ told) i)) (old i)) ∙ changed_lines c.args.clock c.args.by (entries_of s.streams what reply) s.streams in
+    let after = c.keep_all.ensures
+    ∙ (λ i. changed_by (map (λ (l : EntryLine). l.what) ((c.as_slice.ensures ∙ told) i)) (old i))
+    ∙ changed_lines c.args.clock c.args.by (entries_of s.streams what reply) s.streams in
     record {
       lines = told ∙ other_lines s c.args.clock c.args.by what reply o;
-      ok = (λ i. record { clock = (c.self.view_is i).clock; made = (c.self.view_is i).made; streams = after i }) ∙ other_after s what reply o;
+      ok = (λ i. record { clock = (c.self.view_is i).clock; made = (c.self.view_is i).made; streams = after i })
+          ∙ other_after s what reply o;
       err = tt;
     }

@@ -9,7 +9,8 @@ use Rattle.kcl_sim_scribe.proofs.scribe.Scribe.note.Goals as goal
 
 pub accept-requires : goal.accept-requires
 accept-requires c =
-    (accepted c.args.self.now c.requires.answered.0 c.args.turn.now c.in-Ok.reply c.requires.answered.1.0 c.requires.lawful (sym c.in-Ok.is ∙ c.requires.answered.1.1)).can
+    (accepted c.args.self.now c.requires.answered.0 c.args.turn.now c.in-Ok.reply c.requires.answered.1.0
+    c.requires.lawful (sym c.in-Ok.is ∙ c.requires.answered.1.1)).can
 
 pub returns-clause-lines : goal.returns-clause-lines
 returns-clause-lines c = λ h st e.
@@ -19,7 +20,8 @@ returns-clause-lines c = λ h st e.
     elim c.match-answer.branch [
       | in-Ok+in_ok-lines-in-Ok w ↦
           let n = accepted s h turn w.in-Ok.reply st c.requires.lawful (sym w.in-Ok.is ∙ e) in
-          w.lines-is ∙ w.in_ok-lines-in-Ok.ensures.lines ∙ ap (λ k. told_lines s k turn.by turn.what w.in-Ok.reply) clk ∙ n.lines_are
+          w.lines-is ∙ w.in_ok-lines-in-Ok.ensures.lines ∙ ap (λ k. told_lines s k turn.by turn.what w.in-Ok.reply) clk
+          ∙ n.lines_are
       | in-Err w ↦ w.lines-is ∙ w.new-lines.ensures ∙ (refused s h turn _ st (sym w.in-Err.is ∙ e)).0
     ]
 
@@ -32,11 +34,13 @@ returns-clause-after c = λ h st e.
       | in-Ok+in_ok-lines-in-Ok w ↦
           let n = accepted s h turn w.in-Ok.reply st c.requires.lawful (sym w.in-Ok.is ∙ e) in
           let is : now ≡ told_after s turn.what w.in-Ok.reply = search rules in
-          let knows : Knows (journal (turn ∷ h)) now.made now.streams = subst (λ (z : ScribeValue). Knows (journal (turn ∷ h)) z.made z.streams) (sym is) n.knows in
+          let knows : Knows (journal (turn ∷ h)) now.made now.streams =
+          subst (λ (z : ScribeValue). Knows (journal (turn ∷ h)) z.made z.streams) (sym is) n.knows in
           stands_at s _ h turn st (search rules) knows
       | in-Err w ↦
           let is : now ≡ s = search rules in
           let k = (refused s h turn _ st (sym w.in-Err.is ∙ e)).1 in
-          let knows : Knows (journal (turn ∷ h)) now.made now.streams = subst (λ (z : ScribeValue). Knows (journal (turn ∷ h)) z.made z.streams) (sym is) k in
+          let knows : Knows (journal (turn ∷ h)) now.made now.streams =
+          subst (λ (z : ScribeValue). Knows (journal (turn ∷ h)) z.made z.streams) (sym is) k in
           stands_at s _ h turn st (search rules) knows
     ]

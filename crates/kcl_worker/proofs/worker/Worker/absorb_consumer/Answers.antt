@@ -8,11 +8,24 @@ use Rattle.kcl_worker.proofs.Happenings.{live_on}
 use Rattle.kcl_worker.proofs.worker.Worker.absorb_consumer.Goals as goal
 
 pub invariant_of-self : goal.invariant_of-self
-invariant_of-self g c =
-    (subst NoneOver (sym c.retire_finished.ensures.live) (live_on c.after_consumer.new.consumers.items), tt, c.retire_finished.ensures.room, c.self.invariant.3, c.self.invariant.4, within_settled g.P.Processor.asks (g.F.Maker.asks c.self.inside.maker) c.after_consumer.new.consumers.items _ c.retire_finished.ensures.live (subst (AskWithin g.P.Processor.asks (g.F.Maker.asks c.self.inside.maker)) (sym c.after_consumer.ensures.consumers) (within_answered g.P.Processor.asks (g.F.Maker.asks c.self.inside.maker) _ _ c.self.inside.consumers.items c.self.invariant.5)))
+invariant_of-self g c = (
+  subst NoneOver (sym c.retire_finished.ensures.live) (live_on c.after_consumer.new.consumers.items),
+  tt,
+  c.retire_finished.ensures.room,
+  c.self.invariant.3,
+  c.self.invariant.4,
+  within_settled g.P.Processor.asks (g.F.Maker.asks c.self.inside.maker) c.after_consumer.new.consumers.items _
+      c.retire_finished.ensures.live
+      (subst (AskWithin g.P.Processor.asks (g.F.Maker.asks c.self.inside.maker))
+      (sym c.after_consumer.ensures.consumers)
+      (within_answered g.P.Processor.asks (g.F.Maker.asks c.self.inside.maker) _ _ c.self.inside.consumers.items
+      c.self.invariant.5)),
+)
 
 pub returns-clause-absorbed : goal.returns-clause-absorbed
 returns-clause-absorbed g c = λ past st.
-    consumer_leaves g.P.Processor.stands_for _ _ c.self.view_is c.args.now c.args.answer c.args.id c.after_consumer.new.held.items c.after_consumer.new.consumers.items
+    consumer_leaves g.P.Processor.stands_for _ _ c.self.view_is c.args.now c.args.answer c.args.id
+    c.after_consumer.new.held.items c.after_consumer.new.consumers.items
     c.retire_finished.new.consumers.items (map retirement c.retire_finished.new.retired.items) past
-    c.requires c.after_consumer.ensures.held c.after_consumer.ensures.consumers c.retire_finished.ensures.live c.retire_finished.ensures.over st
+    c.requires c.after_consumer.ensures.held c.after_consumer.ensures.consumers c.retire_finished.ensures.live
+    c.retire_finished.ensures.over st

@@ -8,12 +8,20 @@ use Rattle.kcl_worker.proofs.Happenings.{live_on}
 use Rattle.kcl_worker.proofs.worker.Worker.absorb_freeing.Goals as goal
 
 pub invariant_of-self : goal.invariant_of-self
-invariant_of-self g c =
-    (subst NoneOver (sym c.retire_finished.ensures.live) (live_on c.self.inside.consumers.items), tt, c.retire_finished.ensures.room, c.self.invariant.3, c.self.invariant.4, within_settled g.P.Processor.asks (g.F.Maker.asks c.self.inside.maker) c.self.inside.consumers.items _ c.retire_finished.ensures.live (c.self.invariant.5))
+invariant_of-self g c = (
+  subst NoneOver (sym c.retire_finished.ensures.live) (live_on c.self.inside.consumers.items),
+  tt,
+  c.retire_finished.ensures.room,
+  c.self.invariant.3,
+  c.self.invariant.4,
+  within_settled g.P.Processor.asks (g.F.Maker.asks c.self.inside.maker) c.self.inside.consumers.items _
+      c.retire_finished.ensures.live (c.self.invariant.5),
+)
 
 pub returns-clause-absorbed : goal.returns-clause-absorbed
 returns-clause-absorbed g c = λ past st.
-    freeing_leaves g.P.Processor.stands_for _ _ c.self.view_is c.args.now c.args.answer.now c.args.h c.drop_held.new.held.items
+    freeing_leaves g.P.Processor.stands_for _ _ c.self.view_is c.args.now c.args.answer.now c.args.h
+    c.drop_held.new.held.items
     c.retire_finished.new.consumers.items (map retirement c.retire_finished.new.retired.items) past
     c.requires (c.drop_held.ensures ∙ ap (λ i. without_held i c.self.inside.held.items) c.id_of_held.ensures)
     c.retire_finished.ensures.live c.retire_finished.ensures.over st

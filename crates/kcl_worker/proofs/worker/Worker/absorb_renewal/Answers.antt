@@ -9,11 +9,22 @@ use Rattle.kcl_worker.proofs.Happenings.{live_on}
 use Rattle.kcl_worker.proofs.worker.Worker.absorb_renewal.Goals as goal
 
 pub invariant_of-self : goal.invariant_of-self
-invariant_of-self g c =
-    (subst NoneOver (sym c.retire_finished.ensures.live) (live_on c.after_renewal.new.consumers.items), tt, c.retire_finished.ensures.room, c.self.invariant.3, c.self.invariant.4, within_settled g.P.Processor.asks (g.F.Maker.asks c.self.inside.maker) c.after_renewal.new.consumers.items _ c.retire_finished.ensures.live (subst (AllByRecursion (IsWithin g.P.Processor.asks (g.F.Maker.asks c.self.inside.maker))) (sym c.after_renewal.ensures.processors) c.self.invariant.5))
+invariant_of-self g c = (
+  subst NoneOver (sym c.retire_finished.ensures.live) (live_on c.after_renewal.new.consumers.items),
+  tt,
+  c.retire_finished.ensures.room,
+  c.self.invariant.3,
+  c.self.invariant.4,
+  within_settled g.P.Processor.asks (g.F.Maker.asks c.self.inside.maker) c.after_renewal.new.consumers.items _
+      c.retire_finished.ensures.live
+      (subst (AllByRecursion (IsWithin g.P.Processor.asks (g.F.Maker.asks c.self.inside.maker)))
+      (sym c.after_renewal.ensures.processors) c.self.invariant.5),
+)
 
 pub returns-clause-absorbed : goal.returns-clause-absorbed
 returns-clause-absorbed g c = λ past st.
-    renewal_leaves g.P.Processor.stands_for _ _ c.self.view_is c.args.now c.args.answer.now c.args.h c.id_of_held.result c.after_renewal.new.held.items c.after_renewal.new.consumers.items
+    renewal_leaves g.P.Processor.stands_for _ _ c.self.view_is c.args.now c.args.answer.now c.args.h c.id_of_held.result
+    c.after_renewal.new.held.items c.after_renewal.new.consumers.items
     c.retire_finished.new.consumers.items (map retirement c.retire_finished.new.retired.items) past
-    c.id_of_held.ensures c.requires c.retire_finished.ensures.live c.retire_finished.ensures.over c.after_renewal.ensures.leaves st
+    c.id_of_held.ensures c.requires c.retire_finished.ensures.live c.retire_finished.ensures.over
+    c.after_renewal.ensures.leaves st

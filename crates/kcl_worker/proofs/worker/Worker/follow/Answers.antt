@@ -10,11 +10,24 @@ use Rattle.kcl_worker.proofs.Surveys.{planned_leaves}
 use Rattle.kcl_worker.proofs.worker.Worker.follow.Goals as goal
 
 pub invariant_of-self : goal.invariant_of-self
-invariant_of-self g c = (subst NoneOver (sym c.retire_finished.ensures.live) (live_on c.lose_gone.new.consumers.items), tt, c.retire_finished.ensures.room, c.self.invariant.3, c.self.invariant.4, within_settled g.P.Processor.asks (g.F.Maker.asks c.self.inside.maker) c.lose_gone.new.consumers.items _ c.retire_finished.ensures.live (subst (AskWithin g.P.Processor.asks (g.F.Maker.asks c.self.inside.maker)) (sym c.lose_gone.ensures) (within_lost g.P.Processor.asks (g.F.Maker.asks c.self.inside.maker) (is_among c.as_slice.result.now) c.self.inside.consumers.items c.self.invariant.5)))
+invariant_of-self g c = (
+  subst NoneOver (sym c.retire_finished.ensures.live) (live_on c.lose_gone.new.consumers.items),
+  tt,
+  c.retire_finished.ensures.room,
+  c.self.invariant.3,
+  c.self.invariant.4,
+  within_settled g.P.Processor.asks (g.F.Maker.asks c.self.inside.maker) c.lose_gone.new.consumers.items _
+      c.retire_finished.ensures.live
+      (subst (AskWithin g.P.Processor.asks (g.F.Maker.asks c.self.inside.maker)) (sym c.lose_gone.ensures)
+      (within_lost g.P.Processor.asks (g.F.Maker.asks c.self.inside.maker) (is_among c.as_slice.result.now)
+      c.self.inside.consumers.items c.self.invariant.5)),
+)
 
 pub returns-clause-absorbed : goal.returns-clause-absorbed
 returns-clause-absorbed g c = λ now answer planned past st.
-    planned_leaves g.P.Processor.stands_for _ _ c.self.view_is now answer c.args.p c.new-left_syncs.result c.new-left_takes.result c.lose_gone.new.consumers.items
+    planned_leaves g.P.Processor.stands_for _ _ c.self.view_is now answer c.args.p c.new-left_syncs.result
+    c.new-left_takes.result c.lose_gone.new.consumers.items
     c.retire_finished.new.consumers.items (map retirement c.retire_finished.new.retired.items) past
     c.requires planned c.new-left_syncs.ensures c.new-left_takes.ensures
-    (c.lose_gone.ensures ∙ ap (λ hs. lost_among (is_among hs) c.self.inside.consumers.items) c.as_slice.ensures.value) c.retire_finished.ensures.live c.retire_finished.ensures.over st
+    (c.lose_gone.ensures ∙ ap (λ hs. lost_among (is_among hs) c.self.inside.consumers.items) c.as_slice.ensures.value)
+    c.retire_finished.ensures.live c.retire_finished.ensures.over st

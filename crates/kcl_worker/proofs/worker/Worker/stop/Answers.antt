@@ -12,20 +12,27 @@ use Rattle.kcl_worker.proofs.worker.Worker.stop.Goals as goal
 
 pub invariant_of-self : goal.invariant_of-self
 invariant_of-self g c =
-    let free : chore_of c.self.inside.asked c.self.inside.syncs c.self.inside.takes ≡ None = ap (λ v. v.waiting) c.self.view_is ∙ c.requires in (
+    let free : chore_of c.self.inside.asked c.self.inside.syncs c.self.inside.takes ≡ None =
+    ap (λ v. v.waiting) c.self.view_is ∙ c.requires in (
       subst NoneOver (sym c.retire_finished.ensures.live) (live_on c.lose_all.new.consumers.items),
       subst (λ o. IsAsking o c.retire_finished.new.consumers.items) (sym free) tt,
       c.retire_finished.ensures.room,
       c.self.invariant.3,
       c.self.invariant.4,
-      within_settled g.P.Processor.asks (g.F.Maker.asks c.self.inside.maker) c.lose_all.new.consumers.items _ c.retire_finished.ensures.live
-          (subst (AskWithin g.P.Processor.asks (g.F.Maker.asks c.self.inside.maker)) (sym c.lose_all.ensures) (within_lost g.P.Processor.asks (g.F.Maker.asks c.self.inside.maker) (λ id. true) c.self.inside.consumers.items c.self.invariant.5)),
+      within_settled g.P.Processor.asks (g.F.Maker.asks c.self.inside.maker) c.lose_all.new.consumers.items _
+          c.retire_finished.ensures.live
+          (subst (AskWithin g.P.Processor.asks (g.F.Maker.asks c.self.inside.maker)) (sym c.lose_all.ensures)
+          (within_lost g.P.Processor.asks (g.F.Maker.asks c.self.inside.maker) (λ id. true)
+          c.self.inside.consumers.items c.self.invariant.5)),
     )
 
 pub returns-clause-stands : goal.returns-clause-stands
 returns-clause-stands g c = λ past st.
-    let free : chore_of c.self.inside.asked c.self.inside.syncs c.self.inside.takes ≡ None = ap (λ v. v.waiting) c.self.view_is ∙ c.requires in
-    stop_leaves g.P.Processor.stands_for _ c.retire_finished.new.consumers.items (map retirement c.retire_finished.new.retired.items) past free
+    let free : chore_of c.self.inside.asked c.self.inside.syncs c.self.inside.takes ≡ None =
+    ap (λ v. v.waiting) c.self.view_is ∙ c.requires in
+    stop_leaves g.P.Processor.stands_for _ c.retire_finished.new.consumers.items
+    (map retirement c.retire_finished.new.retired.items) past free
     (c.retire_finished.ensures.live ∙ ap live_among c.lose_all.ensures)
-    (c.retire_finished.ensures.over ∙ ap (λ cs. map retirement c.self.inside.retired.items ++ retired_among cs) c.lose_all.ensures)
+    (c.retire_finished.ensures.over
+    ∙ ap (λ cs. map retirement c.self.inside.retired.items ++ retired_among cs) c.lose_all.ensures)
     (subst (λ v. StandsFor g.P.Processor.stands_for v past) (sym c.self.view_is) st)

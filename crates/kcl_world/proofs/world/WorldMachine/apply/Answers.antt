@@ -8,22 +8,28 @@ pub invariant_of-self : goal.invariant_of-self
 invariant_of-self c =
     let k = c.self.inside in
     let at : c.raise-raised.new.service.clock ≡ c.later-clock.result = c.raise-raised.ensures.clock in
-    let latest : c.raise-raised.new.service.clock ≡ max k.service.clock c.args.turn.at = at ∙ c.later-clock.ensures ∙ ap (λ n. max n c.args.turn.at) (sym c.self.invariant.0) in
+    let latest : c.raise-raised.new.service.clock ≡ max k.service.clock c.args.turn.at =
+    at ∙ c.later-clock.ensures ∙ ap (λ n. max n c.args.turn.at) (sym c.self.invariant.0) in
     let turns : TakesTurns k.service c.raise-raised.new.service c.answer.new.service c.settle.new.self
     = (c.raise-raised.ensures.turn, c.in-Ok.ensures.turn, ap (λ (s : ServiceValue). s.turn) c.settle.ensures.dropped) in
     let last = c.settle.ensures.clock in (
       last ∙ c.in-Ok.ensures.clock ∙ at,
-      turn_stands k.service c.raise-raised.new.service c.answer.new.service c.settle.new.self k.table c.answer.new.table k.book.tenures c.answer.new.book.tenures c.args.turn c.in-Ok.answer
-          c.self.invariant.1 c.raise-raised.ensures.shows latest c.in-Ok.ensures.leads c.in-Ok.ensures.clock c.settle.ensures.shows last turns,
+      turn_stands k.service c.raise-raised.new.service c.answer.new.service c.settle.new.self k.table c.answer.new.table
+          k.book.tenures c.answer.new.book.tenures c.args.turn c.in-Ok.answer
+          c.self.invariant.1 c.raise-raised.ensures.shows latest c.in-Ok.ensures.leads c.in-Ok.ensures.clock
+          c.settle.ensures.shows last turns,
     )
 
 pub returns-in-Ok-clause-answered : goal.returns-in-Ok-clause-answered
 returns-in-Ok-clause-answered c h stood =
     let k = c.self.inside in
     let at : c.raise-raised.new.service.clock ≡ c.later-clock.result = c.raise-raised.ensures.clock in
-    let latest : c.raise-raised.new.service.clock ≡ max k.service.clock c.args.turn.at = at ∙ c.later-clock.ensures ∙ ap (λ n. max n c.args.turn.at) (sym c.self.invariant.0) in
+    let latest : c.raise-raised.new.service.clock ≡ max k.service.clock c.args.turn.at =
+    at ∙ c.later-clock.ensures ∙ ap (λ n. max n c.args.turn.at) (sym c.self.invariant.0) in
     let turns : TakesTurns k.service c.raise-raised.new.service c.answer.new.service c.settle.new.self
     = (c.raise-raised.ensures.turn, c.in-Ok.ensures.turn, ap (λ (s : ServiceValue). s.turn) c.settle.ensures.dropped) in
     let before = subst (λ (w : WorldValue). StandsFor w h) (sym c.self.view_is) stood in
-    turn_done k.service c.raise-raised.new.service c.answer.new.service c.settle.new.self k.table c.answer.new.table k.book.tenures c.answer.new.book.tenures h c.args.turn c.in-Ok.answer
-    before (c.raise-raised.ensures.shows _ before.stands.shows) latest c.in-Ok.ensures.leads c.in-Ok.ensures.clock c.settle.ensures.shows c.settle.ensures.clock turns
+    turn_done k.service c.raise-raised.new.service c.answer.new.service c.settle.new.self k.table c.answer.new.table
+    k.book.tenures c.answer.new.book.tenures h c.args.turn c.in-Ok.answer
+    before (c.raise-raised.ensures.shows _ before.stands.shows) latest c.in-Ok.ensures.leads c.in-Ok.ensures.clock
+    c.settle.ensures.shows c.settle.ensures.clock turns

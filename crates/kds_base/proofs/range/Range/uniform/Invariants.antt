@@ -4,4 +4,5 @@ use Rattle.kds_base.proofs.range.Range.uniform.Given as goal
 
 -- with those that follow, the ranges so far are all of them
 abbrev pub invariant-loop-i : goal.invariant-loop-i
-invariant-loop-i l = (k : ℕ) → k + l.i ≡ l.n → l.ranges ++ uniform_from (2 ^ 128 / l.n) (l.i * (2 ^ 128 / l.n)) k ≡ uniform l.n
+invariant-loop-i l = (k : ℕ) → k + l.i ≡ l.n → l.ranges ++ uniform_from (2 ^ 128 / l.n) (l.i * (2 ^ 128 / l.n)) k
+    ≡ uniform l.n

@@ -13,6 +13,7 @@ invariant_of-self c =
       rw (e, map_push logged c.self.inside.records.items c.args.item)
           (orderly-append _ (logged c.args.item)
           (subst (λ (v : LogWithRoom). IfSome v.last (λ n. n < c.args.item.seq)) (sym c.self.view_is) c.requires.number)
-          (subst (λ (v : LogWithRoom). AllByRecursion (λ r. r.arrival ≤ c.args.item.arrival) v.kept) (sym c.self.view_is) c.requires.arrival) c.self.invariant.0),
+          (subst (λ (v : LogWithRoom). AllByRecursion (λ r. r.arrival ≤ c.args.item.arrival) v.kept)
+          (sym c.self.view_is) c.requires.arrival) c.self.invariant.0),
       omega (arith, c.self.invariant.1, c.push_back_reserved.ensures.len, c.push_back_reserved.ensures.capacity),
     )

@@ -7,11 +7,18 @@ use Rattle.kds_log.proofs.shard_log.ShardLog.trim.Goals as goal
 
 pub invariant_of-self : goal.invariant_of-self
 invariant_of-self c =
-    let before : LogValue = record { kept = map logged c.self.inside.records.items; last = c.self.inside.last } in
-    (subst (λ (kept : List Logged). IsOrderly (record { kept = kept; last = c.self.inside.last })) (sym c.drop_below.ensures.left) (orderly-left before c.floor_of.result 0 c.self.invariant.0), omega arith)
+    let before : LogValue = record { kept = map logged c.self.inside.records.items; last = c.self.inside.last } in (
+      subst (λ (kept : List Logged). IsOrderly (record { kept = kept; last = c.self.inside.last }))
+          (sym c.drop_below.ensures.left) (orderly-left before c.floor_of.result 0 c.self.invariant.0),
+      omega arith,
+    )
 
 pub returns-clause-value : goal.returns-clause-value
 returns-clause-value c =
     let f = ap (λ floor. left_among floor 0 (map logged c.self.inside.records.items)) c.floor_of.ensures in
-    ap (λ (kept : List Logged). let v : LogValue = record { kept = kept; last = c.self.inside.last } in v) (c.drop_below.ensures.left ∙ f)
-    ∙ ap (λ (l : LogWithRoom). let v : LogValue = record { kept = left_among (floor_of (Some c.args.cut)) 0 l.kept; last = l.last } in v) c.self.view_is
+    ap (λ (kept : List Logged). let v : LogValue = record { kept = kept; last = c.self.inside.last } in
+    v) (c.drop_below.ensures.left ∙ f)
+    ∙ ap (λ (l : LogWithRoom). let v : LogValue = record {
+      kept = left_among (floor_of (Some c.args.cut)) 0 l.kept;
+      last = l.last;
+    } in v) c.self.view_is

@@ -12,8 +12,10 @@ invariant_of-self c =
     let s = c.self.inside in
     let f = advanced c.args.clock in
     let are = c.advance_all.ensures.value in
-    placed_along c.args.clock s.streams.entries c.advance_all.new.streams.entries c.self.invariant.named c.advance_all.ensures.keys
-    (ap names_of are ∙ kept_of (λ v. v.name) f (λ v. refl) (values s.streams)) (subst (AreAt c.args.clock) (sym are) (advanced_at c.args.clock (values s.streams)))
+    placed_along c.args.clock s.streams.entries c.advance_all.new.streams.entries c.self.invariant.named
+    c.advance_all.ensures.keys
+    (ap names_of are ∙ kept_of (λ v. v.name) f (λ v. refl) (values s.streams))
+    (subst (AreAt c.args.clock) (sym are) (advanced_at c.args.clock (values s.streams)))
 
 pub returns-clause-shows : goal.returns-clause-shows
 returns-clause-shows c log all =
@@ -22,13 +24,15 @@ returns-clause-shows c log all =
     let are = c.advance_all.ensures.value in
     let before = subst (λ (w : ServiceValue). ShowsAll w log) (sym c.self.view_is) all in
     shows_along (the_view s) (service c.args.clock s.clock s.made (values c.advance_all.new.streams)) log refl
-    (ap numbers_of are ∙ kept_of (λ v. v.no) f (λ v. refl) (values s.streams)) (subst (AreAt c.args.clock) (sym are) (advanced_at c.args.clock (values s.streams)))
+    (ap numbers_of are ∙ kept_of (λ v. v.no) f (λ v. refl) (values s.streams))
+    (subst (AreAt c.args.clock) (sym are) (advanced_at c.args.clock (values s.streams)))
     (c.advance_all.ensures.shows log before.shown) before
 
 pub returns-clause-back : goal.returns-clause-back
 returns-clause-back c =
     let s = c.self.inside in
-    subst (λ us. AreAt s.clock (map retreated us)) (sym c.advance_all.ensures.value) (back_at s.clock c.args.clock (values s.streams) c.self.invariant.at)
+    subst (λ us. AreAt s.clock (map retreated us)) (sym c.advance_all.ensures.value)
+    (back_at s.clock c.args.clock (values s.streams) c.self.invariant.at)
 
 pub returns-clause-shows_back : goal.returns-clause-shows_back
 returns-clause-shows_back c log all =
@@ -36,7 +40,11 @@ returns-clause-shows_back c log all =
     let f = advanced c.args.clock in
     let are = c.advance_all.ensures.value in
     let before = subst (λ (w : ServiceValue). ShowsAll w log) (sym c.self.view_is) all in
-    shows_along (the_view s) (service s.clock s.clock s.made (map retreated (values c.advance_all.new.streams))) log refl
-    (ap (λ us. numbers_of (map retreated us)) are ∙ kept_of (λ v. v.no) retreated (λ v. refl) (map f (values s.streams)) ∙ kept_of (λ v. v.no) f (λ v. refl) (values s.streams))
-    (subst (λ us. AreAt s.clock (map retreated us)) (sym are) (back_at s.clock c.args.clock (values s.streams) c.self.invariant.at))
-    (subst (λ us. AreShown log (map retreated us)) (sym are) (back_shown c.args.clock (values s.streams) log before.shown)) before
+    shows_along (the_view s) (service s.clock s.clock s.made (map retreated (values c.advance_all.new.streams)))
+    log refl
+    (ap (λ us. numbers_of (map retreated us)) are ∙ kept_of (λ v. v.no) retreated (λ v. refl) (map f (values s.streams))
+    ∙ kept_of (λ v. v.no) f (λ v. refl) (values s.streams))
+    (subst (λ us. AreAt s.clock (map retreated us)) (sym are)
+    (back_at s.clock c.args.clock (values s.streams) c.self.invariant.at))
+    (subst (λ us. AreShown log (map retreated us)) (sym are)
+    (back_shown c.args.clock (values s.streams) log before.shown)) before

@@ -9,4 +9,5 @@ pub returns-clause-shown : goal.returns-clause-shown
 returns-clause-shown c log all =
     let w : ServiceValue = the_view c.self.inside in
     let all' = subst (λ (u : ServiceValue). ShowsAll u log) (sym c.self.view_is) all in
-    c.is_listed.ensures ∙ listed_is w log all' c.args.key ∙ ap (λ (u : ServiceValue). is_listed_key log u.clock c.args.key) c.self.view_is
+    c.is_listed.ensures ∙ listed_is w log all' c.args.key
+    ∙ ap (λ (u : ServiceValue). is_listed_key log u.clock c.args.key) c.self.view_is

@@ -13,5 +13,6 @@ pub returns : goal.returns
 returns c log all =
     let w : ServiceValue = the_view c.self.inside in
     let all' = subst (λ (u : ServiceValue). ShowsAll u log) (sym c.self.view_is) all in
-    let same = keys_are w log all' ∙ ap (λ (u : ServiceValue). listed_in log u.clock (live_streams log)) c.self.view_is in
+    let same = keys_are w log all'
+    ∙ ap (λ (u : ServiceValue). listed_in log u.clock (live_streams log)) c.self.view_is in
     subst (λ (ks : List ShardRef). IfOk c.listed.result (λ keys. keys ≡ ks)) same c.listed.ensures

@@ -10,7 +10,9 @@ returns-clause-batch c log all =
     let s = c.self.inside in
     let a = c.args in
     let all' = subst (λ (u : ServiceValue). ShowsAll u log) (sym c.self.view_is) all in
-    subst (λ (u : ServiceValue). IfOk c.read.result (λ r. r.0 ≡ map stored (batch log u.clock a.key.stream a.key.shard a.position a.limit))) c.self.view_is
+    subst (λ (u : ServiceValue).
+    IfOk c.read.result (λ r. r.0 ≡ map stored (batch log u.clock a.key.stream a.key.shard a.position a.limit)))
+    c.self.view_is
     (c.read.ensures.batch s.clock s.clock_before s.made log all')
 
 pub returns-clause-end : goal.returns-clause-end
@@ -18,5 +20,9 @@ returns-clause-end c log all =
     let s = c.self.inside in
     let a = c.args in
     let all' = subst (λ (u : ServiceValue). ShowsAll u log) (sym c.self.view_is) all in
-    subst (λ (u : ServiceValue). IfOk c.read.result (λ r. r.1 ≡ ends_at log u.clock a.key.stream a.key.shard (place_after a.position (numbers_of (batch log u.clock a.key.stream a.key.shard a.position a.limit))))) c.self.view_is
+    subst (λ (u : ServiceValue).
+    IfOk c.read.result (λ r. r.1
+    ≡ ends_at log u.clock a.key.stream a.key.shard
+    (place_after a.position (numbers_of (batch log u.clock a.key.stream a.key.shard a.position a.limit)))))
+    c.self.view_is
     (c.read.ensures.end s.clock s.clock_before s.made log all')

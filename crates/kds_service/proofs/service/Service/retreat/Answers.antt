@@ -10,5 +10,7 @@ pub invariant_of-self : goal.invariant_of-self
 invariant_of-self c =
     let s = c.self.inside in
     let are = c.retreat_all.ensures.value in
-    placed_along s.clock_before s.streams.entries c.retreat_all.new.streams.entries c.self.invariant.named c.retreat_all.ensures.keys
-    (ap names_of are ∙ kept_of (λ v. v.name) retreated (λ v. refl) (values s.streams)) (subst (AreAt s.clock_before) (sym are) (subst CanGoBack (sym c.self.view_is) c.requires))
+    placed_along s.clock_before s.streams.entries c.retreat_all.new.streams.entries c.self.invariant.named
+    c.retreat_all.ensures.keys
+    (ap names_of are ∙ kept_of (λ v. v.name) retreated (λ v. refl) (values s.streams))
+    (subst (AreAt s.clock_before) (sym are) (subst CanGoBack (sym c.self.view_is) c.requires))

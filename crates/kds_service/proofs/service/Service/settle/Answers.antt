@@ -14,8 +14,10 @@ invariant_of-self c =
     let s = c.self.inside in
     let i = c.in_turn-place.result in
     let are = c.settle_stream.ensures.value in
-    placed_along s.clock s.streams.entries c.settle_stream.new.streams.entries c.self.invariant.named c.settle_stream.ensures.keys
-    (ap names_of are ∙ kept_in (λ v. v.name) (λ v. refl) i (values s.streams)) (subst (AreAt s.clock) (sym are) (settled_at s.clock i (values s.streams) c.self.invariant.at))
+    placed_along s.clock s.streams.entries c.settle_stream.new.streams.entries c.self.invariant.named
+    c.settle_stream.ensures.keys
+    (ap names_of are ∙ kept_in (λ v. v.name) (λ v. refl) i (values s.streams))
+    (subst (AreAt s.clock) (sym are) (settled_at s.clock i (values s.streams) c.self.invariant.at))
 
 pub returns-clause-dropped : goal.returns-clause-dropped
 returns-clause-dropped c =
@@ -26,7 +28,8 @@ returns-clause-dropped c =
     let count : c.len-count.result ≡ n = c.len-count.ensures.len ∙ sym (length-values_of s.streams.entries) in
     let i : place ≡ in_turn n s.turn = c.in_turn-place.ensures ∙ ap (λ k. in_turn k s.turn) count in
     let next = c.next_of-self-inside.ensures ∙ ap (λ k. next_of k place) count ∙ ap (next_of n) i in
-    same_service s.clock s.clock s.made _ _ _ _ (c.settle_stream.ensures.value ∙ ap (λ k. settled_in k vs) i) next ∙ ap settled_in_turn c.self.view_is
+    same_service s.clock s.clock s.made _ _ _ _ (c.settle_stream.ensures.value ∙ ap (λ k. settled_in k vs) i) next
+    ∙ ap settled_in_turn c.self.view_is
 
 pub returns-clause-shows : goal.returns-clause-shows
 returns-clause-shows c log all =
@@ -35,5 +38,6 @@ returns-clause-shows c log all =
     let are = c.settle_stream.ensures.value in
     let before = subst (λ (w : ServiceValue). ShowsAll w log) (sym c.self.view_is) all in
     shows_along (the_view s) (service s.clock s.clock s.made (values c.settle_stream.new.streams)) log refl
-    (ap numbers_of are ∙ kept_in (λ v. v.no) (λ v. refl) i (values s.streams)) (subst (AreAt s.clock) (sym are) (settled_at s.clock i (values s.streams) c.self.invariant.at))
+    (ap numbers_of are ∙ kept_in (λ v. v.no) (λ v. refl) i (values s.streams))
+    (subst (AreAt s.clock) (sym are) (settled_at s.clock i (values s.streams) c.self.invariant.at))
     (c.settle_stream.ensures.shows log before.shown) before

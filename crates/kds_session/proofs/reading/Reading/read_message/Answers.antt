@@ -28,7 +28,8 @@ returns-in-Begun-clause-kept c =
 
 pub returns-in-Unfinished-clause-after : goal.returns-in-Unfinished-clause-after
 returns-in-Unfinished-clause-after c = λ past st.
-    let front = subst (λ (f : Front). IsFront c.after.result.now f) c.in-Unfinished.is c.in_ok-read_front.ensures.front in
+    let front = subst (λ (f : Front). IsFront c.after.result.now f) c.in-Unfinished.is
+    c.in_ok-read_front.ensures.front in
     let unfinished = subst (λ (b : List ℕ). IsUnfinished b) c.after.ensures front in
     (st, (λ live. unfinished, c.requires.free.free))
 
@@ -36,18 +37,26 @@ pub returns-in_ok-refuse-in-Refused-clause-after : goal.returns-in_ok-refuse-in-
 returns-in_ok-refuse-in-Refused-clause-after c = λ past st.
     let front = subst (λ (f : Front). IsFront c.after.result.now f) c.in-Refused.is c.in_ok-read_front.ensures.front in
     let found = subst (λ (b : List ℕ). IsFound b (Refused c.in-Refused.status)) c.after.ensures front in
-    refused_now c.decided_stays.ensures (read_state c.args.bytes.now c.args.self.now) c.in-Refused.status past st c.requires.free found _
-    (refused_state c.args.bytes.now c.args.self.now c.refuse.new.self c.in-Refused.status c.in_ok-refuse-in-Refused.ensures)
+    refused_now c.decided_stays.ensures (read_state c.args.bytes.now c.args.self.now) c.in-Refused.status past st
+    c.requires.free found _
+    (refused_state c.args.bytes.now c.args.self.now c.refuse.new.self c.in-Refused.status
+    c.in_ok-refuse-in-Refused.ensures)
 
 pub returns-in-Unfinished-clause-plain : goal.returns-in-Unfinished-clause-plain
 returns-in-Unfinished-clause-plain c =
-    let front = subst (λ (f : Front). IsFront c.after.result.now f) c.in-Unfinished.is c.in_ok-read_front.ensures.front in
+    let front = subst (λ (f : Front). IsFront c.after.result.now f) c.in-Unfinished.is
+    c.in_ok-read_front.ensures.front in
     let unfinished = subst (λ (b : List ℕ). IsUnfinished b) c.after.ensures front in
     ((λ live. unfinished, c.requires.free.free), inr (refl, refl))
 
 pub returns-in_ok-refuse-in-Refused-clause-plain : goal.returns-in_ok-refuse-in-Refused-clause-plain
 returns-in_ok-refuse-in-Refused-clause-plain c =
-    let new = refused_state c.args.bytes.now c.args.self.now c.refuse.new.self c.in-Refused.status c.in_ok-refuse-in-Refused.ensures in (
-      (λ live. absurd (refused_not_live c.in-Refused.status (sym (ap (λ (s : SessionState). s.standing) new) ∙ live)), ap (λ (s : SessionState). s.waiting) new ∙ c.requires.free.free),
-      inl (less_ended (read_state c.args.bytes.now c.args.self.now) (read_state c.args.bytes.now c.refuse.new.self) c.requires.free (ap to_come new)),
+    let new = refused_state c.args.bytes.now c.args.self.now c.refuse.new.self c.in-Refused.status
+    c.in_ok-refuse-in-Refused.ensures in (
+      (
+        λ live. absurd (refused_not_live c.in-Refused.status (sym (ap (λ (s : SessionState). s.standing) new) ∙ live)),
+        ap (λ (s : SessionState). s.waiting) new ∙ c.requires.free.free,
+      ),
+      inl (less_ended (read_state c.args.bytes.now c.args.self.now) (read_state c.args.bytes.now c.refuse.new.self)
+          c.requires.free (ap to_come new)),
     )

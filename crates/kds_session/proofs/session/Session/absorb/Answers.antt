@@ -17,4 +17,5 @@ returns-clause-stands c = λ past st.
 pub returns-clause-as_much : goal.returns-clause-as_much
 returns-clause-as_much c =
     let waits = subst (λ (s : SessionState). s.waiting ≢ Nothing) (sym c.self.view_is) c.requires.waits in
-    told_still c.self.inside.left c.self.inside.standing _ c.self.inside.waiting c.is_last-close.result c.is_last-close.ensures waits c.standing_after-self-inside.ensures ∙ ap to_come c.self.view_is
+    told_still c.self.inside.left c.self.inside.standing _ c.self.inside.waiting c.is_last-close.result
+    c.is_last-close.ensures waits c.standing_after-self-inside.ensures ∙ ap to_come c.self.view_is

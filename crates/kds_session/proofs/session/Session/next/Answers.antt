@@ -12,23 +12,38 @@ returns-then-not-is_live-clause-exact c = λ past st.
 
 pub returns-clause-given : goal.returns-clause-given
 returns-clause-given c =
-    let free : IsFree c.args.self.now = record { live = c.is_live.ensures.0 c.if-not-is_live.false; free = c.requires } in
-    next_by c.args.self.now _ c.as_slice.result.now c.new-reading.result c.to_command.new.self c.in_ok-what.what (c.self.view_is ∙ c.take_head-head.ensures.same) c.as_slice.ensures c.new-reading.ensures free c.in_ok-what.ensures.given c.commit.new.self (c.in_ok-commit.ensures.ok ∙ ap (λ (s : SessionState). with_reading s c.to_command.new.self) c.take_head-head.ensures.same)
+    let free : IsFree c.args.self.now =
+    record { live = c.is_live.ensures.0 c.if-not-is_live.false; free = c.requires } in
+    next_by c.args.self.now _ c.as_slice.result.now c.new-reading.result c.to_command.new.self c.in_ok-what.what
+    (c.self.view_is ∙ c.take_head-head.ensures.same) c.as_slice.ensures c.new-reading.ensures free
+    c.in_ok-what.ensures.given c.commit.new.self (c.in_ok-commit.ensures.ok
+    ∙ ap (λ (s : SessionState). with_reading s c.to_command.new.self) c.take_head-head.ensures.same)
 
 pub returns-clause-exact : goal.returns-clause-exact
 returns-clause-exact c = λ past st.
-    let free : IsFree c.args.self.now = record { live = c.is_live.ensures.0 c.if-not-is_live.false; free = c.requires } in
+    let free : IsFree c.args.self.now =
+    record { live = c.is_live.ensures.0 c.if-not-is_live.false; free = c.requires } in
     next_is c.one_reading.ensures c.in_ok-what.what c.commit.new.self past
-    (next_by c.args.self.now _ c.as_slice.result.now c.new-reading.result c.to_command.new.self c.in_ok-what.what (c.self.view_is ∙ c.take_head-head.ensures.same) c.as_slice.ensures c.new-reading.ensures free c.in_ok-what.ensures.given c.commit.new.self (c.in_ok-commit.ensures.ok ∙ ap (λ (s : SessionState). with_reading s c.to_command.new.self) c.take_head-head.ensures.same) past st)
+    (next_by c.args.self.now _ c.as_slice.result.now c.new-reading.result c.to_command.new.self c.in_ok-what.what
+    (c.self.view_is ∙ c.take_head-head.ensures.same) c.as_slice.ensures c.new-reading.ensures free
+    c.in_ok-what.ensures.given c.commit.new.self (c.in_ok-commit.ensures.ok
+    ∙ ap (λ (s : SessionState). with_reading s c.to_command.new.self) c.take_head-head.ensures.same) past st)
 
 pub returns-clause-out : goal.returns-clause-out
 returns-clause-out c =
-    read_out c.found_within_limits.ensures c.in_ok-what.what c.args.self.now _ c.commit.new.self c.as_slice.result.now c.to_command.new.self (c.self.view_is ∙ c.take_head-head.ensures.same) c.as_slice.ensures c.in_ok-what.ensures.out (c.in_ok-commit.ensures.ok ∙ ap (λ (s : SessionState). with_reading s c.to_command.new.self) c.take_head-head.ensures.same)
+    read_out c.found_within_limits.ensures c.in_ok-what.what c.args.self.now _ c.commit.new.self c.as_slice.result.now
+    c.to_command.new.self (c.self.view_is ∙ c.take_head-head.ensures.same) c.as_slice.ensures
+    c.in_ok-what.ensures.out (c.in_ok-commit.ensures.ok
+    ∙ ap (λ (s : SessionState). with_reading s c.to_command.new.self) c.take_head-head.ensures.same)
 
 pub returns-clause-fewer : goal.returns-clause-fewer
 returns-clause-fewer c =
-    let free : IsFree c.args.self.now = record { live = c.is_live.ensures.0 c.if-not-is_live.false; free = c.requires } in
-    fewer_by c.in_ok-what.what c.args.self.now _ c.commit.new.self c.as_slice.result.now c.new-reading.result c.to_command.new.self (c.self.view_is ∙ c.take_head-head.ensures.same) c.as_slice.ensures c.new-reading.ensures free c.in_ok-what.ensures.fewer (c.in_ok-commit.ensures.ok ∙ ap (λ (s : SessionState). with_reading s c.to_command.new.self) c.take_head-head.ensures.same)
+    let free : IsFree c.args.self.now =
+    record { live = c.is_live.ensures.0 c.if-not-is_live.false; free = c.requires } in
+    fewer_by c.in_ok-what.what c.args.self.now _ c.commit.new.self c.as_slice.result.now c.new-reading.result
+    c.to_command.new.self (c.self.view_is ∙ c.take_head-head.ensures.same) c.as_slice.ensures c.new-reading.ensures
+    free c.in_ok-what.ensures.fewer (c.in_ok-commit.ensures.ok
+    ∙ ap (λ (s : SessionState). with_reading s c.to_command.new.self) c.take_head-head.ensures.same)
 
 pub returns-clause-room : goal.returns-clause-room
 returns-clause-room c = read_out_room c.in_ok-what.what c.commit.new.self (returns-clause-out c)

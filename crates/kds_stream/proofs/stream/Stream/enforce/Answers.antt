@@ -10,4 +10,5 @@ use Rattle.kds_stream.specs.contracts.stream.Stream.{the_view}
 pub returns-clause-answered : goal.returns-clause-answered
 returns-clause-answered c log by shown =
     let v : StreamValue = the_view c.self.inside in
-    led_along (λ (u : StreamValue). enforce log u.clock by u.no c.args.on) v c.args.self.now _ log _ c.self.view_is (enforce_done v log by c.args.on (subst (λ (u : StreamValue). Shows u log) (sym c.self.view_is) shown))
+    led_along (λ (u : StreamValue). enforce log u.clock by u.no c.args.on) v c.args.self.now _ log _ c.self.view_is
+    (enforce_done v log by c.args.on (subst (λ (u : StreamValue). Shows u log) (sym c.self.view_is) shown))

@@ -5,4 +5,5 @@ use Rattle.kds_stream.proofs.Listed.{is_listed_some}
 use Rattle.kds_stream.proofs.stream.Stream.is_listed.Goals as goal
 
 pub returns : goal.returns
-returns c = c.is_some.ensures ∙ ap is_some c.listed.ensures.value ∙ is_listed_some (floor_of c.args.self.now.cut) (slice_get c.args.self.now.tree c.args.no)
+returns c = c.is_some.ensures ∙ ap is_some c.listed.ensures.value
+    ∙ is_listed_some (floor_of c.args.self.now.cut) (slice_get c.args.self.now.tree c.args.no)

@@ -18,25 +18,46 @@ use Rattle.kds_stream.proofs.stream.Stream.merge.Goals as goal
 pub invariant_of-self-2 : goal.invariant_of-self-2
 invariant_of-self-2 c =
     let v : StreamValue = the_view c.self.inside in
-    let free : v.next ≢ last_number = subst (λ (u : StreamValue). u.next ≢ last_number) (sym c.self.view_is) c.in_default.ensures.free in
-    let passes = subst (λ (u : StreamValue). merge_refusal u.tree c.args.shard c.args.other ≡ None) (sym c.self.view_is) c.in_default.ensures.merges in
-    let tree = c.in_ok-_child.ensures.value ∙ ap (λ o. value_by o v.tree (merged_shards c.args.shard c.args.other (record { number = v.next; clock = v.clock }) (v.next + 1) v.tree)) passes in
-    let logs : map log_of c.push_reserved.new.self.items ≡ v.logs ++ (empty_log ∷ []) = one_more_log _ _ _ _ c.push_reserved.ensures.items (ap (map log_of) c.in_ok-reserve.ensures.items) c.new.ensures in
+    let free : v.next ≢ last_number =
+    subst (λ (u : StreamValue). u.next ≢ last_number) (sym c.self.view_is) c.in_default.ensures.free in
+    let passes = subst (λ (u : StreamValue). merge_refusal u.tree c.args.shard c.args.other ≡ None) (sym c.self.view_is)
+    c.in_default.ensures.merges in
+    let tree = c.in_ok-_child.ensures.value
+    ∙ ap (λ o. value_by o v.tree
+    (merged_shards c.args.shard c.args.other (record { number = v.next; clock = v.clock }) (v.next + 1) v.tree))
+    passes in
+    let logs : map log_of c.push_reserved.new.self.items ≡ v.logs ++ (empty_log ∷ []) =
+    one_more_log _ _ _ _ c.push_reserved.ensures.items (ap (map log_of) c.in_ok-reserve.ensures.items)
+    c.new.ensures in
     let ws : List WindowValue = c.new-2.result ∷ [] in
-    let windows : c.push_reserved-2.new.self.items ≡ v.windows ++ ws = one_window _ _ v.windows _ c.push_reserved-2.ensures.items c.in_ok-reserve-2.ensures.items in
-    let unused : AllByRecursion IsUnused ws = (record { none = c.new-2.ensures.puts; never = c.new-2.ensures.latest }, tt) in
-    stream_merged v c.args.shard c.args.other _ _ _ _ ws (ap (λ n. n + 1) c.seq.view_is) free passes tree logs windows unused refl c.self.invariant
+    let windows : c.push_reserved-2.new.self.items ≡ v.windows ++ ws =
+    one_window _ _ v.windows _ c.push_reserved-2.ensures.items c.in_ok-reserve-2.ensures.items in
+    let unused : AllByRecursion IsUnused ws =
+    (record { none = c.new-2.ensures.puts; never = c.new-2.ensures.latest }, tt) in
+    stream_merged v c.args.shard c.args.other _ _ _ _ ws (ap (λ n. n + 1) c.seq.view_is) free passes tree logs windows
+    unused refl c.self.invariant
 
 pub returns-clause-answered : goal.returns-clause-answered
 returns-clause-answered c log by show =
     let v : StreamValue = the_view c.self.inside in
-    let free : v.next ≢ last_number = subst (λ (u : StreamValue). u.next ≢ last_number) (sym c.self.view_is) c.in_default.ensures.free in
-    let passes = subst (λ (u : StreamValue). merge_refusal u.tree c.args.shard c.args.other ≡ None) (sym c.self.view_is) c.in_default.ensures.merges in
-    let tree = c.in_ok-_child.ensures.value ∙ ap (λ o. value_by o v.tree (merged_shards c.args.shard c.args.other (record { number = v.next; clock = v.clock }) (v.next + 1) v.tree)) passes in
-    let logs : map log_of c.push_reserved.new.self.items ≡ v.logs ++ (empty_log ∷ []) = one_more_log _ _ _ _ c.push_reserved.ensures.items (ap (map log_of) c.in_ok-reserve.ensures.items) c.new.ensures in
+    let free : v.next ≢ last_number =
+    subst (λ (u : StreamValue). u.next ≢ last_number) (sym c.self.view_is) c.in_default.ensures.free in
+    let passes = subst (λ (u : StreamValue). merge_refusal u.tree c.args.shard c.args.other ≡ None) (sym c.self.view_is)
+    c.in_default.ensures.merges in
+    let tree = c.in_ok-_child.ensures.value
+    ∙ ap (λ o. value_by o v.tree
+    (merged_shards c.args.shard c.args.other (record { number = v.next; clock = v.clock }) (v.next + 1) v.tree))
+    passes in
+    let logs : map log_of c.push_reserved.new.self.items ≡ v.logs ++ (empty_log ∷ []) =
+    one_more_log _ _ _ _ c.push_reserved.ensures.items (ap (map log_of) c.in_ok-reserve.ensures.items)
+    c.new.ensures in
     let show' : Shows v log = subst (λ (u : StreamValue). Shows u log) (sym c.self.view_is) show in
     let ws : List WindowValue = c.new-2.result ∷ [] in
-    let windows : c.push_reserved-2.new.self.items ≡ v.windows ++ ws = one_window _ _ v.windows _ c.push_reserved-2.ensures.items c.in_ok-reserve-2.ensures.items in
-    let unused : AllByRecursion IsUnused ws = (record { none = c.new-2.ensures.puts; never = c.new-2.ensures.latest }, tt) in
-    merge_done c.args.self.now v _ log by c.args.shard c.args.other c.self.view_is (c.in_default.ensures.decided log by show)
-    (shows_merged v log by show' c.self.invariant.as_many c.self.invariant.rated.as_many c.args.shard c.args.other _ _ _ _ ws (ap (λ n. n + 1) c.seq.view_is) tree logs windows unused)
+    let windows : c.push_reserved-2.new.self.items ≡ v.windows ++ ws =
+    one_window _ _ v.windows _ c.push_reserved-2.ensures.items c.in_ok-reserve-2.ensures.items in
+    let unused : AllByRecursion IsUnused ws =
+    (record { none = c.new-2.ensures.puts; never = c.new-2.ensures.latest }, tt) in
+    merge_done c.args.self.now v _ log by c.args.shard c.args.other c.self.view_is
+    (c.in_default.ensures.decided log by show)
+    (shows_merged v log by show' c.self.invariant.as_many c.self.invariant.rated.as_many c.args.shard c.args.other _ _ _
+    _ ws (ap (λ n. n + 1) c.seq.view_is) tree logs windows unused)

@@ -10,14 +10,16 @@ use Rattle.kds_stream.proofs.stream.Stream.more.Goals as goal
 
 pub returns-then-page_expired : goal.returns-then-page_expired
 returns-then-page_expired c log show =
-    let old = subst (λ (u : StreamValue). is_old u.clock c.args.page.now.issued ≡ true) c.self.view_is (sym c.if-page_expired.ensures) in
+    let old = subst (λ (u : StreamValue). is_old u.clock c.args.page.now.issued ≡ true) c.self.view_is
+    (sym c.if-page_expired.ensures) in
     sym (ap answer_of (refused_if _ _ _ old))
 
 pub returns : goal.returns
 returns c log show =
     let v : StreamValue = c.args.self.now in
     let page = c.args.page.now in
-    let young = subst (λ (u : StreamValue). is_old u.clock page.issued ≡ false) c.self.view_is (sym c.if-page_expired.ensures) in
+    let young = subst (λ (u : StreamValue). is_old u.clock page.issued ≡ false) c.self.view_is
+    (sym c.if-page_expired.ensures) in
     let decided : more log v.clock page c.args.limit ≡ list_shards log v.clock v.no (Some page.after) c.args.limit =
     passed_if _ _ _ young
     ∙ passed_if _ _ _ (ap not (ap (is_live log) c.requires.stream ∙ show.stored.live))

@@ -44,7 +44,8 @@ pub returns-in-GetIterator-clause-answered : goal.returns-in-GetIterator-clause-
 returns-in-GetIterator-clause-answered c =
     let v = c.args.self.now in
     let w = c.in-GetIterator in
-    tells {E = Unit {0}} (Ok c.iterator.result) v c.args.room _ _ (λ log. get_iterator log v.clock v.no w.shard w.from) w.is refl
+    tells {E = Unit {0}} (Ok c.iterator.result) v c.args.room _ _ (λ log. get_iterator log v.clock v.no w.shard w.from)
+    w.is refl
     (λ log by told. with_some _ _ _ v.no (told.named _ refl).1) c.iterator.ensures
 
 pub records-requires-clause-stream : goal.records-requires-clause-stream
@@ -54,16 +55,19 @@ pub returns-in-Records-clause-answered : goal.returns-in-Records-clause-answered
 returns-in-Records-clause-answered c =
     let v = c.args.self.now in
     let w = c.in-Records in
-    tells c.records.result v c.args.room _ _ (λ log. get_records log v.clock w.iter w.limit) w.is refl (λ log by told. refl) c.records.ensures
+    tells c.records.result v c.args.room _ _ (λ log. get_records log v.clock w.iter w.limit) w.is refl
+    (λ log by told. refl) c.records.ensures
 
 pub returns-in-Split-clause-answered : goal.returns-in-Split-clause-answered
 returns-in-Split-clause-answered c =
     let v = c.args.self.now in
     let w = c.in-Split in
-    serves c.split.result v c.split.new.self c.args.room _ _ (λ log by. split_where (is_full v c.args.room) log v.clock by v.no w.shard w.at) w.is
+    serves c.split.result v c.split.new.self c.args.room _ _
+    (λ log by. split_where (is_full v c.args.room) log v.clock by v.no w.shard w.at) w.is
     (λ log by told.
     with_some _ _ _ v.no (told.named _ refl).1
-    ∙ ap (λ f. split_where f log v.clock by v.no w.shard w.at) (sym (full_so _ _ _ _ told refl))) c.split.ensures.answered
+    ∙ ap (λ f. split_where f log v.clock by v.no w.shard w.at) (sym (full_so _ _ _ _ told refl)))
+    c.split.ensures.answered
 
 pub returns-in-Merge-clause-answered : goal.returns-in-Merge-clause-answered
 returns-in-Merge-clause-answered c =
@@ -76,7 +80,8 @@ pub returns-in-Keep-clause-answered : goal.returns-in-Keep-clause-answered
 returns-in-Keep-clause-answered c =
     let v = c.args.self.now in
     let w = c.in-Keep in
-    serves {E = Unit {0}} (Ok c.keep.result) v c.keep.new.self c.args.room _ _ (λ log by. keep log v.clock by v.no w.hours w.raise) w.is
+    serves {E = Unit {0}} (Ok c.keep.result) v c.keep.new.self c.args.room _ _
+    (λ log by. keep log v.clock by v.no w.hours w.raise) w.is
     (λ log by told. with_some _ _ _ v.no (told.named _ refl).1) c.keep.ensures.answered
 
 pub returns-in-Scale-clause-answered : goal.returns-in-Scale-clause-answered
@@ -84,17 +89,20 @@ returns-in-Scale-clause-answered c =
     let v = c.args.self.now in
     let w = c.in-Scale in
     let some = (subst IsLawfulCommand w.is c.requires.lawful).1.0 in
-    serves c.scale.result v c.scale.new.self c.args.room _ _ (λ log by. scale_where (is_over w.target c.args.room) log v.clock by v.name v.no w.target) w.is
+    serves c.scale.result v c.scale.new.self c.args.room _ _
+    (λ log by. scale_where (is_over w.target c.args.room) log v.clock by v.name v.no w.target) w.is
     (λ log by told.
     with_some _ _ _ v.no (told.named _ refl).1
     ∙ ap (λ n. scale_stream log v.clock by n v.no w.target) (told.named _ refl).0
-    ∙ ap (λ f. scale_where f log v.clock by v.name v.no w.target) (sym (over_so _ _ _ _ told refl w.target some))) c.scale.ensures.answered
+    ∙ ap (λ f. scale_where f log v.clock by v.name v.no w.target) (sym (over_so _ _ _ _ told refl w.target some)))
+    c.scale.ensures.answered
 
 pub returns-in-Enforce-clause-answered : goal.returns-in-Enforce-clause-answered
 returns-in-Enforce-clause-answered c =
     let v = c.args.self.now in
     let w = c.in-Enforce in
-    serves {E = Unit {0}} (Ok c.enforce.result) v c.enforce.new.self c.args.room _ _ (λ log by. enforce log v.clock by v.no w.on) w.is
+    serves {E = Unit {0}} (Ok c.enforce.result) v c.enforce.new.self c.args.room _ _
+    (λ log by. enforce log v.clock by v.no w.on) w.is
     (λ log by told. with_some _ _ _ v.no (told.named _ refl).1) c.enforce.ensures.answered
 
 pub returns-in-Shards-clause-answered : goal.returns-in-Shards-clause-answered
@@ -111,4 +119,5 @@ pub returns-in-More-clause-answered : goal.returns-in-More-clause-answered
 returns-in-More-clause-answered c =
     let v = c.args.self.now in
     let w = c.in-More in
-    tells c.more.result v c.args.room _ _ (λ log. more log v.clock w.page w.limit) w.is refl (λ log by told. refl) c.more.ensures
+    tells c.more.result v c.args.room _ _ (λ log. more log v.clock w.page w.limit) w.is refl (λ log by told. refl)
+    c.more.ensures

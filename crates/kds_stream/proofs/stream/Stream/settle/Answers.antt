@@ -14,7 +14,9 @@ use Rattle.kds_stream.proofs.stream.Stream.settle.Goals as goal
 pub invariant_of-self : goal.invariant_of-self
 invariant_of-self c =
     let v : StreamValue = the_view c.self.inside in
-    let kept = map log_of (take c.self.inside.logs.len (c.settle_at.new.logs ++ drop (length c.settle_at.new.logs) c.self.inside.logs.items)) in
+    let kept = map log_of
+    (take c.self.inside.logs.len (c.settle_at.new.logs
+    ++ drop (length c.settle_at.new.logs) c.self.inside.logs.items)) in
     let back : kept ≡ settled_at (floor_of v.cut) v.turn v.logs =
     ap (map log_of) (written_back _ c.settle_at.new.logs c.self.inside.logs.items (omega arith))
     ∙ c.settle_at.ensures
@@ -22,13 +24,17 @@ invariant_of-self c =
     let next = c.next_of-self-inside.result in
     let after : List ShardState → List LogValue → StreamValue =
     λ xs ls. record v { tree = xs; logs = ls; clock_before = v.clock; cut_before = v.cut; turn = next } in
-    subst (λ (xs : List ShardState). IsStream (after xs kept)) (sym (ap (λ (t : TreeValue). t.shards) c.pass_expired.ensures))
-    (subst (λ (ls : List LogValue). IsStream (after v.tree ls)) (sym back) (settled_stream v v.turn next c.self.invariant))
+    subst (λ (xs : List ShardState). IsStream (after xs kept))
+    (sym (ap (λ (t : TreeValue). t.shards) c.pass_expired.ensures))
+    (subst (λ (ls : List LogValue). IsStream (after v.tree ls)) (sym back)
+    (settled_stream v v.turn next c.self.invariant))
 
 pub returns-clause-shows : goal.returns-clause-shows
 returns-clause-shows c log shown =
     let v : StreamValue = the_view c.self.inside in
-    let kept = map log_of (take c.self.inside.logs.len (c.settle_at.new.logs ++ drop (length c.settle_at.new.logs) c.self.inside.logs.items)) in
+    let kept = map log_of
+    (take c.self.inside.logs.len (c.settle_at.new.logs
+    ++ drop (length c.settle_at.new.logs) c.self.inside.logs.items)) in
     let back : kept ≡ settled_at (floor_of v.cut) v.turn v.logs =
     ap (map log_of) (written_back _ c.settle_at.new.logs c.self.inside.logs.items (omega arith))
     ∙ c.settle_at.ensures
@@ -37,5 +43,7 @@ returns-clause-shows c log shown =
     let after : List ShardState → List LogValue → StreamValue =
     λ xs ls. record v { tree = xs; logs = ls; clock_before = v.clock; cut_before = v.cut; turn = next } in
     let shown' : Shows v log = subst (λ (w : StreamValue). Shows w log) (sym c.self.view_is) shown in
-    subst (λ (xs : List ShardState). Shows (after xs kept) log) (sym (ap (λ (t : TreeValue). t.shards) c.pass_expired.ensures))
-    (subst (λ (ls : List LogValue). Shows (after v.tree ls) log) (sym back) (shows_settled v v.turn v.clock v.cut next log shown'))
+    subst (λ (xs : List ShardState). Shows (after xs kept) log)
+    (sym (ap (λ (t : TreeValue). t.shards) c.pass_expired.ensures))
+    (subst (λ (ls : List LogValue). Shows (after v.tree ls) log) (sym back)
+    (shows_settled v v.turn v.clock v.cut next log shown'))

@@ -11,14 +11,17 @@ pub returns-clause-found : goal.returns-clause-found
 returns-clause-found c =
     let xs = c.args.self.now.shards in
     let tree : IsTree xs = subst IsTree (ap (λ (t : TreeValue). t.shards) c.self.view_is) c.self.invariant.0 in
-    let starts : AreStarts c.self.inside.starts.items xs = subst (AreStarts c.self.inside.starts.items) (ap (λ (t : TreeValue). t.shards) c.self.view_is) c.self.invariant.1 in
+    let starts : AreStarts c.self.inside.starts.items xs =
+    subst (AreStarts c.self.inside.starts.items) (ap (λ (t : TreeValue). t.shards) c.self.view_is)
+    c.self.invariant.1 in
     c.home_of.ensures xs tree (subst (λ (ss : List OpenStart). AreStarts ss xs) (sym c.deref.ensures.value) starts)
 
 pub returns-clause-value : goal.returns-clause-value
 returns-clause-value c =
     let xs = c.args.self.now.shards in
     let tree : IsTree xs = subst IsTree (ap (λ (t : TreeValue). t.shards) c.self.view_is) c.self.invariant.0 in
-    only_home xs c.args.hash c.home_of.result (home_among (filter is_open xs) c.args.hash) tree (omega arith) (returns-clause-found c) (home_is xs c.args.hash tree (omega arith))
+    only_home xs c.args.hash c.home_of.result (home_among (filter is_open xs) c.args.hash) tree (omega arith)
+    (returns-clause-found c) (home_is xs c.args.hash tree (omega arith))
 
 pub returns-clause-only : goal.returns-clause-only
 returns-clause-only c = λ sh home.

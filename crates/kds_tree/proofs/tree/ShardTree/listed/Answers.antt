@@ -14,8 +14,10 @@ pub split_at-requires : goal.split_at-requires
 split_at-requires c =
     let names = c.self.inside.front.left.items in
     let front = c.passed_at-passed.ensures
-    (subst (AreLeft (floor_of c.self.inside.front.cut) 0 c.self.inside.front.count names) (sym c.deref.ensures.value) c.self.invariant.3) in
-    let within = left_within (floor_of c.args.cut) 0 c.passed_at-passed.result.0 c.passed_at-passed.result.1.now c.deref.result.now front in
+    (subst (AreLeft (floor_of c.self.inside.front.cut) 0 c.self.inside.front.count names) (sym c.deref.ensures.value)
+    c.self.invariant.3) in
+    let within = left_within (floor_of c.args.cut) 0 c.passed_at-passed.result.0 c.passed_at-passed.result.1.now
+    c.deref.result.now front in
     omega (
       arith,
       within,
@@ -36,16 +38,20 @@ returns-clause-shards c =
     let start = c.start_behind-start.result in
     let names = c.numbers_from-numbers.result.now in
     let front = c.passed_at-passed.ensures
-    (subst (AreLeft (floor_of c.self.inside.front.cut) 0 c.self.inside.front.count c.self.inside.front.left.items) (sym c.deref.ensures.value) c.self.invariant.3) in
-    let front' : AreLeft (floor_of c.args.cut) 0 count left xs = subst (AreLeft (floor_of c.args.cut) 0 count left) (c.deref.ensures.value ∙ is) front in
+    (subst (AreLeft (floor_of c.self.inside.front.cut) 0 c.self.inside.front.count c.self.inside.front.left.items)
+    (sym c.deref.ensures.value) c.self.invariant.3) in
+    let front' : AreLeft (floor_of c.args.cut) 0 count left xs =
+    subst (AreLeft (floor_of c.args.cut) 0 count left) (c.deref.ensures.value ∙ is) front in
     let from = c.numbers_from-numbers.ensures (floor_of c.args.cut) count xs front' in
     let all = c.deref-2.ensures.value ∙ is in
     let behind = ap (drop start) (sym all)
     ∙ c.start_behind-start.ensures.behind (subst (λ (us : List ShardState). IsTree us) (sym all) tree).numbered
     ∙ ap (filter (is_after_shard c.args.after)) all in
     subst (λ (us : List Shard). IfOk c.page_of.result (λ r. r.0 ≡ take c.args.limit us))
-    (ap (λ (us : List ShardState). listing c.args.cut (picked names us ++ c.split_at.result.1.now)) (c.deref-4.ensures.value ∙ is)
-    ∙ ap (λ (us : List ShardState). listing c.args.cut (picked names xs ++ us)) (c.split_at.ensures.back ∙ ap (drop c.max.result) (c.deref-3.ensures.value ∙ is))
+    (ap (λ (us : List ShardState). listing c.args.cut (picked names us ++ c.split_at.result.1.now))
+    (c.deref-4.ensures.value ∙ is)
+    ∙ ap (λ (us : List ShardState). listing c.args.cut (picked names xs ++ us)) (c.split_at.ensures.back
+    ∙ ap (drop c.max.result) (c.deref-3.ensures.value ∙ is))
     ∙ listing_left c.args.cut c.args.after xs names count start c.max.result from c.max.ensures behind)
     c.page_of.ensures.shards
 
@@ -59,15 +65,19 @@ returns-clause-more c =
     let start = c.start_behind-start.result in
     let names = c.numbers_from-numbers.result.now in
     let front = c.passed_at-passed.ensures
-    (subst (AreLeft (floor_of c.self.inside.front.cut) 0 c.self.inside.front.count c.self.inside.front.left.items) (sym c.deref.ensures.value) c.self.invariant.3) in
-    let front' : AreLeft (floor_of c.args.cut) 0 count left xs = subst (AreLeft (floor_of c.args.cut) 0 count left) (c.deref.ensures.value ∙ is) front in
+    (subst (AreLeft (floor_of c.self.inside.front.cut) 0 c.self.inside.front.count c.self.inside.front.left.items)
+    (sym c.deref.ensures.value) c.self.invariant.3) in
+    let front' : AreLeft (floor_of c.args.cut) 0 count left xs =
+    subst (AreLeft (floor_of c.args.cut) 0 count left) (c.deref.ensures.value ∙ is) front in
     let from = c.numbers_from-numbers.ensures (floor_of c.args.cut) count xs front' in
     let all = c.deref-2.ensures.value ∙ is in
     let behind = ap (drop start) (sym all)
     ∙ c.start_behind-start.ensures.behind (subst (λ (us : List ShardState). IsTree us) (sym all) tree).numbered
     ∙ ap (filter (is_after_shard c.args.after)) all in
     subst (λ (us : List Shard). IfOk c.page_of.result (λ r. r.1 ≡ are_more c.args.limit us))
-    (ap (λ (us : List ShardState). listing c.args.cut (picked names us ++ c.split_at.result.1.now)) (c.deref-4.ensures.value ∙ is)
-    ∙ ap (λ (us : List ShardState). listing c.args.cut (picked names xs ++ us)) (c.split_at.ensures.back ∙ ap (drop c.max.result) (c.deref-3.ensures.value ∙ is))
+    (ap (λ (us : List ShardState). listing c.args.cut (picked names us ++ c.split_at.result.1.now))
+    (c.deref-4.ensures.value ∙ is)
+    ∙ ap (λ (us : List ShardState). listing c.args.cut (picked names xs ++ us)) (c.split_at.ensures.back
+    ∙ ap (drop c.max.result) (c.deref-3.ensures.value ∙ is))
     ∙ listing_left c.args.cut c.args.after xs names count start c.max.result from c.max.ensures behind)
     c.page_of.ensures.more

@@ -10,7 +10,8 @@ use Rattle.kds_tree.specs.Starts.{AreStarts, own_start, stays}
 use Rattle.kds_tree.specs.Tree.{IsTree, TreeValue}
 use Rattle.kds_tree.proofs.Families.{one_place}
 use Rattle.kds_tree.proofs.OpenStarts.{one_more}
-use Rattle.kds_tree.proofs.Reshards.{both_known, both_within, front_merge, merges, merge_value, refused_answer, refused_value}
+use Rattle.kds_tree.proofs.Reshards.{both_known, both_within, front_merge, merges, merge_value, refused_answer}
+use Rattle.kds_tree.proofs.Reshards.{refused_value}
 use Rattle.kds_tree.proofs.tree.ShardTree.merge.Goals as goal
 
 pub invariant_of-self-2 : goal.invariant_of-self-2
@@ -18,27 +19,41 @@ invariant_of-self-2 c =
     let xs = c.args.self.now.shards in
     let how : Closing = record { number = c.args.seq; clock = c.args.clock } in
     let born = c.new-born.result in
-    let pushed : c.push.new.self.items ≡ xs ++ born ∷ [] = c.in_ok-push.ensures.items ∙ ap (λ (ss : List ShardState). ss ++ born ∷ []) (ap (λ (t : TreeValue). t.shards) c.self.view_is) in
-    let s = merges xs c.push.new.self.items c.args.shard c.args.other c.shard.inside.0 c.other.inside.0 c.args.seq c.len.result c.seq.inside.0 how c.in-Ok.range born c.index_mut.result.now c.close.new.self c.index_mut-2.result.now c.close-2.new.self
-    c.in-Ok.ensures c.shard.view_is c.other.view_is c.len.ensures.value c.seq.view_is c.new-born.ensures pushed c.index_mut.ensures.value c.close.ensures c.index_mut-2.ensures.value c.close-2.ensures in
+    let pushed : c.push.new.self.items ≡ xs ++ born ∷ [] =
+    c.in_ok-push.ensures.items
+    ∙ ap (λ (ss : List ShardState). ss ++ born ∷ []) (ap (λ (t : TreeValue). t.shards) c.self.view_is) in
+    let s = merges xs c.push.new.self.items c.args.shard c.args.other c.shard.inside.0 c.other.inside.0 c.args.seq
+    c.len.result c.seq.inside.0 how c.in-Ok.range born c.index_mut.result.now c.close.new.self
+    c.index_mut-2.result.now c.close-2.new.self
+    c.in-Ok.ensures c.shard.view_is c.other.view_is c.len.ensures.value c.seq.view_is c.new-born.ensures pushed
+    c.index_mut.ensures.value c.close.ensures c.index_mut-2.ensures.value c.close-2.ensures in
     let ss = c.self.inside.starts.items in
-    let starts : AreStarts ss xs = subst (AreStarts ss) (ap (λ (t : TreeValue). t.shards) c.self.view_is) c.self.invariant.1 in
-    let away = one_more (filter (stays c.args.shard c.args.other) ss) c.remove_starts.new.starts.items c.push_reserved.new.self.items c.start.result (own_start born)
-    (c.remove_starts.ensures.left ∙ ap (filter (stays c.args.shard c.args.other)) c.reserve.ensures.items) c.push_reserved.ensures.items c.start.ensures in
+    let starts : AreStarts ss xs =
+    subst (AreStarts ss) (ap (λ (t : TreeValue). t.shards) c.self.view_is) c.self.invariant.1 in
+    let away = one_more (filter (stays c.args.shard c.args.other) ss) c.remove_starts.new.starts.items
+    c.push_reserved.new.self.items c.start.result (own_start born)
+    (c.remove_starts.ensures.left ∙ ap (filter (stays c.args.shard c.args.other)) c.reserve.ensures.items)
+    c.push_reserved.ensures.items c.start.ensures in
     let tree = subst IsTree (ap (λ (t : TreeValue). t.shards) c.self.view_is) c.self.invariant.0 in
     let firsts = c.self.inside.first_children.items in
-    let families : AreFamilies firsts xs = subst (AreFamilies firsts) (ap (λ (t : TreeValue). t.shards) c.self.view_is) c.self.invariant.2 in
+    let families : AreFamilies firsts xs =
+    subst (AreFamilies firsts) (ap (λ (t : TreeValue). t.shards) c.self.view_is) c.self.invariant.2 in
     let names = c.self.inside.front.left.items in
     let front : AreLeft (floor_of c.self.inside.front.cut) 0 c.self.inside.front.count names xs =
-    subst (AreLeft (floor_of c.self.inside.front.cut) 0 c.self.inside.front.count names) (ap (λ (t : TreeValue). t.shards) c.self.view_is) c.self.invariant.3 in
+    subst (AreLeft (floor_of c.self.inside.front.cut) 0 c.self.inside.front.count names)
+    (ap (λ (t : TreeValue). t.shards) c.self.view_is) c.self.invariant.3 in
     let places = one_place firsts c.reserve-2.new.self.items c.set_first_child.new.first_children.items
     c.push_reserved-2.new.self.items c.args.shard c.args.other c.len.result _
     c.reserve-2.ensures.items c.set_first_child.ensures.items c.len.ensures.value c.push_reserved-2.ensures.items in
-    let zs = slice_set (slice_set c.push.new.self.items c.shard.inside.0 c.close.new.self) c.other.inside.0 c.close-2.new.self in (
+    let zs = slice_set (slice_set c.push.new.self.items c.shard.inside.0 c.close.new.self) c.other.inside.0
+    c.close-2.new.self in (
       s.tree tree,
-      s.starts tree ss c.push_reserved.new.self.items c.sort_starts.new.starts.items starts away c.sort_starts.ensures.same c.sort_starts.ensures.order,
+      s.starts tree ss c.push_reserved.new.self.items c.sort_starts.new.starts.items starts away
+          c.sort_starts.ensures.same c.sort_starts.ensures.order,
       subst (λ (fs : List (Option ℕ)). AreFamilies fs zs) (sym places) (s.families firsts families),
-      front_merge xs c.push.new.self.items c.args.shard c.args.other c.shard.inside.0 c.other.inside.0 (floor_of c.self.inside.front.cut) c.self.inside.front.count names c.in-Ok.range _ born c.close.new.self c.close-2.new.self
+      front_merge xs c.push.new.self.items c.args.shard c.args.other c.shard.inside.0 c.other.inside.0
+          (floor_of c.self.inside.front.cut) c.self.inside.front.count names c.in-Ok.range _ born c.close.new.self
+          c.close-2.new.self
           c.in-Ok.ensures c.shard.view_is c.other.view_is pushed front,
     )
 
@@ -63,10 +78,15 @@ returns-clause-value c =
     let xs = c.args.self.now.shards in
     let how : Closing = record { number = c.args.seq; clock = c.args.clock } in
     let born = c.new-born.result in
-    let pushed : c.push.new.self.items ≡ xs ++ born ∷ [] = c.in_ok-push.ensures.items ∙ ap (λ (ss : List ShardState). ss ++ born ∷ []) (ap (λ (t : TreeValue). t.shards) c.self.view_is) in
+    let pushed : c.push.new.self.items ≡ xs ++ born ∷ [] =
+    c.in_ok-push.ensures.items
+    ∙ ap (λ (ss : List ShardState). ss ++ born ∷ []) (ap (λ (t : TreeValue). t.shards) c.self.view_is) in
     merge_value xs c.args.shard c.args.other (c.args.seq + 1) how born _ (
-    merges xs c.push.new.self.items c.args.shard c.args.other c.shard.inside.0 c.other.inside.0 c.args.seq c.len.result c.seq.inside.0 how c.in-Ok.range born c.index_mut.result.now c.close.new.self c.index_mut-2.result.now c.close-2.new.self
-    c.in-Ok.ensures c.shard.view_is c.other.view_is c.len.ensures.value c.seq.view_is c.new-born.ensures pushed c.index_mut.ensures.value c.close.ensures c.index_mut-2.ensures.value c.close-2.ensures)
+    merges xs c.push.new.self.items c.args.shard c.args.other c.shard.inside.0 c.other.inside.0 c.args.seq c.len.result
+    c.seq.inside.0 how c.in-Ok.range born c.index_mut.result.now c.close.new.self c.index_mut-2.result.now
+    c.close-2.new.self
+    c.in-Ok.ensures c.shard.view_is c.other.view_is c.len.ensures.value c.seq.view_is c.new-born.ensures pushed
+    c.index_mut.ensures.value c.close.ensures c.index_mut-2.ensures.value c.close-2.ensures)
 
 pub returns-in-Err-clause-answer : goal.returns-in-Err-clause-answer
 returns-in-Err-clause-answer c = refused_answer _ c.in-Err.refusal _ _ c.in-Err.ensures
@@ -78,14 +98,20 @@ pub index_mut-requires : goal.index_mut-requires
 index_mut-requires c =
     let xs = c.args.self.now.shards in
     let born = c.new-born.result in
-    let pushed : c.push.new.self.items ≡ xs ++ born ∷ [] = c.in_ok-push.ensures.items ∙ ap (λ (ss : List ShardState). ss ++ born ∷ []) (ap (λ (t : TreeValue). t.shards) c.self.view_is) in
+    let pushed : c.push.new.self.items ≡ xs ++ born ∷ [] =
+    c.in_ok-push.ensures.items
+    ∙ ap (λ (ss : List ShardState). ss ++ born ∷ []) (ap (λ (t : TreeValue). t.shards) c.self.view_is) in
     let long : vec_len c.push.new.self ≡ length c.push.new.self.items = search rules in
-    (both_within xs c.push.new.self.items c.args.shard c.args.other c.shard.inside.0 c.args.other _ c.in-Ok.range _ born c.in-Ok.ensures c.shard.view_is refl long pushed).0
+    (both_within xs c.push.new.self.items c.args.shard c.args.other c.shard.inside.0 c.args.other _ c.in-Ok.range _ born
+    c.in-Ok.ensures c.shard.view_is refl long pushed).0
 
 pub index_mut-requires-2 : goal.index_mut-requires-2
 index_mut-requires-2 c =
     let xs = c.args.self.now.shards in
     let born = c.new-born.result in
-    let pushed : c.push.new.self.items ≡ xs ++ born ∷ [] = c.in_ok-push.ensures.items ∙ ap (λ (ss : List ShardState). ss ++ born ∷ []) (ap (λ (t : TreeValue). t.shards) c.self.view_is) in
+    let pushed : c.push.new.self.items ≡ xs ++ born ∷ [] =
+    c.in_ok-push.ensures.items
+    ∙ ap (λ (ss : List ShardState). ss ++ born ∷ []) (ap (λ (t : TreeValue). t.shards) c.self.view_is) in
     let long : vec_len c.push.new.self ≡ length c.push.new.self.items = search rules in
-    (both_within xs c.push.new.self.items c.args.shard c.args.other c.args.shard c.other.inside.0 _ c.in-Ok.range _ born c.in-Ok.ensures refl c.other.view_is long pushed).1
+    (both_within xs c.push.new.self.items c.args.shard c.args.other c.args.shard c.other.inside.0 _ c.in-Ok.range _ born
+    c.in-Ok.ensures refl c.other.view_is long pushed).1

@@ -9,7 +9,8 @@ use Rattle.kds_tree.specs.Starts.{AreStarts, own_start, stays}
 use Rattle.kds_tree.specs.Tree.{IsTree, TreeValue}
 use Rattle.kds_tree.proofs.Families.{two_places}
 use Rattle.kds_tree.proofs.OpenStarts.{two_more}
-use Rattle.kds_tree.proofs.Reshards.{front_split, refused_answer, refused_value, split_known, split_within, splits, split_value}
+use Rattle.kds_tree.proofs.Reshards.{front_split, refused_answer, refused_value, split_known, split_within, splits}
+use Rattle.kds_tree.proofs.Reshards.{split_value}
 use Rattle.kds_tree.proofs.tree.ShardTree.split.Goals as goal
 
 pub invariant_of-self-2 : goal.invariant_of-self-2
@@ -19,27 +20,39 @@ invariant_of-self-2 c =
     let low = c.new-lower_child.result in
     let high = c.new-upper_child.result in
     let pushed : c.extend_from_slice.new.self.items ≡ xs ++ (low ∷ high ∷ []) =
-    c.in_ok-extend_from_slice.ensures.items ∙ ap (λ (ss : List ShardState). ss ++ (low ∷ high ∷ [])) (ap (λ (t : TreeValue). t.shards) c.self.view_is) in
-    let s = splits xs c.extend_from_slice.new.self.items c.args.shard c.shard.inside.0 c.args.at c.args.seq c.len.result c.len-2.result c.seq.inside.0 how c.in-Ok.ranges low high c.index_mut.result.now c.close.new.self
-    c.in-Ok.ensures c.shard.view_is c.len.ensures.value c.len-2.ensures.value c.seq.view_is c.new-lower_child.ensures c.new-upper_child.ensures pushed c.index_mut.ensures.value c.close.ensures in
+    c.in_ok-extend_from_slice.ensures.items
+    ∙ ap (λ (ss : List ShardState). ss ++ (low ∷ high ∷ [])) (ap (λ (t : TreeValue). t.shards) c.self.view_is) in
+    let s = splits xs c.extend_from_slice.new.self.items c.args.shard c.shard.inside.0 c.args.at c.args.seq c.len.result
+    c.len-2.result c.seq.inside.0 how c.in-Ok.ranges low high c.index_mut.result.now c.close.new.self
+    c.in-Ok.ensures c.shard.view_is c.len.ensures.value c.len-2.ensures.value c.seq.view_is c.new-lower_child.ensures
+    c.new-upper_child.ensures pushed c.index_mut.ensures.value c.close.ensures in
     let ss = c.self.inside.starts.items in
-    let starts : AreStarts ss xs = subst (AreStarts ss) (ap (λ (t : TreeValue). t.shards) c.self.view_is) c.self.invariant.1 in
-    let away = two_more (filter (stays c.args.shard c.args.shard) ss) c.remove_starts.new.starts.items c.push_reserved.new.self.items c.push_reserved-2.new.self.items c.start.result c.start-2.result (own_start low) (own_start high)
-    (c.remove_starts.ensures.left ∙ ap (filter (stays c.args.shard c.args.shard)) c.reserve.ensures.items) c.push_reserved.ensures.items c.push_reserved-2.ensures.items c.start.ensures c.start-2.ensures in
+    let starts : AreStarts ss xs =
+    subst (AreStarts ss) (ap (λ (t : TreeValue). t.shards) c.self.view_is) c.self.invariant.1 in
+    let away = two_more (filter (stays c.args.shard c.args.shard) ss) c.remove_starts.new.starts.items
+    c.push_reserved.new.self.items c.push_reserved-2.new.self.items c.start.result c.start-2.result (own_start low)
+    (own_start high)
+    (c.remove_starts.ensures.left ∙ ap (filter (stays c.args.shard c.args.shard)) c.reserve.ensures.items)
+    c.push_reserved.ensures.items c.push_reserved-2.ensures.items c.start.ensures c.start-2.ensures in
     let tree = subst IsTree (ap (λ (t : TreeValue). t.shards) c.self.view_is) c.self.invariant.0 in
     let firsts = c.self.inside.first_children.items in
-    let families : AreFamilies firsts xs = subst (AreFamilies firsts) (ap (λ (t : TreeValue). t.shards) c.self.view_is) c.self.invariant.2 in
+    let families : AreFamilies firsts xs =
+    subst (AreFamilies firsts) (ap (λ (t : TreeValue). t.shards) c.self.view_is) c.self.invariant.2 in
     let names = c.self.inside.front.left.items in
     let front : AreLeft (floor_of c.self.inside.front.cut) 0 c.self.inside.front.count names xs =
-    subst (AreLeft (floor_of c.self.inside.front.cut) 0 c.self.inside.front.count names) (ap (λ (t : TreeValue). t.shards) c.self.view_is) c.self.invariant.3 in
+    subst (AreLeft (floor_of c.self.inside.front.cut) 0 c.self.inside.front.count names)
+    (ap (λ (t : TreeValue). t.shards) c.self.view_is) c.self.invariant.3 in
     let places = two_places firsts c.reserve-2.new.self.items c.set_first_child.new.first_children.items
     c.push_reserved-3.new.self.items c.push_reserved-4.new.self.items c.args.shard c.args.shard c.len.result _
-    c.reserve-2.ensures.items c.set_first_child.ensures.items c.len.ensures.value c.push_reserved-3.ensures.items c.push_reserved-4.ensures.items in
+    c.reserve-2.ensures.items c.set_first_child.ensures.items c.len.ensures.value c.push_reserved-3.ensures.items
+    c.push_reserved-4.ensures.items in
     let zs = slice_set c.extend_from_slice.new.self.items c.shard.inside.0 c.close.new.self in (
       s.tree tree,
-      s.starts tree ss c.push_reserved-2.new.self.items c.sort_starts.new.starts.items starts away c.sort_starts.ensures.same c.sort_starts.ensures.order,
+      s.starts tree ss c.push_reserved-2.new.self.items c.sort_starts.new.starts.items starts away
+          c.sort_starts.ensures.same c.sort_starts.ensures.order,
       subst (λ (fs : List (Option ℕ)). AreFamilies fs zs) (sym places) (s.families firsts families),
-      front_split xs c.extend_from_slice.new.self.items c.args.shard c.shard.inside.0 c.args.at (floor_of c.self.inside.front.cut) c.self.inside.front.count names c.in-Ok.ranges low high c.close.new.self
+      front_split xs c.extend_from_slice.new.self.items c.args.shard c.shard.inside.0 c.args.at
+          (floor_of c.self.inside.front.cut) c.self.inside.front.count names c.in-Ok.ranges low high c.close.new.self
           c.in-Ok.ensures c.shard.view_is pushed front,
     )
 
@@ -61,10 +74,13 @@ returns-clause-value c =
     let low = c.new-lower_child.result in
     let high = c.new-upper_child.result in
     let pushed : c.extend_from_slice.new.self.items ≡ xs ++ (low ∷ high ∷ []) =
-    c.in_ok-extend_from_slice.ensures.items ∙ ap (λ (ss : List ShardState). ss ++ (low ∷ high ∷ [])) (ap (λ (t : TreeValue). t.shards) c.self.view_is) in
+    c.in_ok-extend_from_slice.ensures.items
+    ∙ ap (λ (ss : List ShardState). ss ++ (low ∷ high ∷ [])) (ap (λ (t : TreeValue). t.shards) c.self.view_is) in
     split_value xs c.args.shard c.args.at (c.args.seq + 1) how low high _ (
-    splits xs c.extend_from_slice.new.self.items c.args.shard c.shard.inside.0 c.args.at c.args.seq c.len.result c.len-2.result c.seq.inside.0 how c.in-Ok.ranges low high c.index_mut.result.now c.close.new.self
-    c.in-Ok.ensures c.shard.view_is c.len.ensures.value c.len-2.ensures.value c.seq.view_is c.new-lower_child.ensures c.new-upper_child.ensures pushed c.index_mut.ensures.value c.close.ensures)
+    splits xs c.extend_from_slice.new.self.items c.args.shard c.shard.inside.0 c.args.at c.args.seq c.len.result
+    c.len-2.result c.seq.inside.0 how c.in-Ok.ranges low high c.index_mut.result.now c.close.new.self
+    c.in-Ok.ensures c.shard.view_is c.len.ensures.value c.len-2.ensures.value c.seq.view_is c.new-lower_child.ensures
+    c.new-upper_child.ensures pushed c.index_mut.ensures.value c.close.ensures)
 
 pub returns-in-Err-clause-answer : goal.returns-in-Err-clause-answer
 returns-in-Err-clause-answer c = refused_answer _ c.in-Err.refusal _ _ c.in-Err.ensures
@@ -78,7 +94,9 @@ index_mut-requires c =
     let low = c.new-lower_child.result in
     let high = c.new-upper_child.result in
     let pushed : c.extend_from_slice.new.self.items ≡ xs ++ (low ∷ high ∷ []) =
-    c.in_ok-extend_from_slice.ensures.items ∙ ap (λ (ss : List ShardState). ss ++ (low ∷ high ∷ [])) (ap (λ (t : TreeValue). t.shards) c.self.view_is) in
+    c.in_ok-extend_from_slice.ensures.items
+    ∙ ap (λ (ss : List ShardState). ss ++ (low ∷ high ∷ [])) (ap (λ (t : TreeValue). t.shards) c.self.view_is) in
     let within : c.shard.inside.0 < length c.extend_from_slice.new.self.items =
-    split_within xs c.extend_from_slice.new.self.items c.args.shard c.shard.inside.0 c.args.at c.in-Ok.ranges low high c.in-Ok.ensures c.shard.view_is pushed in
+    split_within xs c.extend_from_slice.new.self.items c.args.shard c.shard.inside.0 c.args.at c.in-Ok.ranges low high
+    c.in-Ok.ensures c.shard.view_is pushed in
     search (rules, within)
