@@ -99,7 +99,7 @@ judged_refused (Refused q) what r is = let same : r ≡ q = cc in ap (λ (x : Re
 judged_refused (Accepted lines reply) what r is = absurd cc
 
 pub one_less : (n : ℕ) → 1 ≤ n → n - 1 + 1 ≡ n
-one_less n h = omega (arith, h)
+one_less n h = omega arith
 
 pub judged_line : (d : Decision) (line : Line) → GivesLine d line → answer_verdict (answer_of d) ≡ judged d line.what
 judged_line (Refused r) line h = refl

@@ -70,8 +70,8 @@ module _ (log : Journal) (line : Line) (s : ℕ) (order : last_clock log ≤ lin
   above : (n : ℕ) (vs : List StreamValue) → s < n → AreStreams log n vs → AreStreams (line ∷ log) n vs
   above n [] lt h = tt
   above n (v ∷ vs) lt h =
-      let apart : s ≢ n = λ e. omega (arith, lt, e) in
-      (stream_other log line n v order (of_other line.what s n of apart) h.0, above (n + 1) vs (omega (arith, lt)) h.1)
+      let apart : s ≢ n = λ e. omega arith in
+      (stream_other log line n v order (of_other line.what s n of apart) h.0, above (n + 1) vs (omega arith) h.1)
 
   -- it is changed at its place
   changed_streams : (n i : ℕ) (vs : List StreamValue) (v : StreamValue) (g : StreamValue → StreamValue) → s ≡ n + i
@@ -81,15 +81,15 @@ module _ (log : Journal) (line : Line) (s : ℕ) (order : last_clock log ≤ lin
   changed_streams n i [] v g at is next h = tt
   changed_streams n zero (u ∷ vs) v g at is next h =
       let same : v ≡ u = cc in
-      let here : s ≡ n = omega (arith, at) in
-      let lt : s < n + 1 = omega (arith, here) in (
+      let here : s ≡ n = omega arith in
+      let lt : s < n + 1 = omega arith in (
         subst (λ m. IsStream (line ∷ log) m (g u)) here
             (subst (λ (x : StreamValue). IsStream (line ∷ log) s (g x)) same next),
         above (n + 1) vs lt h.1,
       )
   changed_streams n (suc i) (u ∷ vs) v g at is next h =
-      let apart : s ≢ n = λ e. omega (arith, at, e) in
-      let on : s ≡ n + 1 + i = omega (arith, at) in (
+      let apart : s ≢ n = λ e. omega arith in
+      let on : s ≡ n + 1 + i = omega arith in (
         stream_other log line n u order (of_other line.what s n of apart) h.0,
         changed_streams (n + 1) i vs v g on is next h.1,
       )
@@ -98,11 +98,11 @@ module _ (log : Journal) (line : Line) (s : ℕ) (order : last_clock log ≤ lin
   last_stream : (n : ℕ) (vs : List StreamValue) (v : StreamValue) → s ≡ n + length vs → IsStream (line ∷ log) s v
       → AreStreams log n vs
       → AreStreams (line ∷ log) n (vs ++ v ∷ [])
-  last_stream n [] v at next h = let here : s ≡ n = omega (arith, at) in
+  last_stream n [] v at next h = let here : s ≡ n = omega arith in
       (subst (λ m. IsStream (line ∷ log) m v) here next, tt)
   last_stream n (u ∷ vs) v at next h =
-      let apart : s ≢ n = λ e. omega (arith, at, e) in
-      let on : s ≡ n + 1 + length vs = omega (arith, at) in
+      let apart : s ≢ n = λ e. omega arith in
+      let on : s ≡ n + 1 + length vs = omega arith in
       (stream_other log line n u order (of_other line.what s n of apart) h.0, last_stream (n + 1) vs v on next h.1)
 
   -- ---- all that is shown
@@ -115,15 +115,15 @@ module _ (log : Journal) (line : Line) (s : ℕ) (order : last_clock log ≤ lin
       let some = o.some in
       let within = slice_get_within vs (s - 1) o.value o.at in
       let len = length-changed (s - 1) g vs in
-      let at : s ≡ 1 + (s - 1) = omega (arith, some) in
+      let at : s ≡ 1 + (s - 1) = omega arith in
       record {
         made = count ∙ sh.made ∙ sym len;
         streams = changed_streams 1 (s - 1) vs o.value g at o.at next sh.streams;
         others = λ m beyond. (
             let far : length vs < m = subst (λ n. n < m) len beyond in
-            let apart : s ≢ m = λ e. omega (arith, some, within, far, e) in
+            let apart : s ≢ m = λ e. omega arith in
             fresh_other log line m (sh.others m far) (of_other line.what s m of apart));
-        none = (let apart : s ≢ 0 = λ e. omega (arith, some, e) in
+        none = (let apart : s ≢ 0 = λ e. omega arith in
             fresh_other log line 0 sh.none (of_other line.what s 0 of apart));
       }
 
@@ -132,16 +132,16 @@ module _ (log : Journal) (line : Line) (s : ℕ) (order : last_clock log ≤ lin
       → IsStream (line ∷ log) s v → ShowsAll (vs ++ v ∷ []) (line ∷ log)
   shows_made vs v is count sh next =
       let len : length (vs ++ v ∷ []) ≡ length vs + 1 = length-append vs (v ∷ []) in
-      let at : s ≡ 1 + length vs = omega (arith, is) in
+      let at : s ≡ 1 + length vs = omega arith in
       record {
         made = count ∙ ap (λ n. n + 1) sh.made ∙ sym len;
         streams = last_stream 1 vs v at next sh.streams;
         others = λ m beyond. (
             let far : length vs + 1 < m = subst (λ n. n < m) len beyond in
-            let further : length vs < m = omega (arith, far) in
-            let apart : s ≢ m = λ e. omega (arith, is, far, e) in
+            let further : length vs < m = omega arith in
+            let apart : s ≢ m = λ e. omega arith in
             fresh_other log line m (sh.others m further) (of_other line.what s m of apart));
-        none = (let apart : s ≢ 0 = λ e. omega (arith, is, e) in
+        none = (let apart : s ≢ 0 = λ e. omega arith in
             fresh_other log line 0 sh.none (of_other line.what s 0 of apart));
       }
 
@@ -151,7 +151,7 @@ its_stream : (vs : List StreamValue) (log : Journal) (s : ℕ) (f : StreamValue 
     → ShowsAll vs log → IsStream log s o.value
 its_stream vs log s f o sh =
     let some = o.some in
-    let at : 1 + (s - 1) ≡ s = omega (arith, some) in
+    let at : 1 + (s - 1) ≡ s = omega arith in
     subst (λ m. IsStream log m o.value) at (stream_get log 1 (s - 1) vs o.value sh.streams o.at)
 
 all_later : (vs : List StreamValue) (log : Journal) (d by : ℕ) (what : Entry) → ShowsAll vs log → last_clock log ≤ d
@@ -172,7 +172,7 @@ all_after : (vs : List StreamValue) (log : Journal) (d by : ℕ) (what : Entry) 
 all_after vs log d by (entry.Made s name count) sh order of good =
     let p = past_by (made_refusal vs name count) _ good in
     let is = equal_so s (length vs + 1) (agrees_so _ p.1) in
-    let beyond : length vs < s = omega (arith, is) in
+    let beyond : length vs < s = omega arith in
     shows_made log (entry_line d by (entry.Made s name count)) s order refl vs (new_stream name count) is refl sh
     (made_step log d by s count name (sh.others s beyond))
 all_after vs log d by what sh order of good = all_later vs log d by what sh order tt (stream_of what) refl of good
@@ -187,5 +187,5 @@ shows_after old new log by what sh of good at is =
     record {
       all = subst (λ xs. ShowsAll xs (entry_line old.clock by what ∷ log)) (sym is)
           (all_after old.streams log old.clock by what sh.all sh.order of good);
-      order = omega (arith, at);
+      order = omega arith;
     }

@@ -137,8 +137,8 @@ home_below : (xs : List ShardState) (n k m : ℕ) → AreNumbered n xs → n + l
     → home_among (filter is_open xs) k < m
 home_below [] n k m numbers le some = some
 home_below (x ∷ xs) n k m numbers le some =
-    grind (arith, numbers.0, le, home_below xs (n + 1) k m numbers.1 (omega (arith, le)) some)
+    grind (arith, numbers.0, le, home_below xs (n + 1) k m numbers.1 (omega arith) some)
 
 pub home_fits : (log : Journal) (s k : ℕ) → AreNumbered 0 (shards log s) → length (shards log s) ≤ 2 ^ 64
     → home log s k < 2 ^ 64
-home_fits log s k numbers le = home_below (shards log s) 0 k (2 ^ 64) numbers (omega (arith, le)) (omega arith)
+home_fits log s k numbers le = home_below (shards log s) 0 k (2 ^ 64) numbers (omega arith) (omega arith)

@@ -107,7 +107,7 @@ module _
         named_fits log name s legal named,
         (
           listed_fits log c s sh legal (holds_so _ listed),
-          (lawful.1, (omega (arith, next_fits log legal s), (omega (arith, room), omega (arith, room)))),
+          (lawful.1, (omega (arith, next_fits log legal s), (omega arith, omega arith))),
         ),
       )
   told_one log c by _ _ _ (Merges name sh other s named listed fits) legal is lawful bits =
@@ -117,7 +117,7 @@ module _
         named_fits log name s legal named,
         (
           listed_fits log c s sh legal both.0,
-          (listed_fits log c s other legal both.1, (omega (arith, next_fits log legal s), omega (arith, room))),
+          (listed_fits log c s other legal both.1, (omega (arith, next_fits log legal s), omega arith)),
         ),
       )
   told_one log c by _ _ _ (Keeps name wanted raise s named fits) legal is lawful bits =

@@ -71,7 +71,7 @@ pub put_told : (log : Journal) (c by s : ℕ) (item : NewItem) → IsBy c by →
 put_told log c by s item is stream numbers few next lawful =
     line_told c by _ is (
       stream,
-      (home_fits log s item.hash numbers few, (omega (arith, next), (lawful.hash, sizes item lawful))),
+      (home_fits log s item.hash numbers few, (omega arith, (lawful.hash, sizes item lawful))),
     )
 
 -- the line of an item that isn't held back, and the lines of it and of those that follow
@@ -94,7 +94,7 @@ item_told : (back : Bool) (item : NewItem) (items : List NewItem) (log : Journal
     → AreTold (lines_from back log c by s item items)
 item_told true item items log c by s fits skip one take = skip fits
 item_told false item items log c by s fits skip one take =
-    (one (omega (arith, fits)), take (omega (arith, fits, draws_one s (next_number log s) (next_number log s) refl)))
+    (one (omega arith), take (omega (arith, fits, draws_one s (next_number log s) (next_number log s) refl)))
 
 pub puts_told : (items : List NewItem) (log : Journal) (c by s : ℕ) → IsBy c by → s < 2 ^ 64
     → AreNumbered 0 (shards log s) → length (shards log s) ≤ 2 ^ 64
@@ -134,11 +134,11 @@ module _ (numbered : (log : Journal) (s : ℕ) → AreNumbered 0 (shards log s))
   steps_told [] log c by s is stream at fits room = tt
   steps_told (Join b ∷ steps) log c by s is stream at fits room =
       let line = step_line log c by s (Join b) in
-      let low = home_fits log s (b - 1) (numbered log s) (omega (arith, room)) in
-      let high = home_fits log s b (numbered log s) (omega (arith, room)) in (
+      let low = home_fits log s (b - 1) (numbered log s) (omega arith) in
+      let high = home_fits log s b (numbered log s) (omega arith) in (
         line_told c by (step_entry log s (Join b)) is (
           stream,
-          (low, (high, (omega (arith, fits), omega (arith, room)))),
+          (low, (high, (omega arith, omega arith))),
         ),
         steps_told steps (line ∷ log) c by s is stream at.1
             (omega (arith, fits, draws_one s (next_number log s) (next_number log s) refl))
@@ -146,10 +146,10 @@ module _ (numbered : (log : Journal) (s : ℕ) → AreNumbered 0 (shards log s))
       )
   steps_told (Cut b ∷ steps) log c by s is stream at fits room =
       let line = step_line log c by s (Cut b) in
-      let sh = home_fits log s b (numbered log s) (omega (arith, room)) in (
+      let sh = home_fits log s b (numbered log s) (omega arith) in (
         line_told c by (step_entry log s (Cut b)) is (
           stream,
-          (sh, (at.0, (omega (arith, fits), (omega (arith, room), omega (arith, room))))),
+          (sh, (at.0, (omega arith, (omega arith, omega arith)))),
         ),
         steps_told steps (line ∷ log) c by s is stream at.1
             (omega (arith, fits, draws_one s (next_number log s) (next_number log s) refl))

@@ -27,7 +27,7 @@ use Rattle.kcl_audit_sound.proofs.Streams.{AreTold, IsBy}
 -- ---- the lines of a history
 
 under_max : (a b m : ℕ) → a < m → b < m → max a b < m
-under_max a b m h g = omega (arith, h, g)
+under_max a b m h g = omega arith
 
 clock_fits : (h : List Turn) → IsHistory h → clock h < 2 ^ 62
 clock_fits [] lawful = omega arith

@@ -29,7 +29,7 @@ stream_get log n (suc i) (u ∷ vs) v h is =
 get_none : (i : ℕ) (vs : List StreamValue) → slice_get vs i ≡ None → length vs ≤ i
 get_none i [] h = omega arith
 get_none zero (v ∷ vs) h = absurd cc
-get_none (suc i) (v ∷ vs) h = let r = get_none i vs h in omega (arith, r)
+get_none (suc i) (v ∷ vs) h = let r = get_none i vs h in omega arith
 
 pub stream_found : (w : StreamsValue) (log : Journal) (s : ℕ) (v : StreamValue) → Shows w log
     → stream_at w.streams s ≡ Some v → IsStream log s v
@@ -41,7 +41,7 @@ stream_found w log (suc i) v sh is =
 pub stream_none : (w : StreamsValue) (log : Journal) (s : ℕ) → Shows w log → stream_at w.streams s ≡ None
     → IsFresh log s
 stream_none w log zero sh is = sh.all.none
-stream_none w log (suc i) sh is = let r = get_none i w.streams is in sh.all.others (suc i) (omega (arith, r))
+stream_none w log (suc i) sh is = let r = get_none i w.streams is in sh.all.others (suc i) (omega arith)
 
 unmade_unlisted : (log : Journal) (c s sh : ℕ) → IsFresh log s → is_listed log c s sh ≡ false
 unmade_unlisted log c s sh un = ap (λ (xs : List ShardState). is_listed_state log c s (slice_get xs sh)) un.no_shards

@@ -86,7 +86,7 @@ open_live vs = open_from vs 1 vs (at_all vs)
 
 count_by : (n : ℕ) (vs : List StreamValue) (b : Bool) → length (live_numbers (n + 1) vs) ≡ live_count vs
     → length (if b then n ∷ live_numbers (n + 1) vs else live_numbers (n + 1) vs) ≡ (if b then 1 else 0) + live_count vs
-count_by n vs true rest = omega (arith, rest)
+count_by n vs true rest = omega arith
 count_by n vs false rest = rest ∙ none_more (live_count vs)
 
 pub count_live : (n : ℕ) (vs : List StreamValue) → length (live_numbers n vs) ≡ live_count vs
@@ -139,7 +139,7 @@ kept_by n q ns false e h = h
 but_above : (q n : ℕ) (vs : List StreamValue) → q < n → but q (live_numbers n vs) ≡ live_numbers n vs
 but_above q n [] lt = refl
 but_above q n (v ∷ vs) lt =
-    kept_by n q (live_numbers (n + 1) vs) v.live (other n q lt) (but_above q (n + 1) vs (omega (arith, lt)))
+    kept_by n q (live_numbers (n + 1) vs) v.live (other n q lt) (but_above q (n + 1) vs (omega arith))
 
 gone_by : (n q : ℕ) (ns : List ℕ) (b : Bool) → q ≡ n → but q ns ≡ ns → ns ≡ but q (if b then n ∷ ns else ns)
 gone_by n q ns true e h = sym (but_head n q ns false (ap (λ (m : ℕ). not (n == m)) e ∙ ap not (is_itself n)) ∙ h)
@@ -154,11 +154,11 @@ pub gone_live : (n p q : ℕ) (vs : List StreamValue) → q ≡ n + p
     → live_numbers n (changed_at p with_gone vs) ≡ but q (live_numbers n vs)
 gone_live n p q [] e = refl
 gone_live n zero q (v ∷ vs) e =
-    gone_by n q (live_numbers (n + 1) vs) v.live (omega (arith, e)) (but_above q (n + 1) vs (omega (arith, e)))
+    gone_by n q (live_numbers (n + 1) vs) v.live (omega arith) (but_above q (n + 1) vs (omega arith))
 gone_live n (suc p) q (v ∷ vs) e =
     past_by n q (live_numbers (n + 1) vs) (live_numbers (n + 1) (changed_at p with_gone vs)) v.live
-    (other_below n q (omega (arith, e)))
-    (gone_live (n + 1) p q vs (omega (arith, e)))
+    (other_below n q (omega arith))
+    (gone_live (n + 1) p q vs (omega arith))
 
 -- ---- an entry
 

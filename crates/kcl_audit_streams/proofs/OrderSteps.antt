@@ -41,6 +41,6 @@ pub left_from : (sh floor position : ℕ) (xs : List Sized) (i : ℕ)
     → IsPartitionPoint (λ (y : Sized). nat_lt y.seq position ≡ true) (λ (y : Sized). nat_lt y.seq position ≡ false) xs i
     → left_in sh floor position (take (length xs - i) (drop i xs)) ≡ left_in sh floor position xs
 left_from sh floor position xs i point =
-    let all : length (drop i xs) ≤ length xs - i = (let e = length-drop i xs in omega (arith, e)) in
+    let all : length (drop i xs) ≤ length xs - i = (let e = length-drop i xs in omega arith) in
     ap (left_in sh floor position) (take_all (length xs - i) (drop i xs) all)
     ∙ left_behind sh floor position xs i (λ k d low lt. ltb-true _ _ (point.0 k d (omega arith) low))

@@ -26,10 +26,10 @@ up_more second [] r one h = (one, tt)
 up_more second (x ∷ rs) r one h = (h.0, up_more second rs r one h.1)
 
 later_one : (n old new : ℕ) → old < new → n ≤ old → n ≤ new
-later_one n old new lt le = omega (arith, lt, le)
+later_one n old new lt le = omega arith
 
 sooner_one : (n old new : ℕ) → old < new → n ≤ old → n < new
-sooner_one n old new lt le = omega (arith, lt, le)
+sooner_one n old new lt le = omega arith
 
 up_later : (old new : ℕ) (rs : List Sized) → old < new → UpTo old rs → UpTo new rs
 up_later old new [] lt h = tt
@@ -46,19 +46,19 @@ below_same second zero rs r few h = tt
 below_same second (suc start) [] r few h = absurd (few_none start few)
   where
     few_none : (n : ℕ) → suc n ≤ 0 → ⊥
-    few_none n le = omega (arith, le)
+    few_none n le = omega arith
 below_same second (suc start) (x ∷ rs) r few h =
     (h.0, below_same second start rs r (few_less start (length rs) few) h.1)
   where
     few_less : (n m : ℕ) → suc n ≤ suc m → n ≤ m
-    few_less n m le = omega (arith, le)
+    few_less n m le = omega arith
 
 length_more : (rs : List Sized) (r : Sized) → length rs ≤ length (rs ++ r ∷ [])
 length_more [] r = omega arith
-length_more (x ∷ rs) r = let one = length_more rs r in omega (arith, one)
+length_more (x ∷ rs) r = let one = length_more rs r in omega arith
 
 at_most : (a b c : ℕ) → a ≤ b → b ≤ c → a ≤ c
-at_most a b c x y = omega (arith, x, y)
+at_most a b c x y = omega arith
 
 -- a put in a later second
 pub latest_new : (old start : ℕ) (rs : List Sized) (r : Sized) → AreLatest old start rs → old < r.arrival / SECOND
@@ -122,14 +122,14 @@ below_later old new [] le h = tt
 below_later old new (r ∷ rs) le h = (below_one (r.arrival / SECOND) old new le h.0, below_later old new rs le h.1)
   where
     below_one : (n a b : ℕ) → a ≤ b → n < a → n < b
-    below_one n a b le lt = omega (arith, le, lt)
+    below_one n a b le lt = omega arith
 
 -- what is throttled by the records of the latest second is throttled by all
 pub throttled_latest : (second start c sh bytes : ℕ) (rs : List Sized) → AreLatest second start rs → second ≤ c / SECOND
     → is_throttled (puts_in (take (length rs - start) (drop start rs)) sh) c bytes
     ≡ is_throttled (puts_in rs sh) c bytes
 throttled_latest second start c sh bytes rs h le =
-    let all : length (drop start rs) ≤ length rs - start = (let e = length-drop start rs in omega (arith, e)) in
+    let all : length (drop start rs) ≤ length rs - start = (let e = length-drop start rs in omega arith) in
     ap (λ (xs : List Sized). is_throttled (puts_in xs sh) c bytes) (take_all (length rs - start) (drop start rs) all)
     ∙ ap (λ (ps : List SizedPut). is_too_much (length ps) (bytes_of ps) bytes)
     (window_behind c sh start [] rs (below_later second (c / SECOND) (take start rs) le h.before))

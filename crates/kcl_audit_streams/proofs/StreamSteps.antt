@@ -166,7 +166,7 @@ module _ (d by s : ℕ) (v : StreamValue) where
       changed_later log line s c wanted after st.was st.was lasts
       ∙ ap (λ n. max (max n (floor_at d (wanted * HOUR))) (floor_at c (wanted * HOUR))) (st.trims d order)
   floor_step log what later of st order c after =
-      floor_same log (entry_line d by what) s c after refl ∙ st.trims c (omega (arith, order, after))
+      floor_same log (entry_line d by what) s c after refl ∙ st.trims c (omega arith)
 
   -- ... and all of them
   pub stream_step : (log : Journal) (full : Bool) (what : Entry) → IsLater what → stream_of what ≡ Some s

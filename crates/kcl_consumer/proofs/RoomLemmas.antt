@@ -186,7 +186,7 @@ at_least : (most n : ℕ) → nat_le most n ≡ true → most ≤ n
 at_least most n e = grind (arith, nat_tests)
 
 as_many : (most a b g n : ℕ) → 1 ≤ most → a ≡ b → g ≡ n → most ≤ b - n → most + g ≤ a
-as_many most a b g n some reads gives many = omega (arith, some, reads, gives, many)
+as_many most a b g n some reads gives many = omega arith
 
 read_told : (by c t position limit : ℕ) (deals : List Deal) (log : Journal) → AllAgree by deals log
     → Leads (IsManyIfRefused t deals) (read log c by t position limit)
@@ -207,7 +207,7 @@ read_told by c t position limit deals log all =
     (λ few. if_refused P (refusal.OutOfPlace (reach T)) (not (position == reach T)) _ (λ e. cc) (λ in_place e. cc))))))
 
 too_many : (most n g r : ℕ) → n < most → r ≡ g + n → most + g ≤ r → ⊥
-too_many most n g r few all many = omega (arith, few, all, many)
+too_many most n g r few all many = omega arith
 
 pub never_full : IsNeverFull
 never_full by at counter t position limit h made past step next told =

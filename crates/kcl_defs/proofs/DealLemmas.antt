@@ -158,7 +158,7 @@ unborn_at log line (entry.Taken key which counter owner) t before h =
     apart n t h = grind (arith, nat_tests)
 
     below : (n t : ℕ) → n + 1 < t → n < t
-    below n t h = omega (arith, h)
+    below n t h = omega arith
 unborn_at log line (entry.Opened which) t before h = none_of with_opened (which == t) (before h)
 unborn_at log line (entry.Read which limit ended numbers) t before h =
     none_of (with_read numbers ended) (which == t) (before h)

@@ -63,7 +63,7 @@ all_given a b c n g h i j k = small a b c n g h i j (zero_so (c - n) k)
     zero_so n h = grind (arith, nat_tests)
 
     small : (a b c n g : ℕ) → a ≡ b → g ≡ n → b ≡ c → c - n ≡ 0 → a ≤ g
-    small a b c n g h i j k = omega (arith, h, i, j, k)
+    small a b c n g h i j k = omega arith
 
 own_actor : (a b d : ℕ) → (a == b) ≡ true → (b == d) ≡ true → (a == d) ≡ true
 own_actor a b d h g = grind (arith, nat_tests)

@@ -50,7 +50,7 @@ more_than reads done waiting f gives all count few =
     on a b = omega arith
 
     more : (a b c g : ℕ) → a ≡ b + (c + 1) → b ≡ g → a ≤ g → ⊥
-    more a b c g h i j = omega (arith, h, i, j)
+    more a b c g h i j = omega arith
 
 same_command : (a b : Command) → Some a ≡ Some b → a ≡ b
 same_command a b e = cc

@@ -58,7 +58,7 @@ times-append t (k ∷ xs) ys =
     plus (if k.made.tenure == t then 1 else 0) (times t xs) (times t ys) (times t (xs ++ ys)) (times-append t xs ys)
   where
     plus : (a b c d : ℕ) → d ≡ b + c → a + d ≡ (a + b) + c
-    plus a b c d h = omega (arith, h)
+    plus a b c d h = omega arith
 
 -- a test parts a list
 times-parted : (t : ℕ) (p : Known → Bool) (xs : List Known)
@@ -73,12 +73,12 @@ times-parted t p (k ∷ xs) = parted (p k) (times-parted t p xs)
         (times t (filter p xs)) (times t xs) h
       where
         right : (a b c d : ℕ) → b + c ≡ d → b + (a + c) ≡ a + d
-        right a b c d h = omega (arith, h)
+        right a b c d h = omega arith
     parted false h = left (if k.made.tenure == t then 1 else 0) (times t (filter (λ k. not (p k)) xs))
         (times t (filter p xs)) (times t xs) h
       where
         left : (a b c d : ℕ) → b + c ≡ d → (a + b) + c ≡ a + d
-        left a b c d h = omega (arith, h)
+        left a b c d h = omega arith
 
 times-event : (t : ℕ) (test : Known → Bool) (e : Event) (xs : List Known) → times t (happens_to test e xs) ≡ times t xs
 times-event t test e [] = refl
@@ -110,7 +110,7 @@ times-with_known t k (x ∷ xs) = head (is_before_id (id_of k) (id_of x)) (times
         (times t (with_known k xs)) h
       where
         swap : (a b c d : ℕ) → d ≡ b + c → a + d ≡ b + (a + c)
-        swap a b c d h = omega (arith, h)
+        swap a b c d h = omega arith
 
 -- ---- what holds of all
 
@@ -196,10 +196,10 @@ about made _ counter what e = absurd cc
 -- ---- commands of one consumer
 
 no_more : (m : ℕ) → 1 + m ≡ 0 → ⊥
-no_more m n = omega (arith, n)
+no_more m n = omega arith
 
 rest_none : (m : ℕ) → 0 + m ≡ 0 → m ≡ 0
-rest_none m n = omega (arith, n)
+rest_none m n = omega arith
 
 -- consumers of other tenures keep
 pub others : (t : ℕ) (deal : Deal) (deals : List Deal) (xs : List Known) → IsAbout t deal.what → times t xs ≡ 0
@@ -226,7 +226,7 @@ found_times id k [] h = absurd cc
 found_times id k (x ∷ xs) h = head (same_id (id_of x) id) refl h (λ g. found_times id k xs g)
   where
     at_least : (a b c : ℕ) → 1 ≤ b → 1 ≤ a + b
-    at_least a b c h = omega (arith, h)
+    at_least a b c h = omega arith
 
     counted : (b : Bool) (m : ℕ) → b ≡ true → 1 ≤ (if b then 1 else 0) + m
     counted true m h = omega arith
@@ -251,12 +251,12 @@ own id deal deals k counter (x ∷ xs) next is once found h =
     same_known x k e = cc
 
     none_left : (b : Bool) (m : ℕ) → b ≡ true → (if b then 1 else 0) + m ≤ 1 → m ≡ 0
-    none_left true m e o = omega (arith, o)
+    none_left true m e o = omega arith
     none_left false m e o = absurd cc
 
     other_tenure : (b : Bool) (m : ℕ) → (if b then 1 else 0) + m ≤ 1 → 1 ≤ m → (b ≡ false) × (m ≤ 1)
-    other_tenure true m o g = absurd (omega (arith, o, g))
-    other_tenure false m o g = (refl, omega (arith, o))
+    other_tenure true m o g = absurd (omega arith)
+    other_tenure false m o g = (refl, omega arith)
 
     head : (b : Bool) → same_id (id_of x) id ≡ b → cond b (Some x) (known_of id xs) ≡ Some k
         → (times id.tenure xs ≤ 1 → known_of id xs ≡ Some k
@@ -317,10 +317,10 @@ settle_good deals consumers retired g = record {
 }
   where
     sum_le : (a b c d e : ℕ) → a + b ≡ c → e ≡ d + b → c + d ≤ 1 → a + e ≤ 1
-    sum_le a b c d e h g o = omega (arith, h, g, o)
+    sum_le a b c d e h g o = omega arith
 
     sum_none : (a b c d e : ℕ) → a + b ≡ c → e ≡ d + b → c + d ≡ 0 → a + e ≡ 0
-    sum_none a b c d e h g o = omega (arith, h, g, o)
+    sum_none a b c d e h g o = omega arith
 
     counted_le : (t : ℕ) → times t consumers + times t retired ≤ 1
         → times t (filter (λ k. not (is_over k)) consumers) + times t (retired ++ filter is_over consumers) ≤ 1
@@ -389,13 +389,13 @@ taken_good deal deals k consumers retired is no_past begun_by new no_read no_giv
     first = let q = is k.made.tenure deal.answer in others_keep deal deals k.made k.past q.0 q.1 start
 
     one_at : (a b c : ℕ) → a ≡ 1 + b → b + c ≡ 0 → a + c ≤ 1
-    one_at a b c h n = omega (arith, h, n)
+    one_at a b c h n = omega arith
 
     none_at : (a b c : ℕ) → a ≡ 0 + b → b + c ≤ 1 → a + c ≤ 1
-    none_at a b c h n = omega (arith, h, n)
+    none_at a b c h n = omega arith
 
     nothing_at : (a b c : ℕ) → a ≡ 0 + b → b + c ≡ 0 → a + c ≡ 0
-    nothing_at a b c h n = omega (arith, h, n)
+    nothing_at a b c h n = omega arith
 
     apart_at : (t : ℕ) (b : Bool) → (k.made.tenure == t) ≡ b → times t (with_known k consumers) + times t retired ≤ 1
     apart_at t true e =
@@ -432,10 +432,10 @@ own_good id deal deals k counter consumers retired next is found g = record {
 }
   where
     first_le : (a b : ℕ) → a + b ≤ 1 → a ≤ 1
-    first_le a b h = omega (arith, h)
+    first_le a b h = omega arith
 
     second_none : (a b : ℕ) → 1 ≤ a → a + b ≤ 1 → b ≡ 0
-    second_none a b h g = omega (arith, h, g)
+    second_none a b h g = omega arith
 
 -- ---- the command that waits
 
@@ -474,14 +474,14 @@ finds p k (x ∷ xs) once h = head (p x) refl h (λ o g. finds p k xs o g)
     counted false m h = absurd cc
 
     other_tenure : (b : Bool) (m : ℕ) → (if b then 1 else 0) + m ≤ 1 → 1 ≤ m → b ≡ false
-    other_tenure true m o g = absurd (omega (arith, o, g))
+    other_tenure true m o g = absurd (omega arith)
     other_tenure false m o g = refl
 
     rest_le : (a b : ℕ) → a + b ≤ 1 → b ≤ 1
-    rest_le a b o = omega (arith, o)
+    rest_le a b o = omega arith
 
     more : (a b : ℕ) → 1 ≤ b → 1 ≤ a + b
-    more a b o = omega (arith, o)
+    more a b o = omega arith
 
     head : (b : Bool) → p x ≡ b → cond b (Some x) (find p xs) ≡ Some k
         → (times k.made.tenure xs ≤ 1 → find p xs ≡ Some k → (known_of (id_of k) xs ≡ Some k) × (p k ≡ true)
@@ -532,7 +532,7 @@ apart_consumers : (deals : List Deal) (w : WorkerState) → AreGood deals w.cons
 apart_consumers deals w g t = first_le (times t w.consumers) (times t w.retired) (g.apart t)
   where
     first_le : (a b : ℕ) → a + b ≤ 1 → a ≤ 1
-    first_le a b h = omega (arith, h)
+    first_le a b h = omega arith
 
 -- the next chore
 finish_consumers : (w : WorkerState) (o : Option Known) → IsFinishOk (Some (consumer_chore o)) w
@@ -633,7 +633,7 @@ times-without t id (x ∷ xs) = head (same_id (id_of x) id) (times-without t id 
     fewer a b = omega arith
 
     as_many : (a b c : ℕ) → b ≤ c → a + b ≤ a + c
-    as_many a b c h = omega (arith, h)
+    as_many a b c h = omega arith
 
     head : (b : Bool) → times t (without_known id xs) ≤ times t xs
         → times t (if b then xs else x ∷ without_known id xs) ≤ times t (x ∷ xs)
@@ -652,10 +652,10 @@ without_good id deals consumers retired g = record {
 }
   where
     less : (a b c : ℕ) → a ≤ b → b + c ≤ 1 → a + c ≤ 1
-    less a b c h o = omega (arith, h, o)
+    less a b c h o = omega arith
 
     none : (a b c : ℕ) → a ≤ b → b + c ≡ 0 → a + c ≡ 0
-    none a b c h o = omega (arith, h, o)
+    none a b c h o = omega arith
 
 release_fine : (deals : List Deal) (o : Option Release) (w : WorkerState) → w.waiting ≡ None → IsFine deals w
     → IsFine deals (without_release o w)

@@ -341,7 +341,7 @@ module _ (reaches : Reaches) (f : ℕ → ℕ) (once : (n : ℕ) → f n ≡ f (
       adds_lines f (lines_of (decision (journal h) (clock (turn ∷ h)) turn)) (journal h)
       (service_adds (journal h) (clock (turn ∷ h)) turn.by turn.what is basic.0)
       ∙ ap (λ ls. with_lines ls (kept f (journal h)))
-      (decide_same f (journal h) (clock (turn ∷ h)) turn.by (f turn.by) (young h lawful (omega (arith, below)))
+      (decide_same f (journal h) (clock (turn ∷ h)) turn.by (f turn.by) (young h lawful (omega arith))
       (calm_history h basic.1) below refl
       (once turn.by) turn.what is basic.0)
 
@@ -355,7 +355,7 @@ module _ (reaches : Reaches) (f : ℕ → ℕ) (once : (n : ℕ) → f n ≡ f (
       → kept f (journal h) ≡ left_by f (asked f h)
   left [] lawful basic below = refl
   left (turn ∷ h) lawful basic below =
-      either (is_service turn.what) refl (left h lawful.1 basic.1 (omega (arith, below)))
+      either (is_service turn.what) refl (left h lawful.1 basic.1 (omega arith))
     where
       either : (b : Bool) → is_service turn.what ≡ b → kept f (journal h) ≡ left_by f (asked f h)
           → kept f (journal (turn ∷ h))
@@ -386,7 +386,7 @@ not_later [] = omega arith
 not_later (turn ∷ h) =
     let so = not_later h in
     cond_both (is_service turn.what) (turn ∷ service_turns h) (service_turns h) (λ ts. clock ts ≤ max (clock h) turn.at)
-    (λ asks. omega (arith, so)) (λ other. omega (arith, so))
+    (λ asks. omega arith) (λ other. omega arith)
 
 pub services_twice : (h : List Turn) → service_turns h ≡ service_turns (service_turns h)
 services_twice [] = refl

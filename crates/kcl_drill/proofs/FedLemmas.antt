@@ -22,7 +22,7 @@ use Rattle.kcl_drill.proofs.Inner.{IsInner, all_reverse, generated_inner}
 none_around : (xs : List Turn) (x : Turn) (ys : List Turn) → length (xs ++ x ∷ ys) ≡ 1 → (xs ≡ []) × (ys ≡ [])
 none_around xs x ys is =
     let n : length (xs ++ x ∷ ys) ≡ length xs + suc (length ys) = length-append xs (x ∷ ys) in
-    (nil_from_length xs (omega (arith, n, is)), nil_from_length ys (omega (arith, n, is)))
+    (nil_from_length xs (omega arith), nil_from_length ys (omega arith))
 
 none_by : (b : Bool) (p : Turn → Bool) (x : Turn) (xs : List Turn) → p x ≡ b
     → cond b (x ∷ filter p xs) (filter p xs) ≡ [] → (p x ≡ false) × (filter p xs ≡ [])

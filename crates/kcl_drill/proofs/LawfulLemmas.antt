@@ -12,7 +12,7 @@ ascii_key x fits zero = omega arith
 ascii_key x fits (suc i) = IsAscii-decimal x fits i
 
 short_key : (x : ℕ) → x < 2 ^ 64 → length (key_of x) ≤ 21
-short_key x fits = let d = length-decimal-le 20 x (omega arith) (omega (arith, fits)) fits in omega (arith, d)
+short_key x fits = let d = length-decimal-le 20 x (omega arith) (omega arith) fits in omega arith
 
 key_lawful : (x : ℕ) → x < 2 ^ 64 → IsPartitionKey (key_of x)
 key_lawful x fits =
@@ -20,8 +20,8 @@ key_lawful x fits =
     ap length (chars-IsAscii (key_of x) (ascii_key x fits)) in
     record {
       text = IsUtf8-from_ascii (key_of x) (ascii_key x fits);
-      some = omega (arith, same);
-      few = let short = short_key x fits in omega (arith, same, short);
+      some = omega arith;
+      few = let short = short_key x fits in omega arith;
     }
 
 pub record_lawful : (i x : ℕ) → x < 2 ^ 64 → (record_of i x).hash < 2 ^ 128 → IsItem (record_of i x)
@@ -29,5 +29,5 @@ record_lawful i x fits hash =
     record {
       key = key_lawful x fits;
       hash = hash;
-      bytes = let n = length-replicate (x % 64) (i % 256) in let short = short_key x fits in omega (arith, n, short);
+      bytes = let n = length-replicate (x % 64) (i % 256) in let short = short_key x fits in omega arith;
     }

@@ -110,7 +110,7 @@ least_hours [] s young = omega arith
 least_hours (line ∷ log) s young = least_by line.what s (hours log s) young.1 (least_hours log s young.2)
 
 no_floor : (clock hours : ℕ) → clock < 86400000 → 24 ≤ hours → floor_at clock (hours * 3600000) ≡ 0
-no_floor clock hours below least = omega (arith, below, least)
+no_floor clock hours below least = omega arith
 
 floor_line : (log : Journal) (line : Line) (s : ℕ) → IsYoung (line ∷ log) → floor_after log line s ≡ 0
 floor_line log line s young =
@@ -119,12 +119,12 @@ floor_line log line s young =
     (no_floor line.clock (hours log s) young.0 (least_hours log s young.2))
   where
     none : (b d : Bool) (n m : ℕ) → n ≡ 0 → m ≡ 0 → (if b then max n (if d then m else 0) else 0) ≡ 0
-    none true true n m h g = omega (arith, h, g)
-    none true false n m h g = omega (arith, h, g)
+    none true true n m h g = omega arith
+    none true false n m h g = omega arith
     none false d n m h g = refl
 
 pub both_none : (n m : ℕ) → n ≡ 0 → m ≡ 0 → max n m ≡ 0
-both_none n m h g = omega (arith, h, g)
+both_none n m h g = omega arith
 
 floor_lines : (log : Journal) (s : ℕ) → IsYoung log → floor_of_lines log s ≡ 0
 floor_lines [] s young = refl

@@ -170,7 +170,7 @@ module _ (w : Spot) (at : ℕ) (spot : IsSpot w at) (laws : HasLaws w.history (c
   waits_yet before d by r drained = record {
     done = done_yet before d by r drained;
     waits = λ j key above is.
-        let f = drained.waits j key (omega (arith, above)) is in
+        let f = drained.waits j key (omega arith) is in
         record {
           now = f.now;
           there = stays before d by r key (apart w at spot laws j key is (inr above)) ∙ f.there;
@@ -182,7 +182,7 @@ module _ (w : Spot) (at : ℕ) (spot : IsSpot w at) (laws : HasLaws w.history (c
 
   below_next : (q p n : ℕ) (xs : List Logged) → RiseBetween p xs n → HasFrom q xs → q < n
   below_next q p n [] is has = absurd has
-  below_next q p n (x ∷ xs) is (inl le) = let m = rises (x.seq + 1) n xs is.1 in omega (arith, le, m)
+  below_next q p n (x ∷ xs) is (inl le) = let m = rises (x.seq + 1) n xs is.1 in omega arith
     where
       rises : (p n : ℕ) (xs : List Logged) → RiseBetween p xs n → p ≤ n
       rises p n [] is = is
@@ -200,7 +200,7 @@ module _ (w : Spot) (at : ℕ) (spot : IsSpot w at) (laws : HasLaws w.history (c
   begins floor TrimHorizon going is = record {
     place = refl;
     settled = λ none. settled_horizon _ (records_of (journal w.history) w.key) up (sym (left_is 0) ∙ none);
-    low = omega (arith, is);
+    low = omega arith;
   }
   begins floor (At q) going is =
       let m = below_next q _ _ (records_of (journal w.history) w.key) (laws.drawn w.key.stream w.key.shard) is in
@@ -211,7 +211,7 @@ module _ (w : Spot) (at : ℕ) (spot : IsSpot w at) (laws : HasLaws w.history (c
       }
     where
       small : (q n : ℕ) → q < n → n ≤ last_number → q + 1 ≡ min (q + 1) last_number
-      small q n lt le = omega (arith, lt, le)
+      small q n lt le = omega arith
   begins floor ShardEnd going is = absurd cc
 
   pub opened : (stands stands' : List Turn → Type 0) (by : ℕ) (r : Row) (held : DrainTenure) (a : Result Reply Refusal)
@@ -261,4 +261,4 @@ module _ (w : Spot) (at : ℕ) (spot : IsSpot w at) (laws : HasLaws w.history (c
       }
     where
       within : (n h left some all : ℕ) → n ≤ h → left ≡ some → some ≤ all → n + 1 + left ≤ h + 1 + all
-      within n h left some all le is le' = omega (arith, le, is, le')
+      within n h left some all le is le' = omega arith

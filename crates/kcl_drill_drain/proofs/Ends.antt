@@ -41,7 +41,7 @@ module _ (h : List Turn) (at : ℕ) (among : List Row) (can : CanDrain h at) (la
       → IsDrained log s x
   drained_at s i x live there =
       let e = number_at 0 i (shards (journal h) s) x (laws.numbered s) there in
-      let no : i ≡ x.no = omega (arith, e) in
+      let no : i ≡ x.no = omega arith in
       let here : shard_at (journal h) s x.no ≡ Some x = ap (slice_get (shards (journal h) s)) (sym no) ∙ there in
       let k = key_there h at s x.no x can.whole laws live here in
       let d = done.done k.0 (ref s x.no) (slice_get_within (listed_keys h at) k.0 (ref s x.no) k.1) k.1 in

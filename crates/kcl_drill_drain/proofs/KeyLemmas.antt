@@ -71,7 +71,7 @@ ref_at s n zero (x ∷ xs) key numbers is =
     }
   where
     plus : (m : ℕ) → m ≡ n → m ≡ n + 0
-    plus m is = omega (arith, is)
+    plus m is = omega arith
 ref_at s n (suc i) (x ∷ xs) key numbers is = ref_next s n i x xs key (ref_at s (n + 1) i xs key numbers.1 is)
 
 at_ref : (s n i : ℕ) (xs : List ShardState) (x : ShardState) → AreNumbered n xs → slice_get xs i ≡ Some x
@@ -84,9 +84,9 @@ at_ref s n (suc i) (y ∷ xs) x numbers is = let e : n + 1 + i ≡ n + suc i = o
 below_there : (p i : ℕ) (xs : List ShardState) (x : ShardState) → p < i → slice_get xs i ≡ Some x → (y : ShardState)
     × (slice_get xs p ≡ Some y)
 below_there p i [] x below is = absurd cc
-below_there p zero (y ∷ xs) x below is = absurd (omega (arith, below))
+below_there p zero (y ∷ xs) x below is = absurd (omega arith)
 below_there zero (suc i) (y ∷ xs) x below is = (y, refl)
-below_there (suc p) (suc i) (y ∷ xs) x below is = below_there p i xs x (omega (arith, below)) is
+below_there (suc p) (suc i) (y ∷ xs) x below is = below_there p i xs x (omega arith) is
 
 -- ---- the keys of streams
 
@@ -172,8 +172,8 @@ module _ (log : Journal) (numbered : (s : ℕ) → AreNumbered 0 (shards log s))
       either : n ≤ s → ((j : ℕ) → slice_get (keys_in log ss) j ≡ Some key → s + 1 ≤ key.stream)
           → Place (refs_of s (shards log s)) (keys_in log ss) i key → n ≤ key.stream
       either le later (inl at) = let e = (ref_at s 0 i (shards log s) key (numbered s) at.1).stream in
-          omega (arith, le, e)
-      either le later (inr at) = let m = later at.0 at.2 in omega (arith, le, m)
+          omega arith
+      either le later (inr at) = let m = later at.0 at.2 in omega arith
 
   -- the shards before it in its stream stand before it
   pub older_in : (ss : List ℕ) (i p : ℕ) (key : ShardRef) → p < key.shard → slice_get (keys_in log ss) i ≡ Some key
@@ -266,9 +266,9 @@ module _ (log : Journal) (numbered : (s : ℕ) → AreNumbered 0 (shards log s))
   pub in_numbers : (n count s : ℕ) → is_live log s ≡ true → n ≤ s → s < n + count
       → IsIn s (filter (is_live log) (numbers_from n count))
   unfolding IsIn
-  in_numbers n zero s live le lt = absurd (omega (arith, le, lt))
+  in_numbers n zero s live le lt = absurd (omega arith)
   in_numbers n (suc count) s live le lt =
-      either (λ high. in_numbers (n + 1) count s live high (omega (arith, lt))) (n == s) refl
+      either (λ high. in_numbers (n + 1) count s live high (omega arith)) (n == s) refl
     where
       rest : List ℕ
       rest = filter (is_live log) (numbers_from (n + 1) count)

@@ -48,7 +48,7 @@ live_by log line (entry.Made stream name count) reply s is h before live =
     either true d e m k =
         let n = equal_so stream s e in
         let made = made_number log line stream count name reply is h in
-        (omega (arith, n, made), omega (arith, n, made))
+        (omega arith, omega arith)
     either false d e m k = let b = k m in (b.0, omega (arith, b.1))
 live_by log line (entry.Gone stream) reply s is h before live =
     before (both_right (not (stream == s)) (is_live log s) live)

@@ -59,7 +59,7 @@ led_from stands stands' by at h more what a Q d lease lawful answers now are lat
     )
 
 twice : (n m at : ℕ) → n ≡ max m at → max n at ≡ max m at
-twice n m at is = omega (arith, is)
+twice n m at is = omega arith
 
 pub led : (stands stands' : List Turn → Type 0) (by at : ℕ) (h : List Turn) (what : Command) (a : Result Reply Refusal)
     (P Q : Journal → Type 0) (d : Decision)
@@ -98,7 +98,7 @@ over stands by at h P laws l =
     }
   where
     le : (n m : ℕ) → n ≡ m → n ≤ m
-    le n m is = omega (arith, is)
+    le n m is = omega arith
 
 -- what holds of the journal may be weakened
 pub so_too : (stands : List Turn → Type 0) (by at : ℕ) (h : List Turn) (P Q : Journal → Type 0)

@@ -40,7 +40,7 @@ pub made_first : (h : List Turn) (keys : List ShardRef) (c : ℕ) → HasLaws h 
 made_first h keys c laws = record {
   fresh = laws.fresh;
   kept = λ key r is. (r, sym (row_found (journal h) key) ∙ is);
-  made = λ j key below is. absurd (omega (arith, below));
+  made = λ j key below is. absurd (omega arith);
   few = laws.tenures;
 }
 
@@ -48,7 +48,7 @@ made_first h keys c laws = record {
 pub all_wait : (h : List Turn) (keys : List ShardRef) (among : List Row) (log : Journal)
     → AreMade h keys among (length keys) log → AreDrainedTo h keys (rows log) 0 log
 all_wait h keys among log made = record {
-  done = λ j key below is. absurd (omega (arith, below));
+  done = λ j key below is. absurd (omega arith);
   waits = λ j key above is.
       let f = made.made j key (slice_get_within keys j key is) is in
       record { now = f.0; there = f.1; seen = row_found log key ∙ f.1; fresh = made.fresh key f.0 f.1 };

@@ -126,7 +126,7 @@ module _ (w : Spot) (at : ℕ) (spot : IsSpot w at) (laws : HasLaws w.history (c
       (same_ends w.history c now is w.key.stream w.key.shard (reach_at w at x))
 
   no_wait : (n : ℕ) → n ≡ 0 → n < PENDING_READS
-  no_wait n is = omega (arith, is)
+  no_wait n is = omega arith
 
   pub read_so : (stands stands' : List Turn → Type 0) (by : ℕ) (x : Holding) (held : DrainTenure)
       (a : Result Reply Refusal) → ReadLaw → ReadState → at < 2 ^ 62 → IsReady w at x → IsHeld x held
@@ -257,17 +257,17 @@ module _ (w : Spot) (at : ℕ) (spot : IsSpot w at) (laws : HasLaws w.history (c
       (beyond x.place start q (reach_at w at x) f.above reach)
     where
       beyond : (p start q n : ℕ) → max p start ≤ q → n ≡ q + 1 → p < n
-      beyond p start q n le is = omega (arith, le, is)
+      beyond p start q n le is = omega arith
 
       under : (q n start : ℕ) → n ≡ q + 1 → q ≤ max n start
-      under q n start is = omega (arith, is)
+      under q n start is = omega arith
 
       over_low : (a m q : ℕ) → a ≤ m → m ≤ q → a ≤ q
-      over_low a m q le le' = omega (arith, le, le')
+      over_low a m q le le' = omega arith
 
       less : (n some all left left' most : ℕ) → left ≡ some → left' ≡ all → some + 1 ≤ all → n + left' ≤ most
           → n + 1 + left ≤ most
-      less n some all left left' most is is' le le' = omega (arith, is, is', le, le')
+      less n some all left left' most is is' le le' = omega arith
 
   pub brought : (x : Holding) → IsReady w at x → Brought x
   brought x ready = brought_by x (batch_at w at x) refl ready
@@ -275,7 +275,7 @@ module _ (w : Spot) (at : ℕ) (spot : IsSpot w at) (laws : HasLaws w.history (c
   -- ---- counters
 
   few_counters : (n h left all : ℕ) → n + left ≤ h + 1 + all → all ≤ 500 * h → h < 2 ^ 32 → n < 2 ^ 64 - 1
-  few_counters n h left all le le' lt = omega (arith, le, le', lt)
+  few_counters n h left all le le' lt = omega arith
 
   pub some_left : (x : Holding) → IsReady w at x → (x.counter == last_number) ≡ false
   some_left x ready = not_last x.counter
@@ -388,7 +388,7 @@ module _ (w : Spot) (at : ℕ) (spot : IsSpot w at) (laws : HasLaws w.history (c
       record { now = marked_then w at x; leads = l; ready = by_brought (brought x ready); is = is }
     where
       no : (p q n m : ℕ) → p < q → n ≡ m → m ≡ p → n ≡ q → ⊥
-      no p q n m lt e e' e'' = omega (arith, lt, e, e', e'')
+      no p q n m lt e e' e'' = omega arith
 
       by_brought : Brought x → IsReady w at (marked_then w at x)
       by_brought (Nothing left none reach) =
@@ -404,7 +404,7 @@ module _ (w : Spot) (at : ℕ) (spot : IsSpot w at) (laws : HasLaws w.history (c
   stops stands by held x ready le ended is l = by_brought (brought x ready)
     where
       no : (p q n m : ℕ) → q ≤ p → n ≡ m → p < m → n ≡ q → ⊥
-      no p q n m le e lt e' = omega (arith, le, e, lt, e')
+      no p q n m le e lt e' = omega arith
 
       by_brought : Brought x → IsDrainedHere stands w by at
       by_brought (Nothing left none reach) =

@@ -32,7 +32,7 @@ settled_at q p (r ∷ []) up (inl le) none =
     ap At (equal q r.seq le below)
   where
     equal : (a b : ℕ) → a ≤ b → b < a + 1 → a ≡ b
-    equal a b le below = omega (arith, le, below)
+    equal a b le below = omega arith
 settled_at q p (r ∷ []) up (inr has) none = absurd has
 settled_at q p (r ∷ s ∷ rs) up (inl le) none =
     let rest = (none_first (q + 1) r (s ∷ rs) (nat_le (q + 1) r.seq) refl none).1 in
@@ -97,7 +97,7 @@ number_is x xs =
     ap (seq_at (x ∷ xs)) e ∙ last_of x xs
   where
     less : (n m : ℕ) → n ≡ m → suc n - 1 ≡ m
-    less n m is = omega (arith, is)
+    less n m is = omega arith
 
 checkpoint_is : (x : Logged) (xs : List Logged) → last_checkpoint (x ∷ xs) ≡ At (last_seq x xs)
 unfolding last_seq
@@ -134,10 +134,10 @@ fewer_by : (ls bs rest : List Logged) (x : Logged) (xs : List Logged) → ls ≡
 fewer_by ls bs rest x xs are is =
     let n : length ls ≡ length bs + length rest = ap length are ∙ length-append bs rest in
     let m : length bs ≡ suc (length xs) = ap length is in
-    omega (arith, n, m)
+    omega arith
 
 both_above : (place start q : ℕ) → place ≤ q → start ≤ q → max place start ≤ q
-both_above place start q le le' = omega (arith, le, le')
+both_above place start q le le' = omega arith
 
 pub batched : (limit room start place : ℕ) (rs : List Logged) (x : Logged) (xs : List Logged) → IsUp start rs
     → beginning limit room (from place rs) ≡ x ∷ xs
@@ -167,5 +167,5 @@ pub fewer_from : (p : ℕ) (rs : List Logged) → length (from p rs) ≤ length 
 fewer_from p [] = omega arith
 fewer_from p (r ∷ rs) =
     let le = fewer_from p rs in
-    cond_both (nat_le p r.seq) (r ∷ from p rs) (from p rs) (λ xs. length xs ≤ suc (length rs)) (λ is. omega (arith, le))
-    (λ not. omega (arith, le))
+    cond_both (nat_le p r.seq) (r ∷ from p rs) (from p rs) (λ xs. length xs ≤ suc (length rs)) (λ is. omega arith)
+    (λ not. omega arith)

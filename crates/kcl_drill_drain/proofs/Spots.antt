@@ -47,8 +47,8 @@ number_at n zero (y ∷ xs) x numbers is = let e : y ≡ x = cc in
     plus x.no (ap (λ (z : ShardState). z.no) (sym e) ∙ numbers.0)
   where
     plus : (m : ℕ) → m ≡ n → m ≡ n + 0
-    plus m is = omega (arith, is)
-number_at n (suc i) (y ∷ xs) x numbers is = let e = number_at (n + 1) i xs x numbers.1 is in omega (arith, e)
+    plus m is = omega arith
+number_at n (suc i) (y ∷ xs) x numbers is = let e = number_at (n + 1) i xs x numbers.1 is in omega arith
 
 abbrev pub spot_of : List Turn → List ShardRef → List Row → ℕ → ShardRef → Spot
 spot_of h keys among i key = record { history = h; keys = keys; among = among; index = i; key = key }
@@ -58,7 +58,7 @@ pub is_spot : (h : List Turn) (at : ℕ) (keys : List ShardRef) (among : List Ro
     → IsSpot (spot_of h keys among i key) at
 is_spot h at keys among i key can listed below is few =
     let here = slice_get_read keys (length keys) i key refl below is in
-    record { can = can; listed = listed; here = here; few = omega (arith, below, few) }
+    record { can = can; listed = listed; here = here; few = omega arith }
 
 -- ---- the keys of a history
 
@@ -220,7 +220,7 @@ module _ (w : Spot) (at : ℕ) (spot : IsSpot w at) (laws : HasLaws w.history (c
       → AreDrainedTo w.history w.keys w.among (w.index + 1) now
   one_more now others here = record {
     done = λ j key below is. done_by now others.done here j key is (up_to j w.index below);
-    waits = λ j key above is. others.waits j key (omega (arith, above)) is;
+    waits = λ j key above is. others.waits j key (omega arith) is;
     few = others.few;
   }
 
@@ -228,6 +228,6 @@ module _ (w : Spot) (at : ℕ) (spot : IsSpot w at) (laws : HasLaws w.history (c
   pub none_yet : (now : Journal) → AreDrainedTo w.history w.keys w.among w.index now → OthersWait w now
   none_yet now drained = record {
     done = drained.done;
-    waits = λ j key above is. drained.waits j key (omega (arith, above)) is;
+    waits = λ j key above is. drained.waits j key (omega arith) is;
     few = omega (arith, drained.few);
   }

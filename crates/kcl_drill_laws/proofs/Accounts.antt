@@ -40,11 +40,11 @@ one_by : (P : Turn → Type 0) (a : Account) (t : Turn) (h : List Turn) (n : ℕ
 one_by P a t h n true is mine some later = one_here P (t.by == a.by) t (turns_by a.by h) is mine
 one_by P a t h n false is mine some later =
     let none : has t.by a ≡ 0 = ap (λ b. cond b 1 0) (same_test a.by t.by ∙ is) in
-    later (omega (arith, some, none))
+    later (omega arith)
 
 one_of : (P : Turn → Type 0) (accounts : List Account) (t : Turn) (h : List Turn) → OfEach P accounts (t ∷ h)
     → 0 < times t.by accounts → P t
-one_of P [] t h of some = absurd (omega (arith, some))
+one_of P [] t h of some = absurd (omega arith)
 one_of P (a ∷ rest) t h of some =
     one_by P a t h (times t.by rest) (t.by == a.by) refl of.0 some (one_of P rest t h of.1)
 
@@ -86,9 +86,9 @@ one_more t h (a ∷ rest) = either (t.by == a.by) refl (one_more t h rest)
         ≡ (has t.by a + times t.by rest) +
         (length (turns_by a.by h) + count_in h rest)
     either true is so = let one : has t.by a ≡ 1 = ap (λ b. cond b 1 0) (same_test a.by t.by ∙ is) in
-        omega (arith, so, one)
+        omega arith
     either false is so = let none : has t.by a ≡ 0 = ap (λ b. cond b 1 0) (same_test a.by t.by ∙ is) in
-        omega (arith, so, none)
+        omega arith
 
 few_in : (accounts : List Account) (h : List Turn) → AreAllBy accounts h → length h ≤ count_in h accounts
 few_in accounts [] all = omega arith
@@ -99,12 +99,12 @@ count_same : (accounts : List Account) (h : List Turn) → IsSplitInto accounts 
     → count_in h accounts ≡ count_of accounts
 count_same [] h own = refl
 count_same (a ∷ rest) h own = let one = ap length own.0 in let more = count_same rest h own.1 in
-    omega (arith, one, more)
+    omega arith
 
 pub few_turns : (accounts : List Account) (h : List Turn) → IsSplitInto accounts h → AreAllBy accounts h
     → length h ≤ count_of accounts
 few_turns accounts h own all = let same = count_same accounts h own in let few = few_in accounts h all in
-    omega (arith, same, few)
+    omega arith
 
 -- ---- the clock
 
@@ -113,4 +113,4 @@ clock_by most [] below = omega arith
 clock_by most (t ∷ h) below = both (clock h) t.at (clock_by most h below.1) below.0
   where
     both : (n m : ℕ) → n ≤ most → m ≤ most → max n m ≤ most
-    both n m a b = omega (arith, a, b)
+    both n m a b = omega arith

@@ -16,7 +16,7 @@ clock_same by at (t ∷ more) h below are =
     both (clock (more ++ h)) (clock h) t.at (clock_same by at more h below are.1) are.0.1 below
   where
     both : (n m k : ℕ) → n ≡ m → k ≡ at → at ≤ m → max n k ≡ m
-    both n m k e is le = omega (arith, e, is, le)
+    both n m k e is le = omega arith
 
 services_same : (by at : ℕ) (more h : List Turn) → AreLeased by at more → service_turns (more ++ h) ≡ service_turns h
 services_same by at [] h are = refl

@@ -49,7 +49,7 @@ some_more : (n : ℕ) (rs : List ReadDone) (r : ReadDone) (rest : List ReadDone)
 some_more zero [] r rest is = absurd cc
 some_more zero (q ∷ rs) r rest is = omega arith
 some_more (suc n) [] r rest is = absurd cc
-some_more (suc n) (q ∷ rs) r rest is = let e = some_more n rs r rest is in omega (arith, e)
+some_more (suc n) (q ∷ rs) r rest is = let e = some_more n rs r rest is in omega arith
 
 -- ---- the given reads after one more is given
 
@@ -165,7 +165,7 @@ give_holds log c x r rest holds first =
         opened = has.opened;
         up_to = has.up_to;
         given_to = given_place T r rest is ∙ ap (λ p. place_after p r.numbers) has.given_to;
-        some = let n = some_more T.given T.reads r rest is in omega (arith, n);
+        some = let n = some_more T.given T.reads r rest is in omega arith;
         waits = ap (λ n. drop n T.reads) e ∙ drop_more T.given T.reads r rest is;
         last = ap last_ended (one_more_given T r rest is) ∙ last_one (given_reads T) r;
       };

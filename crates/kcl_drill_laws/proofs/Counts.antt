@@ -34,13 +34,13 @@ leases (line ∷ ls) = weight line.what + leases ls
 
 leases_with : (ls : List Line) (log : Journal) → leases (with_lines ls log) ≡ leases ls + leases log
 leases_with [] log = omega arith
-leases_with (line ∷ ls) log = let n = leases_with ls (line ∷ log) in omega (arith, n)
+leases_with (line ∷ ls) log = let n = leases_with ls (line ∷ log) in omega arith
 
 -- ---- the lines of a decision
 
 -- lines that are of no lease
 none_of : (ls : List Line) → AllByRecursion (λ line. weight line.what ≡ 0) ls → leases ls ≤ 1
-none_of ls none = let n = none_in ls none in omega (arith, n)
+none_of ls none = let n = none_in ls none in omega arith
   where
     none_in : (ls : List Line) → AllByRecursion (λ line. weight line.what ≡ 0) ls → leases ls ≡ 0
     none_in [] none = refl
@@ -78,15 +78,15 @@ raised : (f : Row → Row) (b : Bool) (o : Option Row) (n : ℕ) → ((x : Row) 
     → counter_in (if b then option_map f o else o) ≤ 1 + n
 raised f true None n keeps le = omega arith
 raised f true (Some x) n keeps le = omega (arith, keeps x, le)
-raised f false o n keeps le = omega (arith, le)
+raised f false o n keeps le = omega arith
 
 counter_by : (log : Journal) (line : Line) (e : Entry) (key : ShardRef) (o : Option Row) (n : ℕ) → counter_in o ≤ n
     → counter_in (row_after log line e key o) ≤ weight e + n
 counter_by log line (entry.LeaseMade k from) key o n le =
     cond_both (same_key k key) (Some (made_row log line.clock key from)) o (λ p. counter_in p ≤ 1 + n)
-    (λ own. omega arith) (λ other. omega (arith, le))
+    (λ own. omega arith) (λ other. omega arith)
 counter_by log line (entry.LeaseCut k counter) key o n le =
-    cond_both (same_key k key) None o (λ p. counter_in p ≤ 1 + n) (λ own. omega arith) (λ other. omega (arith, le))
+    cond_both (same_key k key) None o (λ p. counter_in p ≤ 1 + n) (λ own. omega arith) (λ other. omega arith)
 counter_by log line (entry.Taken k tenure counter owner) key o n le =
     raised (taken_row (taken_count log + 1) owner) (same_key k key) o n (λ x. refl) le
 counter_by log line (entry.Renewed tenure counter) key o n le =
@@ -95,15 +95,15 @@ counter_by log line (entry.Freed tenure counter) key o n le =
     raised freed_row (is_key (key_of log tenure) key) o n (λ x. refl) le
 counter_by log line (entry.Marked tenure counter to) key o n le =
     raised (marked_row to) (is_key (key_of log tenure) key) o n (λ x. refl) le
-counter_by log line _ key o n le = omega (arith, le)
+counter_by log line _ key o n le = omega arith
 
 counter_few : (log : Journal) (key : ShardRef) → counter_in (row log key) ≤ leases log
 counter_few [] key = omega arith
 counter_few (line ∷ log) key = counter_by log line line.what key (row log key) (leases log) (counter_few log key)
 
 taken_by : (e : Entry) (n m : ℕ) → n ≤ m → taken_count_after e n ≤ weight e + m
-taken_by (entry.Taken key tenure counter owner) n m le = omega (arith, le)
-taken_by _ n m le = omega (arith, le)
+taken_by (entry.Taken key tenure counter owner) n m le = omega arith
+taken_by _ n m le = omega arith
 
 taken_few : (log : Journal) → taken_count log ≤ leases log
 taken_few [] = omega arith

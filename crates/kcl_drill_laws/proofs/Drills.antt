@@ -75,7 +75,7 @@ at_most : (P : Turn → Type 0) (n : ℕ) (turns : List Turn) → length turns �
     → ((t : Turn) → t.at ≤ n * 50 → is_service t.what ≡ false → P t) → AllByRecursion P turns
 at_most P n [] few on is = tt
 at_most P n (t ∷ turns) few on is =
-    (is t (omega (arith, few, on.0.0)) on.0.1, at_most P n turns (omega (arith, few)) on.1 is)
+    (is t (omega (arith, few, on.0.0)) on.0.1, at_most P n turns (omega arith) on.1 is)
 
 member_turns : (P : Turn → Type 0) (records : ℕ) (members : List Account) → records ≤ 1000000
     → AllByRecursion (IsMemberAccount records) members
@@ -111,7 +111,7 @@ few_commands i (suc left) x opens =
     let next = opens_then opens (plan (i + 1) (draw x) opens) in
     let rest = few_commands (i + 1) left (draw x) next in
     let one = with_one (plan (i + 1) (draw x) opens) (from_record (i + 1) left (draw x) next) in
-    omega (arith, rest, one)
+    omega (arith, rest)
 
 length_asked : (by : ℕ) (cs : List Command) → length (turns_of by cs) ≡ length cs
 length_asked by cs = length-map (reverse cs) (turn_of by) ∙ length-reverse cs
@@ -234,7 +234,7 @@ module _ (number records : ℕ) (root feeder : Standing) (members : List Account
       let most = clock_by 1530000 h
       (each_turn (λ t. t.at ≤ 1530000) (omega arith) (always (λ what. 0 ≤ 1530000) rest (λ _. omega arith))
       (leased (λ t. t.at ≤ 1530000) (λ t below service. below))) in
-      omega (arith, most)
+      omega arith
 
   horizons : (xs : List Account) → AllByRecursion (IsMemberAccount records) xs
       → AllByRecursion (λ a. AreDrillTurns a.turns) xs

@@ -95,4 +95,4 @@ floor_stays (turn ∷ more) h c are le s =
     let log = journal (more ++ h) in
     let at = clock (turn ∷ (more ++ h)) in
     trim_lines at (lines_of (decision log at turn)) log c s (lease_adds log at turn.by turn.what are.0) le
-    ∙ floor_stays more h c are.1 (omega (arith, le)) s
+    ∙ floor_stays more h c are.1 (omega arith) s

@@ -40,14 +40,14 @@ closed_more (x ∷ xs) ys (suc p) is = closed_more xs ys p is
 -- one that is there is closed by its closing
 closed_now : (n : ℕ) (closing : Closing) (xs : List ShardState) → n < length xs
     → is_closed_at (slice_get (with_closed n closing xs) n) ≡ true
-closed_now n closing [] below = absurd (omega (arith, below))
+closed_now n closing [] below = absurd (omega arith)
 closed_now zero closing (x ∷ xs) below = refl
-closed_now (suc n) closing (x ∷ xs) below = closed_now n closing xs (omega (arith, below))
+closed_now (suc n) closing (x ∷ xs) below = closed_now n closing xs (omega arith)
 
 below_length : (n : ℕ) (xs : List ShardState) → is_open_at (slice_get xs n) ≡ true → n < length xs
 below_length n [] is = absurd cc
 below_length zero (x ∷ xs) is = omega arith
-below_length (suc n) (x ∷ xs) is = let e = below_length n xs is in omega (arith, e)
+below_length (suc n) (x ∷ xs) is = let e = below_length n xs is in omega arith
 
 -- ---- the shards of a journal
 
@@ -91,7 +91,7 @@ split_closed xs sh at start closing below are =
     all_append (IsIn (old ++ new)) old new
     (all_in xs (old ++ new) old (λ p is. closed_more old new p (closed_stays sh p closing xs is))
     (all_closed xs sh closing xs are))
-    (((below, closed), tt), (((omega (arith, below), closed), tt), tt))
+    (((below, closed), tt), (((omega arith, closed), tt), tt))
 
 -- after a merge
 merged_closed : (xs : List ShardState) (sh other start : ℕ) (closing : Closing) → sh < length xs → other < length xs

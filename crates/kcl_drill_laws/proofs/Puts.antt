@@ -32,7 +32,7 @@ puts (line ∷ ls) = weight line.what + puts ls
 
 puts_with : (ls : List Line) (log : Journal) → puts (with_lines ls log) ≡ puts ls + puts log
 puts_with [] log = omega arith
-puts_with (line ∷ ls) log = let n = puts_with ls (line ∷ log) in omega (arith, n)
+puts_with (line ∷ ls) log = let n = puts_with ls (line ∷ log) in omega arith
 
 -- ---- the lines of a decision
 
@@ -43,7 +43,7 @@ few_puts (item ∷ items) log c by s =
     let skip = few_puts items log c by s in
     let take = few_puts items (line ∷ log) c by s in
     cond_both (is_held_back log c s item) (put_lines log c by s items) (line ∷ put_lines (line ∷ log) c by s items)
-    (λ ls. puts ls ≤ suc (length items)) (λ back. omega (arith, skip)) (λ goes. omega (arith, take))
+    (λ ls. puts ls ≤ suc (length items)) (λ back. omega arith) (λ goes. omega arith)
 
 no_steps : (ls : List Line) → AllByRecursion (λ line. weight line.what ≡ 0) ls → puts ls ≡ 0
 no_steps [] none = refl
@@ -64,7 +64,7 @@ few log c by _ _ _ (Scales name goal s named room fits) lawful =
     let none = each_step (λ line. weight line.what ≡ 0) c by s (steps_to log s goal) log (λ sh other n child. refl)
     (λ sh at n low high. refl) in
     let n = no_steps (step_lines log c by s (steps_to log s goal)) none in
-    omega (arith, n)
+    omega arith
 
 decided_few : (log : Journal) (c by : ℕ) (what : Command) → IsLawfulCommand what
     → puts (lines_of (decide log c by what)) ≤ 500
@@ -90,8 +90,8 @@ records_by l (entry.Put stream shard number hash bytes key_bytes) s sh n rs le =
       payload = l.payload;
     } in
     cond_both ((stream == s) && (shard == sh)) (rs ++ r ∷ []) rs (λ xs. length xs ≤ 1 + n)
-    (λ here. omega (arith, length_push rs r, le)) (λ elsewhere. omega (arith, le))
-records_by l _ s sh n rs le = omega (arith, le)
+    (λ here. omega (arith, length_push rs r, le)) (λ elsewhere. omega arith)
+records_by l _ s sh n rs le = omega arith
 
 records_few : (log : Journal) (s sh : ℕ) → length (records log s sh) ≤ puts log
 records_few [] s sh = omega arith

@@ -32,9 +32,9 @@ module _ {M P F G : Type 0} (hall : Place) where
 
   pub all_there : (from : ℕ) (ms : List (Member M P F G)) → HavePasses hall from ms
       → All (λ m. m.pass.hall ≡ hall.id) ms
-  all_there from [] are k d below = absurd (omega (arith, below))
+  all_there from [] are k d below = absurd (omega arith)
   all_there from (m ∷ ms) are zero d below = are.0.at
-  all_there from (m ∷ ms) are (suc k) d below = all_there (from + 1) ms are.1 k d (omega (arith, below))
+  all_there from (m ∷ ms) are (suc k) d below = all_there (from + 1) ms are.1 k d (omega arith)
 
 module _ {M P F G : Type 0} where
   pub count_accounts : (ms : List (Member M P F G)) → length (map account_in ms) ≡ length ms
@@ -49,20 +49,20 @@ module _ {M P F G : Type 0} where
 -- ---- each number is there
 
 has_some : (from n : ℕ) (xs : List Account) → CountFrom from xs → from ≤ n → n < from + length xs → 0 < times n xs
-has_some from n [] are least most = absurd (omega (arith, least, most))
+has_some from n [] are least most = absurd (omega arith)
 has_some from n (a ∷ xs) are least most =
     dite (ℕ_discrete from n)
-    (λ is. let one = has_one n a (are.0 ∙ is) in omega (arith, one))
-    (λ ne. let more = has_some (from + 1) n xs are.1 (omega (arith, least, ne)) (omega (arith, most)) in
-    omega (arith, more))
+    (λ is. let one = has_one n a (are.0 ∙ is) in omega arith)
+    (λ ne. let more = has_some (from + 1) n xs are.1 (omega arith) (omega arith) in
+    omega arith)
 
 -- the numbers 1, 2 and those of the workers
 pub has_each : (root feeder : Standing) (xs : List Account) → root.by ≡ 1 → feeder.by ≡ 2 → CountFrom 3 xs
     → (n : ℕ) → 0 < n → n ≤ length xs + 2 → 0 < times n (all_accounts root feeder xs)
 has_each root feeder xs first second are n least most =
     dite (ℕ_discrete 1 n)
-    (λ is. let one = has_one n (account root.by root.own) (first ∙ is) in omega (arith, one))
+    (λ is. let one = has_one n (account root.by root.own) (first ∙ is) in omega arith)
     (λ not1. dite (ℕ_discrete 2 n)
-    (λ is. let one = has_one n (account feeder.by feeder.own) (second ∙ is) in omega (arith, one))
-    (λ not2. let more = has_some 3 n xs are (omega (arith, least, not1, not2)) (omega (arith, most)) in
-    omega (arith, more)))
+    (λ is. let one = has_one n (account feeder.by feeder.own) (second ∙ is) in omega arith)
+    (λ not2. let more = has_some 3 n xs are (omega arith) (omega arith) in
+    omega arith))

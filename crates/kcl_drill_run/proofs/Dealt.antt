@@ -67,8 +67,8 @@ module _ (hall : Place) (workers : ℕ) (all some rest : List Standing)
               root = root_is ∙ first.value ∙ ap (λ xs. slice_index_or xs 0 root) are_all;
               feeder = feeder_is ∙ second.value ∙ ap (λ xs. slice_index_or xs 0 feeder) are_some;
               members = subst (λ ps. AreMembersOf 1 ps ms) (are_rest ∙ ap (new_passes hall 3) (sym count)) are;
-              all = omega (arith, passes, count);
-              few = omega (arith, few, count);
+              all = omega arith;
+              few = omega arith;
             },
             count,
           )

@@ -40,7 +40,7 @@ none_closed floor (x ∷ xs) is = (not_closed floor x.closing is, none_closed fl
 
 -- the clock after a moment that isn't later
 same_clock : (c at : ℕ) → at ≡ 0 → max c at ≡ c
-same_clock c at is = omega (arith, is)
+same_clock c at is = omega arith
 
 module _ (untrimmed : (h : List Turn) (c s : ℕ) → IsHistory h → clock h ≤ c → c < LEAST_RETENTION
     → trim_floor (journal h) c s ≡ 0) where
@@ -85,7 +85,7 @@ pub ready : (laws : HasLaws) (stands : List Turn → Type 0) (h : List Turn) (nu
     → HasDrained stands by at h → IsReady stands by then number records
 ready laws stands h number records by at then zero zero_then is d =
     let turns = d.more ++ h in
-    let drill = laws.drill number records by at d.more h is (omega (arith, zero)) d.are in
+    let drill = laws.drill number records by at d.more h is (omega arith) d.are in
     let at_clock = same_clock (clock turns) then zero_then in
     record {
       turns = turns;

@@ -57,17 +57,17 @@ module _ {M P F G : Type 0} (stands : P → List Call → Type 0) (turns : ℕ) 
       → length after ≡ length before
       → HaveEnded stands turns before after → SomeFailed e after → SomeIsFull after
   members_full e before [] is same ended some = absurd some
-  members_full e [] (a ∷ after) is same ended some = absurd (omega (arith, same))
+  members_full e [] (a ∷ after) is same ended some = absurd (omega arith)
   members_full e (b ∷ before) (a ∷ after) is same ended (inl one) =
       inl (one_full b a (ended 0 b (omega arith)) (subst (λ x. a.outcome ≡ Err x) is one))
   members_full e (b ∷ before) (a ∷ after) is same ended (inr more) =
-      inr (members_full e before after is (omega (arith, same)) (λ i m below. ended (suc i) m (omega (arith, below)))
+      inr (members_full e before after is (omega arith) (λ i m below. ended (suc i) m (omega arith))
       more)
 
 -- ---- passes that have seen few turns are not full
 
 few_not_full : (p : Standing) → IsShort p → IsFull p → ⊥
-few_not_full p short full = absurd (omega (arith, short, full))
+few_not_full p short full = absurd (omega arith)
 
 members_not_full : {M P F G : Type 0} (ms : List (Member M P F G)) → AllByRecursion (λ m. IsShort m.pass) ms
     → SomeIsFull ms → ⊥

@@ -18,4 +18,4 @@ module _ {M P F G : Type 0} where
 
   pub all_rest : (Q : Member M P F G → Type 0) (m : Member M P F G) (rest items : List (Member M P F G))
       → items ≡ m ∷ rest → All Q items → All Q rest
-  all_rest Q m rest items step all = λ k d below. (subst (All Q) step all) (suc k) d (omega (arith, below))
+  all_rest Q m rest items step all = λ k d below. (subst (All Q) step all) (suc k) d (omega arith)

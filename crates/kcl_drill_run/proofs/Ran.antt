@@ -48,12 +48,12 @@ module _ {M G : Type 0} (hall : Place) where
   -- they may be run
   pub all_ready : (name from n : ℕ) (ms : List (Member M Stock Kind G)) → AreMembersOf name (new_passes hall from n) ms
       → All (IsReady StockStandsFor hall) ms
-  all_ready name from n [] are k d below = absurd (omega (arith, below))
+  all_ready name from n [] are k d below = absurd (omega arith)
   all_ready name from zero (m ∷ ms) are k d below = absurd are
   all_ready name from (suc n) (m ∷ ms) are zero d below =
       (ap (λ (p : Standing). p.hall) are.0.pass_is, ap (λ (p : Standing). p.own) are.0.pass_is, are.0.stands)
   all_ready name from (suc n) (m ∷ ms) are (suc k) d below =
-      all_ready (name + 1) (from + 1) n ms are.1 k d (omega (arith, below))
+      all_ready (name + 1) (from + 1) n ms are.1 k d (omega arith)
 
   module _ (records : ℕ) where
     -- it ran, or is as it was
@@ -79,7 +79,7 @@ module _ {M G : Type 0} (hall : Place) where
             by = ap (λ (p : Standing). p.by) pass;
             alone = ap (λ (p : Standing). p.joined) pass;
           },
-          omega (arith, none),
+          omega arith,
         )
 
     pub all_passed : (name from n : ℕ) (before after : List (Member M Stock Kind G))
@@ -88,13 +88,13 @@ module _ {M G : Type 0} (hall : Place) where
         → HaveEndedOrNot StockStandsFor (200 + records / 100) before after
         → HavePasses hall from after × AllByRecursion (λ m. IsFew records (account_in m)) after
     all_passed name from n [] [] are same ended = (tt, tt)
-    all_passed name from n [] (a ∷ after) are same ended = absurd (omega (arith, same))
-    all_passed name from n (b ∷ before) [] are same ended = absurd (omega (arith, same))
+    all_passed name from n [] (a ∷ after) are same ended = absurd (omega arith)
+    all_passed name from n (b ∷ before) [] are same ended = absurd (omega arith)
     all_passed name from zero (b ∷ before) (a ∷ after) are same ended = absurd are
     all_passed name from (suc n) (b ∷ before) (a ∷ after) are same ended =
         let one = one_passed name from b a are.0 (ended 0 b (omega arith)) in
-        let more = all_passed (name + 1) (from + 1) n before after are.1 (omega (arith, same))
-        (λ i m below. ended (suc i) m (omega (arith, below))) in
+        let more = all_passed (name + 1) (from + 1) n before after are.1 (omega arith)
+        (λ i m below. ended (suc i) m (omega arith)) in
         ((one.0, more.0), (one.1, more.1))
 
     module _ (law : FromHorizon) where
@@ -117,13 +117,13 @@ module _ {M G : Type 0} (hall : Place) where
           → HaveEnded StockStandsFor (200 + records / 100) before after
           → AllByRecursion (λ m. IsMemberAccount records (account_in m)) after
       all_made name from n [] [] are same ran ended = tt
-      all_made name from n [] (a ∷ after) are same ran ended = absurd (omega (arith, same))
-      all_made name from n (b ∷ before) [] are same ran ended = absurd (omega (arith, same))
+      all_made name from n [] (a ∷ after) are same ran ended = absurd (omega arith)
+      all_made name from n (b ∷ before) [] are same ran ended = absurd (omega arith)
       all_made name from zero (b ∷ before) (a ∷ after) are same ran ended = absurd are
       all_made name from (suc n) (b ∷ before) (a ∷ after) are same ran ended = (
         one_made name from b a are.0 ran.0 (ended 0 b (omega arith)),
-        all_made (name + 1) (from + 1) n before after are.1 (omega (arith, same)) ran.1
-            (λ i m below. ended (suc i) m (omega (arith, below))),
+        all_made (name + 1) (from + 1) n before after are.1 (omega arith) ran.1
+            (λ i m below. ended (suc i) m (omega arith)),
       )
 
 -- ---- all of them

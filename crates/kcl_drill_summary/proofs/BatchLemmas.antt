@@ -66,7 +66,7 @@ part_head p r rs bs true le up above rest =
     let place = place_after (r.seq + 1) (numbers_of bs) in
     ap (λ xs. r ∷ xs) rest
     ∙ ap (λ b. r ∷ (bs ++ cond b (r ∷ from place rs) (from place rs)))
-    (sym (is_above place r.seq (omega (arith, above))))
+    (sym (is_above place r.seq (omega arith)))
 part_head p r rs bs false le up above rest = sym (all_from p (r ∷ rs) (le, up))
 
 -- a batch, and those from the place after it on, are all
@@ -125,8 +125,8 @@ stuck limit p (r ∷ rs) up are is =
 
 pub bytes_append : (xs ys : List Logged) → bytes_of (xs ++ ys) ≡ bytes_of xs + bytes_of ys
 bytes_append [] ys = omega arith
-bytes_append (x ∷ xs) ys = let n = bytes_append xs ys in omega (arith, n)
+bytes_append (x ∷ xs) ys = let n = bytes_append xs ys in omega arith
 
 pub bytes_stored : (rs : List Logged) → bytes_of (map logged (map stored rs)) ≡ bytes_of rs
 bytes_stored [] = refl
-bytes_stored (r ∷ rs) = let n = bytes_stored rs in omega (arith, n)
+bytes_stored (r ∷ rs) = let n = bytes_stored rs in omega arith

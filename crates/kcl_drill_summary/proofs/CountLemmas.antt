@@ -40,7 +40,7 @@ up_drawn : (log : Journal) (s sh : ℕ) → AreDrawn log s sh → IsUp 0 (record
 up_drawn log s sh is = up_weaker 0 (start_of (shard_at log s sh)) (records log s sh) (omega arith) (up_rising _ _ _ is)
 
 few_between : (p : ℕ) (rs : List Logged) (q : ℕ) → RiseBetween p rs q → p + length rs ≤ q
-few_between p [] q is = omega (arith, is)
+few_between p [] q is = omega arith
 few_between p (r ∷ rs) q is = let n = few_between (r.seq + 1) rs q is.1 in omega (arith, n, is.0)
 
 pub bytes_few : (rs : List Logged) → AreSized rs → bytes_of rs ≤ 10485760 * length rs
@@ -52,7 +52,7 @@ few_records log c s sh can = let n = few_between _ _ _ can.drawn in omega (arith
 
 few_bytes : (log : Journal) (c s sh : ℕ) → CanCount log c s sh → bytes_of (records log s sh) < 2 ^ 128
 few_bytes log c s sh can = let n = few_records log c s sh can in let m = bytes_few (records log s sh) can.sized in
-    omega (arith, n, m)
+    omega arith
 
 -- ---- the answer
 
@@ -88,8 +88,8 @@ Adds bound old more new = old + more < bound → new ≡ old + more
 total : (bound old more rest all new : ℕ) → old + (more + rest) ≡ all → all < bound → Adds bound old more new
     → new + rest ≡ all
 total bound old more rest all new is few adds =
-    let n = adds (omega (arith, is, few)) in
-    omega (arith, is, n)
+    let n = adds (omega arith) in
+    omega arith
 
 pub counts_on : (count bytes count' bytes' : ℕ) (ls bs rest all : List Logged) → CountsTo count bytes ls all
     → ls ≡ bs ++ rest → length all < 2 ^ 64 → bytes_of all < 2 ^ 128
@@ -112,7 +112,7 @@ all_counted count bytes rest all none counts = (
 )
   where
     zeros : (n m k : ℕ) → m ≡ 0 → n + m ≡ k → n ≡ k
-    zeros n m k is so = omega (arith, is, so)
+    zeros n m k is so = omega arith
 
 -- ---- a read
 
@@ -211,4 +211,4 @@ begins log c s sh iter can is =
     )
   where
     plus : (n m : ℕ) → n ≡ m → 0 + n ≡ m
-    plus n m is = omega (arith, is)
+    plus n m is = omega arith

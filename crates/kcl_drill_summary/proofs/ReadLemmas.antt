@@ -23,7 +23,7 @@ no_lines : (log : Journal) (c by : ℕ) (what : Command) → is_reading what ≡
 no_lines log c by what is = none_by log c by what _ _ (walk log c by what) is
 
 clocks : (m c at now : ℕ) → at ≡ now → max c now ≡ max m now → max (max c at) now ≡ max m now
-clocks m c at now is so = omega (arith, is, so)
+clocks m c at now is so = omega arith
 
 pub leaves : (by at : ℕ) (more h : List Turn) → AreReads by at more → (journal (more ++ h) ≡ journal h)
     × (max (clock (more ++ h)) at ≡ max (clock h) at)

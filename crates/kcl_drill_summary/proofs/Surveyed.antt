@@ -136,7 +136,7 @@ above_none : (log : Journal) (c s : ℕ) (q : ℕ → Bool) (n count : ℕ) → 
 above_none log c s q n zero below = refl
 above_none log c s q n (suc count) below =
     let ns = filter q (numbers_from (n + 1) count) in
-    let rest = above_none log c s q (n + 1) count (omega (arith, below)) in
+    let rest = above_none log c s q (n + 1) count (omega arith) in
     cond_both (q n) (n ∷ ns) ns (λ ms. of_stream s (listed_in log c ms) ≡ [])
     (λ is. none_of s n (listed_shards log c n) (listed_in log c ns) (apart_below n s below) ∙ rest) (λ not. rest)
 
@@ -152,7 +152,7 @@ found_above p q n (suc count) s h = either (q n) (p n) refl (λ k. found_above p
         let e : Some n ≡ Some s = ap (λ d. cond d (Some n) (find p (filter q (numbers_from (n + 1) count)))) (sym is)
         ∙ h in
         let f : n ≡ s = cc (e) in
-        omega (arith, f)
+        omega arith
     either true false is later h =
         omega (arith, later (ap (λ d. cond d (Some n) (find p (filter q (numbers_from (n + 1) count)))) (sym is) ∙ h))
 
@@ -175,7 +175,7 @@ picked log c p q n (suc count) s h = either (q n) (p n) refl (λ k. picked log c
         subst (λ t. of_stream s (refs_of t (listed_shards log c t) ++ listed_in log c more)
         ≡ refs_of s (listed_shards log c s)) (sym f)
         (all_of s (listed_shards log c s) (listed_in log c more)
-        (above_none log c s q (n + 1) count (omega (arith, f))))
+        (above_none log c s q (n + 1) count (omega arith)))
     either true false is later h =
         let k = ap (λ d. cond d (Some n) (find p more)) (sym is) ∙ h in
         let far = found_above p q (n + 1) count s k in

@@ -87,7 +87,7 @@ more_by line log (entry.Put stream shard number hash bytes key_bytes) s m shs ri
         let n = one_more (λ sh. length (records log s sh))
         (λ sh. length (if shard == sh then records log s sh ++ (r ∷ []) else records log s sh)) shard m shs rise
         (λ n. lengths_if (shard == n) (records log s n) r) in
-        omega (arith, n)
+        omega arith
     either false other = omega arith
 more_by line log (entry.Split stream shard at number low high) s m shs rise = omega arith
 more_by line log (entry.Merged stream shard other number child) s m shs rise = omega arith
@@ -99,7 +99,7 @@ in_sums log s (sh ∷ shs) = ap (λ n. length (records log s sh) + n) (in_sums l
 
 none_yet : (s : ℕ) (shs : List ℕ) → sums (λ sh. length (records [] s sh)) shs ≡ 0
 none_yet s [] = refl
-none_yet s (sh ∷ shs) = let rest = none_yet s shs in omega (arith, rest)
+none_yet s (sh ∷ shs) = let rest = none_yet s shs in omega arith
 
 below_next : (log : Journal) (s m : ℕ) (shs : List ℕ) → RiseFrom m shs
     → sums (λ sh. length (records log s sh)) shs < next_number log s
@@ -119,4 +119,4 @@ few_bytes_in log s [] sized = omega arith
 few_bytes_in log s (sh ∷ shs) sized =
     let rest = few_bytes_in log s shs sized in
     let one = bytes_few (records log s sh) (sized sh) in
-    omega (arith, rest, one)
+    omega arith

@@ -189,4 +189,4 @@ crowd_err number records gen left before root mid feeder (Ok a) is asked feeds =
 crowd_err number records gen left before root mid feeder (Err e) is asked feeds =
     let first : HasAsked (take 1 (generated number records)) root = subst (λ cs. HasAsked (take 1 cs) root) is asked in
     let one : length root.own ≡ 1 = ap length first in
-    inr (omega (arith, one), feeds.err)
+    inr (omega arith, feeds.err)

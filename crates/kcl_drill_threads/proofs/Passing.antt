@@ -29,7 +29,7 @@ none_before_one n turn place by one =
     let two : turn ∷ turns_by n place ≡ turn ∷ [] =
     sym (ap (λ b. cond b (turn ∷ turns_by n place) (turns_by n place)) (is_equal turn.by n by)) ∙ one in
     let count = ap length two in
-    no_length (turns_by n place) (omega (arith, count))
+    no_length (turns_by n place) (omega arith)
 
 -- ---- passes that were kept
 

@@ -49,7 +49,7 @@ rise_left p (n ∷ ns) ms h = (h.0, rise_left (n + 1) ns ms h.1)
 up_to_last : (n p q : ℕ) (rs : List Stored) → last_of rs ≡ Some q → RiseFrom p (numbers rs) → IsAmong n (numbers rs)
     → n ≤ q
 up_to_last n p q [] is rise among = absurd among
-up_to_last n p q (r ∷ []) is rise (inl e) = let s = same_some r.seq q is in omega (arith, e, s)
+up_to_last n p q (r ∷ []) is rise (inl e) = let s = same_some r.seq q is in omega arith
 up_to_last n p q (r ∷ []) is rise (inr none) = absurd none
 up_to_last n p q (r ∷ s ∷ rs) is rise (inl e) =
     omega (arith, e, rise.1.0, up_to_last s.seq (r.seq + 1) q (s ∷ rs) is rise.1 (inl refl))
@@ -85,7 +85,7 @@ rise_given T rise =
 
 less_up : (n q : ℕ) (c : Checkpoint) → n ≤ q → IsUpTo q c → IsUpTo n c
 less_up n q TrimHorizon le up = up
-less_up n q (At k) le up = omega (arith, le, up)
+less_up n q (At k) le up = omega arith
 less_up n q ShardEnd le up = tt
 
 by_last : (by : ℕ) (h : List Turn) → IsHistory h

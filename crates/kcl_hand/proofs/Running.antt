@@ -124,7 +124,7 @@ answered_way x n s stand.Consumer what a at w due is =
     record {
       going = goes x.held (last_given x.made past) (phase_after x.made past) _ refl;
       leaving = answered_leaves x.made a phase w.leaving;
-      few_left = omega (arith, f, old);
+      few_left = omega arith;
     }
 answered_way x n s (stand.Mark q) what a at w due is =
     let phase = phase_after x.made s.past in
@@ -147,8 +147,8 @@ answered_way x n s (stand.Ended left) what a at w due is = absurd cc
 -- none is left at its end
 none_left : (s : Stand) (phase : Phase) → turns_left s phase ≤ 0 → IsSome (left_at s)
 none_left (stand.Ended left) phase l = refl
-none_left stand.Consumer (Giving reach waiting asked lost) l = absurd (omega (arith, l))
-none_left _ _ l = absurd (omega (arith, l))
+none_left stand.Consumer (Giving reach waiting asked lost) l = absurd (omega arith)
+none_left _ _ l = absurd (omega arith)
 
 ends_by : (n at by : ℕ) (h : List Turn) (x : HandOff) (o : Option Command) → hand_command x.held x.made (state_of x) ≡ o
     → OnWay x (suc n) → hand_due x.made (state_of x) ≡ None

@@ -88,10 +88,10 @@ narrow deals ks w f = record {
 }
   where
     less : (a b c d : ℕ) → d ≡ b + c → a + d ≤ 1 → a + c ≤ 1
-    less a b c d h o = omega (arith, h, o)
+    less a b c d h o = omega arith
 
     none : (a b c d : ℕ) → d ≡ b + c → a + d ≡ 0 → a + c ≡ 0
-    none a b c d h o = omega (arith, h, o)
+    none a b c d h o = omega arith
 
 own_waits : (hands : List HandOff) (w : WorkerState) (o : Option Pending)
     → IsWaitingOk o (widened (map known_in hands) w) → IsWaitingOk o w

@@ -54,7 +54,7 @@ switch false = word (codes "off") refl
 from_text : (from : Origin) → IsOrigin from → Lacks 10 (origin_text from)
 from_text origin.TrimHorizon v = tt
 from_text origin.Latest v = word (codes " latest") refl
-from_text (origin.Time m) v = after (codes " time ") (decimal m) refl (number m (omega (arith, v)))
+from_text (origin.Time m) v = after (codes " time ") (decimal m) refl (number m (omega arith))
 
 target_lacks : (to : Target) → IsTarget to → Lacks 10 (target_text to)
 target_lacks target.End v = word (codes "end") refl
@@ -92,4 +92,4 @@ entry_lacks v line t =
     (spaced (decimal line.by) _ (number line.by (omega (arith, t.by))) (what_lacks v line.what t.what))
 
 pub end_lacks : (clock : ℕ) → clock < 2 ^ 62 → Lacks 10 (end_spelling clock)
-end_lacks clock small = after (codes "end ") (decimal clock) refl (number clock (omega (arith, small)))
+end_lacks clock small = after (codes "end ") (decimal clock) refl (number clock (omega arith))

@@ -71,22 +71,22 @@ rising_le p [] q h = h
 rising_le p (r ∷ rs) q h = omega (arith, h.0, rising_le (r.seq + 1) rs q h.1)
 
 pub rising_above : (p : ℕ) (rs : List Logged) (q q' : ℕ) → q ≤ q' → IsRising p rs q → IsRising p rs q'
-rising_above p [] q q' le h = omega (arith, h)
+rising_above p [] q q' le h = omega arith
 rising_above p (r ∷ rs) q q' le h = (h.0, rising_above (r.seq + 1) rs q q' le h.1)
 
 pub rising_below : (p p' : ℕ) (rs : List Logged) (q : ℕ) → p ≤ p' → IsRising p' rs q → IsRising p rs q
-rising_below p p' [] q le h = omega (arith, h)
+rising_below p p' [] q le h = omega arith
 rising_below p p' (r ∷ rs) q le h = (omega (arith, h.0), h.1)
 
 pub rising_push : (p : ℕ) (rs : List Logged) (q : ℕ) (r : Logged) → IsRising p rs q → r.seq ≡ q
     → IsRising p (rs ++ (r ∷ [])) (q + 1)
-rising_push p [] q r h e = (omega (arith, h, e), omega (arith, e))
+rising_push p [] q r h e = (omega arith, omega arith)
 rising_push p (x ∷ xs) q r h e = (h.0, rising_push (x.seq + 1) xs q r h.1 e)
 
 rising_cond : (b : Bool) (p : ℕ) (r : Logged) (rs : List Logged) (q : ℕ) → p ≤ r.seq → IsRising (r.seq + 1) rs q
     → IsRising p (cond b (r ∷ rs) rs) q
 rising_cond true p r rs q le h = (le, h)
-rising_cond false p r rs q le h = rising_below p (r.seq + 1) rs q (omega (arith, le)) h
+rising_cond false p r rs q le h = rising_below p (r.seq + 1) rs q (omega arith) h
 
 pub rising_filter : (f : Logged → Bool) (p : ℕ) (rs : List Logged) (q : ℕ) → IsRising p rs q
     → IsRising p (filter f rs) q
@@ -118,7 +118,7 @@ RisesTo p [] q = p ≤ q
 RisesTo p (n ∷ ns) q = (p ≤ n) × RisesTo (n + 1) ns q
 
 pub rises_append : (p : ℕ) (ms ns : List ℕ) (q r : ℕ) → RisesTo p ms q → RisesTo q ns r → RisesTo p (ms ++ ns) r
-rises_append p [] [] q r h g = omega (arith, h, g)
+rises_append p [] [] q r h g = omega arith
 rises_append p [] (n ∷ ns) q r h g = (omega (arith, h, g.0), g.1)
 rises_append p (m ∷ ms) ns q r h g = (h.0, rises_append (m + 1) ms ns q r h.1 g)
 

@@ -44,13 +44,13 @@ reached_none [] = refl
 reached_none (r ∷ rs) = inl (omega arith)
 
 reached_more : (place : ℕ) (rs : List Logged) (r : Logged) → IsReached place rs → IsReached place (rs ++ r ∷ [])
-reached_more place [] r is = inl (omega (arith, is))
+reached_more place [] r is = inl (omega arith)
 reached_more place (x ∷ rs) r (inl is) = inl is
 reached_more place (x ∷ rs) r (inr is) = inr (reached_more place rs r is)
 
 reached_below : (place less : ℕ) (rs : List Logged) → less ≤ place → IsReached place rs → IsReached less rs
-reached_below place less [] le is = omega (arith, le, is)
-reached_below place less (r ∷ rs) le (inl is) = inl (omega (arith, le, is))
+reached_below place less [] le is = omega arith
+reached_below place less (r ∷ rs) le (inl is) = inl (omega arith)
 reached_below place less (r ∷ rs) le (inr is) = inr (reached_below place less rs le is)
 
 -- ---- they stay as records come
@@ -258,7 +258,7 @@ marked_reached : (log : Journal) (T : TenureState) (to : Target) → TargetOk T 
     → RowReached log T.key (checkpoint_at to)
 unfolding AreReached RowReached
 marked_reached log T (target.At q) below at =
-    reached_below (delivered T) (q + 1) (records log T.key.stream T.key.shard) (omega (arith, below)) (at T.given)
+    reached_below (delivered T) (q + 1) (records log T.key.stream T.key.shard) (omega arith) (at T.given)
 marked_reached log T target.End below at = reached_none (records log T.key.stream T.key.shard)
 
 same_origin : (from q : Origin) → Some from ≡ Some q → from ≡ q
@@ -318,8 +318,8 @@ checkpoint_reached log legal key r q there from is =
     ((all_reach log legal).rows key r there from))
   where
     found : (q : ℕ) (rs : List Logged) → IsReached (q + 1) rs → HasFrom q rs
-    found q [] at = absurd (omega (arith, at))
-    found q (r ∷ rs) (inl at) = inl (omega (arith, at))
+    found q [] at = absurd (omega arith)
+    found q (r ∷ rs) (inl at) = inl (omega arith)
     found q (r ∷ rs) (inr at) = inr (found q rs at)
 
 -- such a row has its shard's starting number as its floor

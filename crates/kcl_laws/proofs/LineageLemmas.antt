@@ -41,7 +41,7 @@ HaveParents n xs = AllByRecursion (HasParents n) xs
 
 below_more : (o : Option ℕ) (n m : ℕ) → n ≤ m → IsBelow o n → IsBelow o m
 below_more None n m le h = tt
-below_more (Some p) n m le h = omega (arith, h)
+below_more (Some p) n m le h = omega arith
 
 parents_more : (xs : List ShardState) (n m : ℕ) → n ≤ m → HaveParents n xs → HaveParents m xs
 parents_more [] n m le h = tt
@@ -83,9 +83,9 @@ parents_two xs sh n m start closing r q there h =
     let len : length (with_closed sh closing xs ++ ys) ≡ length xs + 2 =
     length-append (with_closed sh closing xs) ys ∙ ap (λ n. n + 2) (length-closed sh closing xs) in
     let old = parents_more (with_closed sh closing xs) (length xs) (length (with_closed sh closing xs ++ ys))
-    (omega (arith, len)) (parents-closed sh closing xs (length xs) h) in
+    (omega arith) (parents-closed sh closing xs (length xs) h) in
     parents-append (with_closed sh closing xs) ys (length (with_closed sh closing xs ++ ys)) old
-    ((omega (arith, len, there), tt), ((omega (arith, len, there), tt), tt))
+    ((omega arith, tt), ((omega arith, tt), tt))
 
 parents_one : (xs : List ShardState) (sh other n start : ℕ) (closing : Closing) (r : Span) → sh < length xs
     → other < length xs → HaveParents (length xs) xs
@@ -98,10 +98,10 @@ parents_one xs sh other n start closing r there there' h =
     let len : length (zs ++ ys) ≡ length xs + 1 =
     length-append zs ys ∙ ap (λ n. n + 1) (length-closed other closing (with_closed sh closing xs)
     ∙ length-closed sh closing xs) in
-    let old = parents_more zs (length xs) (length (zs ++ ys)) (omega (arith, len))
+    let old = parents_more zs (length xs) (length (zs ++ ys)) (omega arith)
     (parents-closed other closing (with_closed sh closing xs) (length xs)
     (parents-closed sh closing xs (length xs) h)) in
-    parents-append zs ys (length (zs ++ ys)) old ((omega (arith, len, there), omega (arith, len, there')), tt)
+    parents-append zs ys (length (zs ++ ys)) old ((omega arith, omega arith), tt)
 
 parents_choice : (b : Bool) (xs ys : List ShardState) → (b ≡ true → HaveParents (length xs) xs)
     → HaveParents (length ys) ys → HaveParents (length (if b then xs else ys)) (if b then xs else ys)
@@ -167,7 +167,7 @@ past : (log : Journal) (c s n : ℕ) (o : Option ℕ) → n ≡ length (shards l
     → IsPast log c s o
 past log c s n None len below read = tt
 past log c s n (Some p) len below read =
-    let x = there_is (shards log s) p (omega (arith, len, below)) in
+    let x = there_is (shards log s) p (omega arith) in
     past_by log c s p x.0 (reads_end (row log (ref s p))) refl x.1 read
 
 past_state : (log : Journal) → IsLegal log → (c s sh : ℕ) (o : Option ShardState) → shard_at log s sh ≡ o

@@ -55,7 +55,7 @@ one_more : (b : Bool) (s stream n : ℕ) → (stream == s) ≡ b → (n == last_
     → (m : ℕ) → m ≤ last_number
     → (b ≡ true → n ≡ m) → (if b then 1 else 0) + m ≤ last_number
 one_more true s stream n is free fits m le same = let e = same refl in grind (arith, nat_tests)
-one_more false s stream n is free fits m le same = omega (arith, le)
+one_more false s stream n is free fits m le same = omega arith
 
 next_by : (log : Journal) (line : Line) (e : Entry) (reply : Reply) (s : ℕ)
     → told log line e ≡ Accepted (line ∷ []) reply → next_number log s ≤ last_number
@@ -86,7 +86,7 @@ next_by log line (entry.Merged stream shard other number child) reply s h le =
     one_more (stream == s) s stream (next_number log stream) refl (neither_right _ _ f.0)
     (λ is. subst (λ k. next_number log k ≤ last_number) (sym (equal_so stream s is)) le) (next_number log s) le
     (λ is. ap (next_number log) (equal_so stream s is))
-next_by log line _ reply s h le = omega (arith, le)
+next_by log line _ reply s h le = omega arith
 
 pub next_fits : (log : Journal) → IsLegal log → (s : ℕ) → next_number log s ≤ last_number
 next_fits [] legal s = omega arith

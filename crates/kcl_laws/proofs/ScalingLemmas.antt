@@ -39,7 +39,7 @@ use Rattle.kcl_laws.proofs.PartitionLemmas.{tiled}
 -- ---- the ends of a stream's shards lie below 2^128
 
 inside_below : (r : Span) (at : ℕ) → is_inside r at ≡ true → r.end < 2 ^ 128 → at < 2 ^ 128
-inside_below r at h g = let to : at ≤ r.end = grind (arith, nat_tests) in omega (arith, to, g)
+inside_below r at h g = let to : at ≤ r.end = grind (arith, nat_tests) in omega arith
 
 chosen : (b : Bool) (xs ys : List ShardState) → AllByRecursion IsBounded xs → AllByRecursion IsBounded ys
     → AllByRecursion IsBounded (if b then xs else ys)
@@ -244,7 +244,7 @@ beyond : (log : Journal) (s k n : ℕ) → s < k → open_in log (filter (is_liv
 unfolding others
 beyond log s k zero h = refl
 beyond log s k (suc n) h =
-    beyond_by (is_live log k) true log k s _ (apart_from k s h) refl (beyond log s (k + 1) n (omega (arith, h)))
+    beyond_by (is_live log k) true log k s _ (apart_from k s h) refl (beyond log s (k + 1) n (omega arith))
 
 one_by : (b d : Bool) (log : Journal) (t s : ℕ) (us : List ℕ) → not (t == s) ≡ d
     → (d ≡ true → open_in log us ≤ length (open_shards log s) + open_in log (others s us))
@@ -308,7 +308,7 @@ adds_cuts (b ∷ cs) starts wanted log c by s live ok is lead below room more ma
       ap length is,
       length_starts (open_shards log s),
     ) in
-    let good = cut_good log c by s b live k few (omega (arith, more)) (omega (arith, made)) order in
+    let good = cut_good log c by s b live k few (omega arith) (omega arith) order in
     let next_shards = shards_cut log c by s b in
     let rest = adds_cuts cs (with_start b starts) wanted (line ∷ log) c by s live
     (subst IsScalable (sym next_shards) (scalable_cut (shards log s) b _ _ ok below.0 k))
@@ -333,7 +333,7 @@ adds_joins [] cs starts wanted log c by s live ok is lead below room more made l
 adds_joins (b ∷ bs) cs starts wanted log c by s live ok is lead below room more made legal order =
     let line = join_line log c by s b in
     let j = joins (shards log s) b ok lead.0.0 (ap (λ xs. is_start xs b) is ∙ lead.0.1) in
-    let good = join_good log c by s b live j (omega (arith, more)) (omega (arith, made)) order in
+    let good = join_good log c by s b live j (omega arith) (omega arith) order in
     let next_shards = shards_join log c by s b in
     let rest = adds_joins bs cs (without b starts) wanted (line ∷ log) c by s live
     (subst IsScalable (sym next_shards) (scalable_joined (shards log s) b _ _ ok j))

@@ -207,7 +207,7 @@ pub tenure_begins : (log : Journal) (line : Line) (ts : List TenureValue) (T : T
     → HasTenures log ts → HasTenures (line ∷ log) (ts ++ (y ∷ []))
 tenure_begins log line ts T y count after is new room tenures = record {
   count_is = count (taken_count log) ∙ ap (λ n. n + 1) tenures.count_is ∙ sym (length_push ts y);
-  few = let longer = length_push ts y in omega (arith, longer, room);
+  few = let longer = length_push ts y in omega arith;
   tenure_is = λ u.
       ap (option_map kept) (after u (tenure log u))
       ∙ begin_if (u == taken_count log + 1) T (tenure log u) y (tenure_at ts u) is (tenures.tenure_is u)

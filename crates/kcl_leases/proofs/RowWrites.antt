@@ -237,7 +237,7 @@ is_taken (Some x) counter spent start h =
 
 pub below_last : (n : ℕ) (b : Bool) → b ≡ (n == last_number) → b ≡ false → n ≤ last_number → n < last_number
 below_last n b is apart le = let other : n ≢ last_number = differ_so n last_number (sym is ∙ apart) in
-    omega (arith, le, other)
+    omega arith
 
 module _ (s : Facing) (rs : List Row) (ts : List TenureValue) (by : ℕ) (key : ShardRef) (counter owner : ℕ) where
   taken_next : Journal → Row → Decision

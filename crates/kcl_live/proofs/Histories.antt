@@ -13,7 +13,7 @@ no_fewer by (t ∷ newer) h = one (t.by == by) (no_fewer by newer h)
   where
     one : (b : Bool) → length (turns_by by h) ≤ length (turns_by by (newer ++ h))
         → length (turns_by by h) ≤ length (cond b (t ∷ turns_by by (newer ++ h)) (turns_by by (newer ++ h)))
-    one true le = omega (arith, le)
+    one true le = omega arith
     one false le = le
 
 -- where no turn is the actor's, its commands and their answers are the same

@@ -12,7 +12,7 @@ pub next_at : (n tick at : ℕ) → at ≡ n * tick → at + tick ≡ (n + 1) * 
 next_at n tick at e = ap (λ m. m + tick) e ∙ one_more n tick
 
 below : (n m tick : ℕ) → n ≤ m → m * tick < 2 ^ 62 → n * tick < 2 ^ 62
-below n m tick le low = let h : n * tick ≤ m * tick = mul-le n tick m tick le (omega arith) in omega (arith, h, low)
+below n m tick le low = let h : n * tick ≤ m * tick = mul-le n tick m tick le (omega arith) in omega arith
 
 -- where a turn is left, its moment is one
 pub moment_left : (n m tick at : ℕ) → at ≡ n * tick → n + 1 ≤ m → m * tick < 2 ^ 62 → at + tick < 2 ^ 62

@@ -28,12 +28,12 @@ other_byte sep b differs = elim (cases_Bool (b == sep)) [
 -- where a search finds the byte
 found_at : (sep : ℕ) (text : List ℕ) (at : ℕ) → at < length text → ((k : ℕ) → k < at → Passes (is_byte sep) text k → ⊥)
     → Passes (is_byte sep) text at → parted sep text ≡ Some (take at text, drop (suc at) text)
-found_at sep [] at within before here = absurd (omega (arith, within))
+found_at sep [] at within before here = absurd (omega arith)
 found_at sep (b ∷ bs) zero within before here = rw here refl
 found_at sep (b ∷ bs) (suc at) within before here =
     rw (
       other_byte sep b (before 0 (omega arith)),
-      found_at sep bs at (omega (arith, within)) (λ k lt. before (suc k) (omega (arith, lt))) here,
+      found_at sep bs at (omega arith) (λ k lt. before (suc k) (omega arith)) here,
     ) refl
 
 pub parted_found : (sep : ℕ) (text : List ℕ) (at : ℕ) → NoneBefore (Passes (is_byte sep) text) 0 (length text) at
@@ -48,7 +48,7 @@ pub parted_nowhere : (sep : ℕ) (text : List ℕ) → ((k : ℕ) → k < length
     → parted sep text ≡ None
 parted_nowhere sep [] nowhere = refl
 parted_nowhere sep (b ∷ bs) nowhere =
-    rw (other_byte sep b (nowhere 0 (omega arith)), parted_nowhere sep bs (λ k lt. nowhere (suc k) (omega (arith, lt))))
+    rw (other_byte sep b (nowhere 0 (omega arith)), parted_nowhere sep bs (λ k lt. nowhere (suc k) (omega arith)))
     refl
 
 abbrev pub IsParted : ℕ → List ℕ → List ℕ × List ℕ → Type 0

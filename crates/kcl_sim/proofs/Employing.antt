@@ -105,9 +105,9 @@ free_at (v ∷ ws) (suc place) h = free_at ws place h.1
 -- what was written at a place stands there
 pub got_set : (ws : List Stepped) (place : ℕ) (w : Stepped) → place < length ws
     → slice_get (slice_set ws place w) place ≡ Some w
-got_set [] place w lt = absurd (omega (arith, lt))
+got_set [] place w lt = absurd (omega arith)
 got_set (v ∷ ws) zero w lt = refl
-got_set (v ∷ ws) (suc place) w lt = got_set ws place w (omega (arith, lt))
+got_set (v ∷ ws) (suc place) w lt = got_set ws place w (omega arith)
 
 -- and is written over
 pub set_again : (ws : List Stepped) (place : ℕ) (w v : Stepped)
@@ -117,6 +117,6 @@ set_again ws place w v = set-set ws place w v
 -- what a loan of a place gives, where something was written there before
 pub lent_again : (ws : List Stepped) (place : ℕ) (d w u : Stepped) → place < length ws
     → u ≡ get_or (slice_set ws place w) place d → u ≡ w
-lent_again [] place d w u lt is = absurd (omega (arith, lt))
+lent_again [] place d w u lt is = absurd (omega arith)
 lent_again (v ∷ ws) zero d w u lt is = is
-lent_again (v ∷ ws) (suc place) d w u lt is = lent_again ws place d w u (omega (arith, lt)) is
+lent_again (v ∷ ws) (suc place) d w u lt is = lent_again ws place d w u (omega arith) is

@@ -162,7 +162,7 @@ pub way_begins : (wanted : Bool) (at by : ℕ) (old now : SimValue) (v w : Handi
 way_begins wanted at by old now v w text same empty few fewer none called = record {
   ran_of_it = 0;
   deals = [];
-  few = omega (arith, few, fewer);
+  few = omega (arith, few);
   wrote = empty ∙ none_wanted wanted;
   over = ap (λ (z : SimValue). z.over) same;
   workers = ap (λ (z : SimValue). z.workers) same;

@@ -229,7 +229,7 @@ turned ran turn p x by lt t own = record {
       told_on (actor_at q) turn ran.history e (differs q other) (t.each q e is));
   later = λ place past.
       let beyond : length ran.workers ≤ place = omega (arith, past, length-set ran.workers p x) in
-      others_turn (actor_at place) turn ran.history (differs place (λ same. absurd (omega (arith, same, lt, beyond))))
+      others_turn (actor_at place) turn ran.history (differs place (λ same. absurd (omega arith)))
       ∙ t.later place beyond;
 }
   where
@@ -247,7 +247,7 @@ handed ran h p x lt t own others = record {
       record { orderly = k.orderly; told = others q other ∙ k.told; free = k.free });
   later = λ place past.
       let beyond : length ran.workers ≤ place = omega (arith, past, length-set ran.workers p x) in
-      others place (λ same. absurd (omega (arith, same, lt, beyond))) ∙ t.later place beyond;
+      others place (λ same. absurd (omega arith)) ∙ t.later place beyond;
 }
 
 -- ---- lines
@@ -339,7 +339,7 @@ hired_told ran name kind from t = record {
 }
   where
     none : (place : ℕ) → place ≡ length ran.workers → IsTold ran.history (actor_at place) (hired name kind from)
-    none place is = record { orderly = tt; told = t.later place (omega (arith, is)); free = refl }
+    none place is = record { orderly = tt; told = t.later place (omega arith); free = refl }
 
     on : (place : ℕ) (e : Employed) → ((place ≡ length ran.workers) × (hired name kind from ≡ e))
         ⊎ (slice_get ran.workers place ≡ Some e) → IsTold ran.history (actor_at place) e

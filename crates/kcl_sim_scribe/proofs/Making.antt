@@ -61,8 +61,8 @@ module _ (log : Journal) (c by count : ℕ) (name : List ℕ) where
       let fresh : next_number log (m + 1) ≡ 1 = k.unmade (m + 1) (omega arith) in
       let is_new : IsKnown (line ∷ log) (new_known (m + 1) name count) = record {
         named = rw (is_itself (m + 1)) refl;
-        next = omega (arith, fresh);
-        many = rw (is_itself (m + 1)) (length_made count _ ∙ omega (arith, some));
+        next = omega arith;
+        many = rw (is_itself (m + 1)) (length_made count _ ∙ omega arith);
         left = omega arith;
       } in
       record {
@@ -70,5 +70,5 @@ module _ (log : Journal) (c by count : ℕ) (name : List ℕ) where
         live = live_made ∙ ap (λ ns. ns ++ (m + 1) ∷ []) k.live
             ∙ sym (map_push no_of vs (new_known (m + 1) name count));
         known = all_append (IsKnown (line ∷ log)) vs (new_known (m + 1) name count ∷ []) old (is_new, tt);
-        unmade = λ s above. let before = k.unmade s (omega (arith, above)) in omega (arith, before);
+        unmade = λ s above. let before = k.unmade s (omega (arith, above)) in omega arith;
       }

@@ -70,7 +70,7 @@ lives log _ n b f = refl
 -- ---- what a line draws
 
 other_stream : (s n m : ℕ) → s ≤ m → m < n → (s == n) ≡ false
-other_stream s n m a b = ne_eqb s n (λ e. absurd (omega (arith, e, a, b)))
+other_stream s n m a b = ne_eqb s n (λ e. absurd (omega arith))
 
 none_drawn : (log : Journal) (e : Entry) (n : ℕ) → Fits log e → made_count log < n → draws e n ≡ 0
 none_drawn log (entry.Put s sh q hash bytes key_bytes) n f h = rw (other_stream s n (made_count log) f.0 h) refl
@@ -111,7 +111,7 @@ drawn_kept log line e s q last v k drawn left draws_is its_shards same_shards = 
       let is : s ≡ v.no = eqb-true s v.no here in
       let one : draws e v.no ≡ 1 = draws_is ∙ rw here refl in
       let from : q ≡ next_number log v.no = drawn ∙ ap (next_number log) is in
-      let next : draws e v.no + next_number log v.no ≡ q + 1 = omega (arith, one, from) in
+      let next : draws e v.no + next_number log v.no ≡ q + 1 = omega arith in
       rw here (record { same = refl; name = refl; next = next; many = its_shards is here; left = left })
   | inr other ↦ rw other (as_before log line e v k (draws_is ∙ rw other refl) (same_shards other))
 ]
@@ -126,13 +126,13 @@ entry_kept log line (entry.Split s sh at q low high) v f k =
     drawn_kept log line (entry.Split s sh at q low high) s q high v k f.1.0.0 f.1.0.1 refl
     (λ is here start.
     let last : high ≡ length (shards log v.no) + 1 = f.1.1 ∙ ap (λ n. length (shards log n) + 1) is in
-    rw here (length_split sh at start (closing_of line q) (shards log v.no) ∙ omega (arith, last)))
+    rw here (length_split sh at start (closing_of line q) (shards log v.no) ∙ omega arith))
     (λ other start. rw other refl)
 entry_kept log line (entry.Merged s sh other_sh q child) v f k =
     drawn_kept log line (entry.Merged s sh other_sh q child) s q child v k f.1.0.0 f.1.0.1 refl
     (λ is here start.
     let last : child ≡ length (shards log v.no) = f.1.1 ∙ ap (λ n. length (shards log n)) is in
-    rw here (length_merged sh other_sh start (closing_of line q) (shards log v.no) ∙ omega (arith, last)))
+    rw here (length_merged sh other_sh start (closing_of line q) (shards log v.no) ∙ omega arith))
     (λ other start. rw other refl)
 entry_kept log line e v f k = as_before log line e v k refl (λ start. refl)
 

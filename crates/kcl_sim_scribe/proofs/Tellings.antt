@@ -58,7 +58,7 @@ puts_fit log c by s (item ∷ items) below fits =
           let h : next_number log s + suc (length (put_lines (line ∷ log) c by s items)) ≤ last_number =
           rw free at fits in
           let next : next_number (line ∷ log) s ≡ 1 + next_number log s = rw (is_itself s) refl in
-          rw free ((below, (refl, omega (arith, h))), puts_fit (line ∷ log) c by s items below (omega (arith, h, next)))
+          rw free ((below, (refl, omega arith)), puts_fit (line ∷ log) c by s items below (omega arith))
     ]
 
 puts_told : (log : Journal) (c by s : ℕ)
@@ -88,13 +88,13 @@ steps_fit log c by s (Join b ∷ steps) below fits =
     let line : Line = plain_line c by (step_entry log s (Join b)) in
     let next : next_number (line ∷ log) s ≡ 1 + next_number log s = rw (is_itself s) refl in (
       (below, ((refl, omega (arith, fits)), refl)),
-      steps_fit (line ∷ log) c by s steps below (omega (arith, fits, next)),
+      steps_fit (line ∷ log) c by s steps below (omega (arith, fits)),
     )
 steps_fit log c by s (Cut b ∷ steps) below fits =
     let line : Line = plain_line c by (step_entry log s (Cut b)) in
     let next : next_number (line ∷ log) s ≡ 1 + next_number log s = rw (is_itself s) refl in (
       (below, ((refl, omega (arith, fits)), refl)),
-      steps_fit (line ∷ log) c by s steps below (omega (arith, fits, next)),
+      steps_fit (line ∷ log) c by s steps below (omega (arith, fits)),
     )
 
 steps_told : (log : Journal) (c by s : ℕ)
@@ -163,9 +163,9 @@ module _ (log : Journal) (c by made : ℕ) (vs : List Known) (k : Knows log made
       in_named name s named (λ v is no below next many left.
       let parts = or_parts (nat_lt last_number (length (shards log s) + 1)) _ fits in
       let room : length (shards log s) + 1 ≤ last_number = at_most _ _ parts.0 in
-      let upper : length (shards log s) + 1 ≡ v.shard + 2 = omega (arith, many) in
+      let upper : length (shards log s) + 1 ≡ v.shard + 2 = omega arith in
       record {
-        can = rw is (left, omega (arith, room, upper));
+        can = rw is (left, omega arith);
         fits = ((below, ((refl, below_last _ v.drawn next left parts.1), refl)), tt);
         told = rw is (λ i. line_by c by (entry.Split (no i) sh at (next i) (many i) (upper i)) ∷ []);
       })
@@ -174,7 +174,7 @@ module _ (log : Journal) (c by made : ℕ) (vs : List Known) (k : Knows log made
       let parts = or_parts (nat_lt last_number (length (shards log s))) _ fits in
       let room : length (shards log s) ≤ last_number = at_most _ _ parts.0 in
       record {
-        can = rw is (left, omega (arith, room, many));
+        can = rw is (left, omega arith);
         fits = ((below, ((refl, below_last _ v.drawn next left parts.1), refl)), tt);
         told = rw is (λ i. line_by c by (entry.Merged (no i) sh other (next i) (many i)) ∷ []);
       })

@@ -38,8 +38,8 @@ found key r (x ∷ rs) counted h =
 
 -- a take keeps that
 switches_if : (b : Bool) (n m : ℕ) → n ≤ m → (if b then n + 1 else n) ≤ m + 1
-switches_if true n m h = omega (arith, h)
-switches_if false n m h = omega (arith, h)
+switches_if true n m h = omega arith
+switches_if false n m h = omega arith
 
 pub switches_taken : (tenure owner : ℕ) (r : Row) → r.switches ≤ r.counter
     → (taken_row tenure owner r).switches ≤ (taken_row tenure owner r).counter
@@ -48,8 +48,8 @@ switches_taken tenure owner r h = switches_if (is_other r.owner owner) r.switche
 -- and so does a renewal, and a freeing; the key stays
 pub switches_written : (change : Change) (r : Row) → r.switches ≤ r.counter
     → (written_row change r).switches ≤ (written_row change r).counter
-switches_written Renewed r h = omega (arith, h)
-switches_written Freed r h = omega (arith, h)
+switches_written Renewed r h = omega arith
+switches_written Freed r h = omega arith
 
 pub key_written : (change : Change) (r : Row) → (written_row change r).key ≡ r.key
 key_written Renewed r = refl

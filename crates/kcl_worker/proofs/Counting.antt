@@ -29,8 +29,8 @@ not_again made a (Over why) h = absurd cc
 
 more_by : {P : Type 0} (b : Bool) (c : Standing P) (cs : List (Standing P)) (n m : ℕ) → length cs ≡ n + m
     → length (cond b (c ∷ cs) cs) ≡ length (cond b (c ∷ []) []) + n + m
-more_by true c cs n m h = omega (arith, h)
-more_by false c cs n m h = omega (arith, h)
+more_by true c cs n m h = omega arith
+more_by false c cs n m h = omega arith
 
 one_by : {P : Type 0} (b : Bool) (c : Standing P) (cs : List (Standing P))
     → length (cond b (c ∷ cs) cs) ≡ length (cond b (c ∷ []) []) + length cs

@@ -281,13 +281,13 @@ empty_list [] h = refl
 empty_list (x ∷ xs) h = absurd (none (length xs) h)
   where
     none : (n : ℕ) → suc n < 1 → ⊥
-    none n h = omega (arith, h)
+    none n h = omega arith
 
 pub first_list : {X : Type 0} (xs : List X) (x : X) → 1 ≤ length xs → x ≡ get_or xs 0 x → xs ≡ x ∷ drop 1 xs
 first_list [] x h e = absurd (none h)
   where
     none : 1 ≤ 0 → ⊥
-    none h = omega (arith, h)
+    none h = omega arith
 first_list (y ∷ ys) x h e = ap (λ z. z ∷ ys) (sym e)
 
 pub giving_as : {P : Type 0} (stands : P → List Call → Type 0) (made : WorkerMade) (s : WorkerState)

@@ -45,7 +45,7 @@ pub rising_back : (rs : List Row) (k j : ℕ) (r : Row) → suc j ≡ k → k �
     → AreRising (keys_of (drop j rs))
 rising_back rs k j r e within is h rising =
     let more : j + 1 ≡ suc j = omega arith in
-    rising_more rs j r (omega (arith, e, within))
+    rising_more rs j r (omega arith)
     (subst (λ (x : Row). before_next x.key (slice_get rs (suc j)) ≡ true) is
     (subst (λ n. before_next r.key (slice_get rs n) ≡ true) more h))
     (subst (λ n. AreRising (keys_of (drop n rs))) (sym e) rising)

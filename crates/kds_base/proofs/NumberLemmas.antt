@@ -36,7 +36,7 @@ plain_first text p z = grind (arith, common_steps)
 
 -- the numbers whose texts are spoken of: those of at most 128 bits have fewer than 64 digits
 pub few_digits : (bits n : ℕ) → bits ≤ 128 → n < 2 ^ bits → n < 10 ^ 64
-few_digits bits n few small = let most : 2 ^ bits ≤ 2 ^ 128 = pow_mono few in omega (arith, most, small)
+few_digits bits n few small = let most : 2 ^ bits ≤ 2 ^ 128 = pow_mono few in omega arith
 
 le_value_after : (n : ℕ) (ds : List ℕ) → n ≤ digits_value_after 10 n ds
 le_value_after n [] = omega arith
@@ -168,7 +168,7 @@ none_of_others bits i text inside fails =
 pub none_of_large : (bits i : ℕ) (text : List ℕ) → 2 ^ bits ≤ digits_value 10 (take i text) → None ≡ digits_of bits text
 none_of_large bits i text large =
     let most : digits_value 10 (take i text) ≤ digits_value 10 text = digits_value-take-le 10 text i (omega arith) in
-    past (are_digits text) (digits_value 10 text) (omega (arith, most, large))
+    past (are_digits text) (digits_value 10 text) (omega arith)
   where
     past : (b : Bool) (n : ℕ) → 2 ^ bits ≤ n → None ≡ (if b && nat_lt n (2 ^ bits) then Some n else None)
     past true n h = let no : nat_lt n (2 ^ bits) ≡ false = grind (arith, nat_tests) in rw no refl

@@ -95,7 +95,7 @@ replay_words (flag ∷ value b j ∷ c ∷ []) few = rw (j.not_end, j.not_long, 
 replay_words (value a i ∷ []) few = rw (i.not_journal, i.not_end, i.not_long, i.not_short) refl
 replay_words (value a i ∷ b ∷ []) few = rw (i.not_end, i.not_long, i.not_short) refl
 replay_words (value a i ∷ b ∷ c ∷ []) few = rw (i.not_end, i.not_long, i.not_short) refl
-replay_words (a ∷ b ∷ c ∷ d ∷ more) few = absurd (omega (arith, few))
+replay_words (a ∷ b ∷ c ∷ d ∷ more) few = absurd (omega arith)
 
 -- the two that have no words of their own
 bare_words : (more : List Seen) → length more ≤ 3 → Exact (codes "answer" ∷ map text more)
@@ -111,7 +111,7 @@ bare_words (value a i ∷ b ∷ []) few =
     (rw (i.not_end, i.not_long, i.not_short) refl, rw (i.not_end, i.not_long, i.not_short) refl)
 bare_words (value a i ∷ b ∷ c ∷ []) few =
     (rw (i.not_end, i.not_long, i.not_short) refl, rw (i.not_end, i.not_long, i.not_short) refl)
-bare_words (a ∷ b ∷ c ∷ d ∷ more) few = absurd (omega (arith, few))
+bare_words (a ∷ b ∷ c ∷ d ∷ more) few = absurd (omega arith)
 
 serve_words : (more : List Seen) → length more ≤ 3 → Exact (codes "serve" ∷ map text more)
 unfolding clap_on_literals
@@ -129,7 +129,7 @@ serve_words (value a i ∷ value b j ∷ flag ∷ []) few =
     rw (i.not_end, i.not_long, i.not_short, j.not_end, j.not_long, j.not_short) refl
 serve_words (value a i ∷ value b j ∷ value c k ∷ []) few =
     rw (i.not_end, i.not_long, i.not_short, j.not_end, j.not_long, j.not_short, k.not_end, k.not_long, k.not_short) refl
-serve_words (a ∷ b ∷ c ∷ d ∷ more) few = absurd (omega (arith, few))
+serve_words (a ∷ b ∷ c ∷ d ∷ more) few = absurd (omega arith)
 
 drill_words : (more : List Seen) → length more ≤ 3 → Exact (codes "drill" ∷ map text more)
 unfolding clap_on_literals
@@ -154,7 +154,7 @@ drill_words (value a i ∷ value b j ∷ flag ∷ []) few =
     ) (drills_nothing a b (codes "--journal") (inr (inr (inl refl))))
 drill_words (value a i ∷ value b j ∷ value c k ∷ []) few =
     rw (i.not_end, i.not_long, i.not_short, j.not_end, j.not_long, j.not_short, k.not_end, k.not_long, k.not_short) refl
-drill_words (a ∷ b ∷ c ∷ d ∷ more) few = absurd (omega (arith, few))
+drill_words (a ∷ b ∷ c ∷ d ∷ more) few = absurd (omega arith)
 
 -- ---- all of them
 
@@ -184,7 +184,7 @@ exact (flag ∷ more) few =
       drill = (refl, refl);
     })
 exact (value w i ∷ more) few =
-    let fewer : length more ≤ 3 = omega (arith, few) in
+    let fewer : length more ≤ 3 = omega arith in
     let bare = bare_words more fewer in
     named (codes "replay") w (map text more) (replay_words more fewer) λ a.
     named (codes "answer") w (map text more) bare.0 λ b.

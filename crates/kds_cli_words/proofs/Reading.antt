@@ -64,7 +64,7 @@ exactly : (words : List (String Global)) → list_all (λ w. is_word (string_byt
 exactly words are few =
     let s = seen words are in
     let n = s.1 in
-    subst Exact s.2 (exact s.0 (omega (arith, few, n)))
+    subst Exact s.2 (exact s.0 (omega arith))
 
 -- where no fault is found, the task is read
 pub read_words : (words : List (String Global)) → list_all (λ w. is_word (string_bytes w)) words ≡ true

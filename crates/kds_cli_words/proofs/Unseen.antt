@@ -84,9 +84,9 @@ pub unseen : (words : List (String Global)) → list_all (λ w. is_word (string_
 unseen words bad = no_task (texts_of words) (sym (all_texts words) ∙ bad)
 
 pub too_many : (words : List (String Global)) → 4 < length words → None ≡ task_of (texts_of words)
-too_many [] h = absurd (omega (arith, h))
-too_many (a ∷ []) h = absurd (omega (arith, h))
-too_many (a ∷ b ∷ []) h = absurd (omega (arith, h))
-too_many (a ∷ b ∷ c ∷ []) h = absurd (omega (arith, h))
-too_many (a ∷ b ∷ c ∷ d ∷ []) h = absurd (omega (arith, h))
+too_many [] h = absurd (omega arith)
+too_many (a ∷ []) h = absurd (omega arith)
+too_many (a ∷ b ∷ []) h = absurd (omega arith)
+too_many (a ∷ b ∷ c ∷ []) h = absurd (omega arith)
+too_many (a ∷ b ∷ c ∷ d ∷ []) h = absurd (omega arith)
 too_many (a ∷ b ∷ c ∷ d ∷ e ∷ more) h = refl

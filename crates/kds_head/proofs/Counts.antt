@@ -24,7 +24,7 @@ pub count_small : (text : List ℕ) → is_byte_count text ≡ true → digits_v
 count_small text p =
     let d = count_digits text p in
     let small : digits_value 10 text < 10 ^ 19 = digits_value_short own text 19 d.0 d.2 in
-    omega (arith, small)
+    omega arith
 
 is_some_count : (bs : List ℕ) → is_byte_count bs ≡ true → byte_count bs ≡ Some (digits_value 10 bs)
 unfolding byte_count

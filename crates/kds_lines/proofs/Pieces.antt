@@ -27,18 +27,18 @@ none_before [] (suc at) h = tt
 none_before (b ∷ bs) zero h = tt
 none_before (b ∷ bs) (suc at) h = (
   no_other b (h 0 (omega arith) (omega arith)),
-  none_before bs at (λ k low within. h (suc k) (omega (arith, low)) (omega (arith, within))),
+  none_before bs at (λ k low within. h (suc k) (omega arith) (omega arith)),
 )
 
 nowhere : (bytes : List ℕ) → ((k : ℕ) → k < length bytes → Passes (is_byte 10) bytes k → ⊥) → NoFeed bytes
 nowhere [] h = tt
-nowhere (b ∷ bs) h = (no_other b (h 0 (omega arith)), nowhere bs (λ k within. h (suc k) (omega (arith, within))))
+nowhere (b ∷ bs) h = (no_other b (h 0 (omega arith)), nowhere bs (λ k within. h (suc k) (omega arith)))
 
 parted : (bytes : List ℕ) (at : ℕ) → at < length bytes → Passes (is_byte 10) bytes at
     → bytes ≡ take at bytes ++ 10 ∷ drop (suc at) bytes
-parted [] at within here = absurd (omega (arith, within))
+parted [] at within here = absurd (omega arith)
 parted (b ∷ bs) zero within here = ap (λ x. x ∷ bs) (eqb-true b 10 here)
-parted (b ∷ bs) (suc at) within here = ap (λ rest. b ∷ rest) (parted bs at (omega (arith, within)) here)
+parted (b ∷ bs) (suc at) within here = ap (λ rest. b ∷ rest) (parted bs at (omega arith) here)
 
 pub first_is : (bytes : List ℕ) (r : Option ℕ) → IsFirstByte (is_byte 10) bytes r
     → MatchOption r (NoFeed bytes) (HasFeedAt bytes)

@@ -184,7 +184,7 @@ only_one (z ∷ zs) k (suc i) zero x y few h g =
       h.2,
     ) few)
 only_one (z ∷ zs) k (suc i) (suc j) x y few h g =
-    ap suc (only_one zs k i j x y (omega (arith, few)) (h.0, h.1, h.2) (g.0, g.1, g.2))
+    ap suc (only_one zs k i j x y (omega arith) (h.0, h.1, h.2) (g.0, g.1, g.2))
 
 -- the open shard that starts at a start
 pub record Starts (xs : List ShardState) (b sh : ℕ) (x : ShardState) : Type 0 where
@@ -273,7 +273,7 @@ touches_by : (c : Bool) (xs : List ShardState) (b : ℕ) (low high : ShardState)
 touches_by true xs b low high ok some below lh hh at is =
     let from : low.range.start ≤ b - 1 = lh.contains.0 in
     let to : b ≤ low.range.end = grind (arith, nat_tests) in
-    let start : low.range.start ≤ b = omega (arith, from) in
+    let start : low.range.start ≤ b = omega arith in
     let same = only_one xs b _ _ low high (omega (arith, ok.tiled.times b below)) (
       lh.stands,
       lh.is_open_now,
@@ -284,7 +284,7 @@ touches_by true xs b low high ok some below lh hh at is =
 touches_by false xs b low high ok some below lh hh at is =
     let from : b - 1 ≤ low.range.end = lh.contains.1 in
     let to : low.range.end < b = grind (arith, nat_tests) in
-    omega (arith, from, to, at, some)
+    omega (arith, at)
 
 pub joins : (xs : List ShardState) (b : ℕ) → IsScalable xs → 0 < b → is_start (open_starts xs) b ≡ true → Joins xs b
 joins xs b ok some m =
@@ -292,11 +292,11 @@ joins xs b ok some m =
     let order : s.1.range.start ≤ s.1.range.end = ordered-at xs s.0 s.1 s.2.stands ok.tiled.ordered in
     let at_b : s.1.range.start ≡ b = s.2.at in
     let below : b < 2 ^ 128 = omega (arith, order, at_b, bounded-at xs s.0 s.1 s.2.stands ok.bounded) in
-    let less : b - 1 < 2 ^ 128 = omega (arith, below) in
+    let less : b - 1 < 2 ^ 128 = omega arith in
     let low = home_of xs (b - 1) ok less in
     let high = home_of xs b ok below in
-    let low_end : s.1.range.start ≤ b = omega (arith, at_b) in
-    let high_end : b ≤ s.1.range.end = omega (arith, at_b, order) in
+    let low_end : s.1.range.start ≤ b = omega arith in
+    let high_end : b ≤ s.1.range.end = omega arith in
     let same = only_one xs b _ s.0 high.0 s.1 (omega (arith, ok.tiled.times b below)) (
       high.1.stands,
       high.1.is_open_now,
@@ -421,13 +421,13 @@ pub bounded_split : (xs : List ShardState) (sh at : ℕ) (closing : Closing) (st
     → AllByRecursion IsBounded xs → AllByRecursion IsBounded (split_shards sh at closing start xs)
 bounded_split xs sh at closing start below h =
     bounded-append _ _ (bounded-closed xs sh closing h)
-    (omega (arith, below), (range_bounded xs sh _ refl h, tt))
+    (omega arith, (range_bounded xs sh _ refl h, tt))
 
 bounded_uniform : (w a n i start : ℕ) → 0 < w → a + n * w < 2 ^ 128
     → AllByRecursion IsBounded (first_shards i start (uniform_from w a (suc n)))
 bounded_uniform w a zero i start wide fits = (omega arith, tt)
 bounded_uniform w a (suc n) i start wide fits =
-    (omega (arith, fits, wide), bounded_uniform w (a + w) n (i + 1) start wide (omega (arith, fits)))
+    (omega arith, bounded_uniform w (a + w) n (i + 1) start wide (omega arith))
 
 pub bounded_new : (count start : ℕ) → 1 ≤ count → count ≤ 500
     → AllByRecursion IsBounded (first_shards 0 start (uniform count))
@@ -439,8 +439,8 @@ bounded_new (suc n) start low high =
 -- the starts of the uniform ranges lie below 2^128
 below_uniform : (w a n : ℕ) → a + n * w < 2 ^ 128
     → AllByRecursion (λ b. b < 2 ^ 128) (starts_of (uniform_from w a (suc n)))
-below_uniform w a zero fits = (omega (arith, fits), tt)
-below_uniform w a (suc n) fits = (omega (arith, fits), below_uniform w (a + w) n (omega (arith, fits)))
+below_uniform w a zero fits = (omega arith, tt)
+below_uniform w a (suc n) fits = (omega arith, below_uniform w (a + w) n (omega arith))
 
 pub below_wanted : (n : ℕ) → 1 ≤ n → n ≤ 500 → AllByRecursion (λ b. b < 2 ^ 128) (uniform_starts n)
 below_wanted zero low high = absurd (omega arith)
@@ -474,7 +474,7 @@ numbered_merged : (xs : List ShardState) (sh other : ℕ) (closing : Closing) (s
 numbered_merged xs sh other closing start h =
     let len = length-closed other closing (with_closed sh closing xs) ∙ length-closed sh closing xs in
     numbered-append 0 _ _ (numbered-closed 0 other closing _ (numbered-closed 0 sh closing xs h)) (
-      omega (arith, len),
+      omega arith,
       tt,
     )
 
@@ -482,7 +482,7 @@ numbered_split : (xs : List ShardState) (sh at : ℕ) (closing : Closing) (start
     → AreNumbered 0 (split_shards sh at closing start xs)
 numbered_split xs sh at closing start h =
     let len = length-closed sh closing xs in
-    numbered-append 0 _ _ (numbered-closed 0 sh closing xs h) (omega (arith, len), (omega (arith, len), tt))
+    numbered-append 0 _ _ (numbered-closed 0 sh closing xs h) (omega arith, (omega arith, tt))
 
 pub scalable_joined : (xs : List ShardState) (b : ℕ) (closing : Closing) (start : ℕ) → IsScalable xs → (j : Joins xs b)
     → IsScalable (after_join xs b closing start)
@@ -514,7 +514,7 @@ pub record Cuts (xs : List ShardState) (b : ℕ) : Type 0 where
 
 cuts_inside : (r : Span) (b : ℕ) → Covers r b → (r.start ≡ b → ⊥) → is_inside r b ≡ true
 cuts_inside r b h differ = let low : r.start ≤ b = h.0 in let high : b ≤ r.end = h.1 in let less : r.start < b =
-    omega (arith, low, differ) in grind (arith, nat_tests)
+    omega (arith, low) in grind (arith, nat_tests)
 
 positive_so : (n : ℕ) → 1 ≤ n → nat_lt 0 n ≡ true
 positive_so n h = grind (arith, nat_tests)

@@ -44,8 +44,8 @@ settled_here (suc i) (y ∷ vs) x v here is = ap (λ us. y ∷ us) (settled_here
 
 pub settled_beyond : (i : ℕ) (vs : List StreamValue) → length vs ≤ i → vs ≡ settled_in i vs
 settled_beyond i [] beyond = refl
-settled_beyond zero (v ∷ vs) beyond = absurd (omega (arith, beyond))
-settled_beyond (suc i) (v ∷ vs) beyond = ap (λ us. v ∷ us) (settled_beyond i vs (omega (arith, beyond)))
+settled_beyond zero (v ∷ vs) beyond = absurd (omega arith)
+settled_beyond (suc i) (v ∷ vs) beyond = ap (λ us. v ∷ us) (settled_beyond i vs (omega arith))
 
 pub back_at : (c clock : ℕ) (vs : List StreamValue) → AreAt c vs → AreAt c (map retreated (map (advanced clock) vs))
 back_at c clock [] at = tt

@@ -82,4 +82,4 @@ module _ (c b n : ℕ) (vs : List StreamValue) (name : List ℕ) (count : ℕ) w
       (adds c b n by count name vs v log all (no_is ∙ next) clock_is shown))))
     where
       later : (m n : ℕ) → m ≡ n + 1 → n < m
-      later m n h = omega (arith, h)
+      later m n h = omega arith

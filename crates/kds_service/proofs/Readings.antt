@@ -62,7 +62,7 @@ live_above log low (suc count) (v ∷ vs) rising below shown others =
     live_above log (low + 1) count vs (subst (λ n. IsRising n (numbers_of vs)) same rising.1)
     (subst (λ n. AreUpTo n vs) (end low count) below.1) shown.1
     (λ s above out. others s (omega arith) (or_from (v.no == s) (is_among (numbers_of vs) s)
-    (is_other v.no s (λ is. absurd (omega (arith, same, above, is)))) out)) in
+    (is_other v.no s (λ is. absurd (omega (arith, above)))) out)) in
     ap (λ b. cond b ((low + 1) ∷ rest) rest) live ∙ ap (λ ns. (low + 1) ∷ ns) after
     ∙ ap (λ n. n ∷ numbers_of vs) (sym same))
     (λ e.
@@ -82,7 +82,7 @@ live_above log low (suc count) (v ∷ vs) rising below shown others =
     end low count = omega arith
 
     later : (n low : ℕ) → (n == low + 1) ≡ false → low < n → low + 1 < n
-    later n low e above = let differ : n ≢ low + 1 = eqb-false n (low + 1) e in omega (arith, above, differ)
+    later n low e above = let differ : n ≢ low + 1 = eqb-false n (low + 1) e in omega (arith, above)
 
 pub from_zero : (n : ℕ) → n ≡ 0 + n
 from_zero n = omega arith
@@ -122,8 +122,8 @@ missed p n x xs e = ap (λ b. cond b (Some n) (position_from p (n + 1) xs)) e
 from_on : {X : Type 0} (p : X → Bool) (n j : ℕ) (xs : List X) → position_from p n xs ≡ Some j → n ≤ j
 from_on p n j [] is = absurd (none-some j is)
 from_on p n j (x ∷ xs) is =
-    either_way (p x) (λ e. let same : n ≡ j = same_some n j (sym (hit p n x xs e) ∙ is) in omega (arith, same))
-    (λ e. let rest = from_on p (n + 1) j xs (sym (missed p n x xs e) ∙ is) in omega (arith, rest))
+    either_way (p x) (λ e. let same : n ≡ j = same_some n j (sym (hit p n x xs e) ∙ is) in omega arith)
+    (λ e. let rest = from_on p (n + 1) j xs (sym (missed p n x xs e) ∙ is) in omega arith)
 
 -- the first place is found exactly where the first passes
 pub first_passes : {X : Type 0} (p : X → Bool) (n : ℕ) (x : X) (xs : List X) → position_from p n (x ∷ xs) ≡ Some (n + 0)
@@ -132,7 +132,7 @@ first_passes p n x xs is =
     either_way (p x) (λ e. e) (λ e. absurd (short n (from_on p (n + 1) (n + 0) xs (sym (missed p n x xs e) ∙ is))))
   where
     short : (n : ℕ) → n + 1 ≤ n + 0 → ⊥
-    short n h = absurd (omega (arith, h))
+    short n h = absurd (omega arith)
 
 pub later_fails : {X : Type 0} (p : X → Bool) (n i : ℕ) (x : X) (xs : List X)
     → position_from p n (x ∷ xs) ≡ Some (n + suc i)
@@ -143,7 +143,7 @@ later_fails p n i x xs is =
     (λ e. (e, sym (missed p n x xs e) ∙ is ∙ ap Some one))
   where
     past : (n i : ℕ) → n ≡ n + suc i → ⊥
-    past n i h = absurd (omega (arith, h))
+    past n i h = absurd (omega arith)
 
 -- what is found passes
 pub found_passes : {X Y : Type 0} (f : X → Y) (p : Y → Bool) (n i : ℕ) (xs : List X) (x : X)
@@ -247,7 +247,7 @@ beside log s (v ∷ vs) shown = by (v.no == s) (beside log s vs shown.1)
         → open_in log (cond (not b) (v.no ∷ filter (λ t. not (t == s)) (numbers_of vs))
         (filter (λ t. not (t == s)) (numbers_of vs)))
         ≡ (if b then 0 else length (filter is_open v.tree)) + open_beside vs s
-    by true rest = omega (arith, rest)
+    by true rest = omega arith
     by false rest = omega (arith, ap (λ xs. length (filter is_open xs)) shown.0.stored.shards_are, rest)
 
 pub beside_is : (w : ServiceValue) (log : Journal) (s : ℕ) → ShowsAll w log
@@ -278,7 +278,7 @@ own_and_beside zero low (v ∷ vs) x rising here =
 own_and_beside (suc i) low (v ∷ vs) x rising here =
     let below = above v.no i vs x rising.1 here in
     let all : open_unless v x.no ≡ length (filter is_open v.tree) =
-    not_chosen (v.no == x.no) 0 _ (is_other v.no x.no (λ e. absurd (omega (arith, below, e)))) in
+    not_chosen (v.no == x.no) 0 _ (is_other v.no x.no (λ e. absurd (omega arith))) in
     omega (arith, all, own_and_beside i v.no vs x rising.1 here)
 
 -- ---- the stream of a name has just this name

@@ -125,7 +125,7 @@ body_more : (bytes more : List ℕ) (head : Head) → size head ≤ length bytes
     → take head.body (drop head.length bytes) ≡ take head.body (drop head.length (bytes ++ more))
 body_more bytes more head whole =
     let first : drop head.length (bytes ++ more) ≡ drop head.length bytes ++ more =
-    drop-append-le head.length bytes more (omega (arith, whole)) in
+    drop-append-le head.length bytes more (omega arith) in
     let room : head.body ≤ length (drop head.length bytes) = omega (arith, whole, length-drop head.length bytes) in
     sym (ap (λ z. take head.body z) first ∙ take-append-le head.body (drop head.length bytes) more room)
 
@@ -205,7 +205,7 @@ goes_past laws fed done left unread m g b more_come =
     let left_some : 1 < left = not_last (length done) left m.head.close g.count g.some_left more_come in
     record {
       count = omega (arith, len, g.count, left_some);
-      some_left = omega (arith, left_some);
+      some_left = omega arith;
       onward = λ more ms e f.
           let f' : Falls (length done + 1) (rest_of (unread ++ more) m) ms e
           = subst (λ (n : ℕ). Falls n (rest_of (unread ++ more) m) ms e) len
@@ -269,11 +269,11 @@ short_by bytes head f e = record { found = f; short = above_so _ _ e }
 
 few_bytes : (n size length body : ℕ) → n < size → size ≡ length + body → length ≤ HEAD_BYTES → body ≤ BODY_BYTES
     → n < HEAD_BYTES + BODY_BYTES
-few_bytes n size length body h e a b = omega (arith, h, e, a, b)
+few_bytes n size length body h e a b = omega arith
 
 pub unfinished_short : ((bytes : List ℕ) (found : Found) → IsFound bytes found → IsWithinLimits bytes found)
     → (bytes : List ℕ) → IsUnfinished bytes → length bytes < HEAD_BYTES + BODY_BYTES
-unfinished_short limits bytes (inl need) = let few = limits bytes Need need in omega (arith, few)
+unfinished_short limits bytes (inl need) = let few = limits bytes Need need in omega arith
 unfinished_short limits bytes (inr short) =
     let within = limits bytes (Whole short.0) short.1.found in
     few_bytes (length bytes) (size short.0) short.0.length short.0.body short.1.short refl within.head within.body
@@ -289,4 +289,4 @@ kept_more stays bytes more new (Some h) e k =
 pub fed_fits : (bytes more new : List ℕ) → new ≡ bytes ++ more → length more ≤ UNREAD_BYTES - length bytes
     → length bytes ≤ UNREAD_BYTES → length new ≤ UNREAD_BYTES
 fed_fits bytes more new e room few = let n : length new ≡ length bytes + length more =
-    ap length e ∙ length-append bytes more in omega (arith, n, room, few)
+    ap length e ∙ length-append bytes more in omega arith

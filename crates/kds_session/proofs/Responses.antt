@@ -26,9 +26,9 @@ respond_push : (r : Result Command Fault) (close : Bool) (told left : Answers) (
 respond_push (Err f) close told left rest later more end go len =
     ap (λ z. answered (fault_reply f) close ++ z) (go told len)
     ∙ sym (append_assoc (answered (fault_reply f) close) (later told) end)
-respond_push (Ok what) close [] left rest later more end go len = absurd (omega (arith, len))
+respond_push (Ok what) close [] left rest later more end go len = absurd (omega arith)
 respond_push (Ok what) close (a ∷ told) left rest later more end go len =
-    ap (λ z. answered (reply_of a) close ++ z) (go told (omega (arith, len)))
+    ap (λ z. answered (reply_of a) close ++ z) (go told (omega arith))
     ∙ sym (append_assoc (answered (reply_of a) close) (later told) end)
 
 pub responses-push : (before : ℕ) (done : List Message) (m : Message) (told left : Answers)
@@ -37,7 +37,7 @@ pub responses-push : (before : ℕ) (done : List Message) (m : Message) (told le
     ++ adds (asked_by m) (closes (before + length done + 1) m.head) left
 responses-push before [] m [] left len =
     ap (λ n. adds (asked_by m) (closes (n + 1) m.head) left) (let e : before ≡ before + 0 = omega arith in e)
-responses-push before [] m (a ∷ told) left len = absurd (omega (arith, len))
+responses-push before [] m (a ∷ told) left len = absurd (omega arith)
 responses-push before (d ∷ done) m told left len =
     respond_push (asked_by d) (closes (before + 1) d.head) told left (commands done) (responses (before + 1) done)
     (responses (before + 1) (done ++ m ∷ []))
@@ -78,9 +78,9 @@ respond_enough : (r : Result Command Fault) (close : Bool) (told later : Answers
     → ((answers : Answers) → length answers ≡ length rest → some (answers ++ later) ≡ some answers)
     → length told ≡ length (command_of r ++ rest) → respond r close (told ++ later) some ≡ respond r close told some
 respond_enough (Err f) close told later rest some go len = ap (λ z. answered (fault_reply f) close ++ z) (go told len)
-respond_enough (Ok what) close [] later rest some go len = absurd (omega (arith, len))
+respond_enough (Ok what) close [] later rest some go len = absurd (omega arith)
 respond_enough (Ok what) close (a ∷ told) later rest some go len =
-    ap (λ z. answered (reply_of a) close ++ z) (go told (omega (arith, len)))
+    ap (λ z. answered (reply_of a) close ++ z) (go told (omega arith))
 
 -- where each command has its answer, further ones change nothing
 pub responses-enough : (before : ℕ) (done : List Message) (told later : Answers) → length told ≡ length (commands done)

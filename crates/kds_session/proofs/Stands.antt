@@ -517,7 +517,7 @@ refused_not_live status e = cc
 
 -- the connection has ended
 pub less_ended : (s new : SessionState) → IsFree s → to_come new ≡ 0 → to_come new < to_come s
-less_ended s new free e = let all = all_to_come s free in omega (arith, all, e)
+less_ended s new free e = let all = all_to_come s free in omega arith
 
 some_left_by : (h close : Bool) (left : ℕ) → close ≡ (h || nat_le left 1) → close ≡ false → 1 < left
 some_left_by true close left e f = absurd (cc (sym e ∙ f))
@@ -536,16 +536,16 @@ less_asked s head close unread free c new e =
   where
     by_close : (b : Bool) → (b ≡ false → 1 < s.left) → still (stage_of Live (waiting_for b)) (s.left - 1) < s.left + 1
     by_close true some = omega arith
-    by_close false some = let h = some refl in omega (arith, h)
+    by_close false some = let h = some refl in omega arith
 
 pub nearer_then : (a b c : SessionState) → IsNearer a b → IsNearer b c → IsNearer a c
-nearer_then a b c (inl h) (inl k) = inl (omega (arith, h, k))
+nearer_then a b c (inl h) (inl k) = inl (omega arith)
 nearer_then a b c (inl h) (inr k) = inl (omega (arith, h, k.1))
 nearer_then a b c (inr h) (inl k) = inl (omega (arith, h.1, k))
 nearer_then a b c (inr h) (inr k) = inr (k.0 ∙ h.0, k.1 ∙ h.1)
 
 pub nearer_less : (a b c : SessionState) → IsNearer a b → to_come c < to_come b → to_come c < to_come a
-nearer_less a b c (inl h) k = omega (arith, h, k)
+nearer_less a b c (inl h) k = omega arith
 nearer_less a b c (inr h) k = omega (arith, h.1, k)
 
 -- the answer to a command is told
@@ -580,8 +580,8 @@ read_out limits None s v new bytes r ev eb q e =
 
 fewer_same : (o : Option Command) (a b s n : SessionState) → to_come a ≡ to_come s → to_come b ≡ to_come n
     → a.unread ≡ s.unread → b.unread ≡ n.unread → IsFewer o a b → IsFewer o s n
-fewer_same (Some what) a b s n ea eb ua ub h = omega (arith, ea, eb, h)
-fewer_same None a b s n ea eb ua ub (inl h) = inl (omega (arith, ea, eb, h))
+fewer_same (Some what) a b s n ea eb ua ub h = omega arith
+fewer_same None a b s n ea eb ua ub (inl h) = inl (omega arith)
 fewer_same None a b s n ea eb ua ub (inr h) = inr (sym ub ∙ h.0 ∙ ua, sym eb ∙ h.1 ∙ ea)
 
 pub fewer_by : (o : Option Command) (s v new : SessionState) (bytes : List ℕ) (start r : Reading) → v ≡ s
@@ -597,7 +597,7 @@ fewer_by o s v new bytes start r ev eb es free h e =
     (ap (λ b. drop r.read b) bytes_is ∙ sym (ap (λ (x : SessionState). x.unread) e)) h
 
 few_then_room : (n : ℕ) → n < HEAD_BYTES + BODY_BYTES → PIECE_BYTES ≤ UNREAD_BYTES - n
-few_then_room n h = omega (arith, h)
+few_then_room n h = omega arith
 
 pub read_out_room : (o : Option Command) (new : SessionState) → IsReadOut o new → HasRoom o new
 read_out_room (Some what) new r = tt

@@ -27,7 +27,7 @@ floor_added log line s = refl
 max_first : (made before : Bool) (a b n : ℕ) → made ≡ true → before ≡ false → n ≡ 0
     → max a (max (added made before a b) n) ≡ a
 unfolding added
-max_first true false a b n h g is = omega (arith, is)
+max_first true false a b n h g is = omega arith
 max_first true true a b n h g is = absurd cc
 max_first false before a b n h g is = absurd cc
 

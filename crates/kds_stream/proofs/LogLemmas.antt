@@ -16,7 +16,7 @@ pub arrived_later : (moment later : ℕ) (ls : List LogValue) → moment ≤ lat
 arrived_later moment later ls le h =
     all_weaker (HasArrived moment) (HasArrived later)
     (λ l a. all_weaker (λ (r : Logged). r.arrival ≤ moment) (λ (r : Logged). r.arrival ≤ later)
-    (λ r early. omega (arith, early)) l.kept a) ls h
+    (λ r early. omega arith) l.kept a) ls h
 
 -- numbers below one are below a greater one
 pub below_higher : (next higher : ℕ) (ls : List LogValue) → next ≤ higher → AllByRecursion (IsBelow next) ls

@@ -33,7 +33,7 @@ shows_other v log line shown at other =
         hours_are = same.hours_are ∙ shown.stored.hours_are;
         shards_are = same.shards_are ∙ shown.stored.shards_are;
         next_is = same.next_is ∙ shown.stored.next_is;
-        floor_is = floor_same log line v.no v.clock (omega (arith, at)) same.hours_are ∙ shown.stored.floor_is;
+        floor_is = floor_same log line v.no v.clock (omega arith) same.hours_are ∙ shown.stored.floor_is;
         kept = kept_along (floor_of v.cut) log (line ∷ log) v.no 0 v.logs same.records_are shown.stored.kept;
         none_beyond = λ sh beyond. same.records_are sh ∙ shown.stored.none_beyond sh beyond;
       };

@@ -37,7 +37,7 @@ use Rattle.kds_stream.specs.Value.{EndsUnder, IsClosedUnder, IsStream, StreamVal
 -- ---- the next number after a line that draws one
 
 pub one_more : (b : Bool) (n m : ℕ) → b ≡ true → n ≡ m → (if b then 1 else 0) + n ≡ m + 1
-one_more true n m h e = omega (arith, e)
+one_more true n m h e = omega arith
 one_more false n m h e = absurd cc
 
 -- ---- what a call owes, of one of two equal values
@@ -76,14 +76,14 @@ kept_put : (floor : ℕ) (log log' : Journal) (s n i at : ℕ) (r : Logged) (ls 
     → AreKept floor log s n ls → AreKept floor log' s n (with_appended i r ls)
 kept_put floor log log' s n i at r [] late is here others h = tt
 kept_put floor log log' s n zero at r (l ∷ ls) late is here others h =
-    let e : at ≡ n = omega (arith, is) in
+    let e : at ≡ n = omega arith in
     let here' : records log' s n ≡ records log s n ++ r ∷ [] =
     subst (λ m. records log' s m ≡ records log s m ++ r ∷ []) e here in
     let rest : l.kept ++ r ∷ [] ≡ left_among h.0.from 0 (records log s n ++ r ∷ []) =
     ap (λ rs. rs ++ r ∷ []) h.0.rest
     ∙ sym (left_one h.0.from (records log s n) r (omega (arith, late, h.0.early))) in (
       record { from = h.0.from; early = h.0.early; rest = rest ∙ ap (left_among h.0.from 0) (sym here') },
-      kept_after floor log log' s (n + 1) ls (λ sh beyond. others sh (omega (arith, e, beyond))) h.1,
+      kept_after floor log log' s (n + 1) ls (λ sh beyond. others sh (omega arith)) h.1,
     )
   where
     kept_after : (floor : ℕ) (log log' : Journal) (s n : ℕ) (ls : List LogValue)
@@ -92,15 +92,15 @@ kept_put floor log log' s n zero at r (l ∷ ls) late is here others h =
     kept_after floor log log' s n [] same h = tt
     kept_after floor log log' s n (l ∷ ls) same h = (
       subst (λ rs. IsKept floor rs l.kept) (sym (same n (omega arith))) h.0,
-      kept_after floor log log' s (n + 1) ls (λ sh beyond. same sh (omega (arith, beyond))) h.1,
+      kept_after floor log log' s (n + 1) ls (λ sh beyond. same sh (omega arith)) h.1,
     )
 kept_put floor log log' s n (suc i) at r (l ∷ ls) late is here others h = (
   subst (λ rs. IsKept floor rs l.kept) (sym (others n (λ e. absurd (apart at n i is e)))) h.0,
-  kept_put floor log log' s (n + 1) i at r ls late (omega (arith, is)) here others h.1,
+  kept_put floor log log' s (n + 1) i at r ls late (omega arith) here others h.1,
 )
   where
     apart : (at n i : ℕ) → at ≡ n + suc i → at ≡ n → ⊥
-    apart at n i is e = omega (arith, is, e)
+    apart at n i is e = omega arith
 
 -- ---- the throughput
 
@@ -131,7 +131,7 @@ module _ (v : StreamValue) (log : Journal) (by n : ℕ) (item : NewItem) (same :
     none_beyond = λ sh beyond.
         puts_more sh
         ∙ sym (put_elsewhere (home_among (filter is_open v.tree) item.hash) sh (put_of v item) (puts log v.no)
-        (is_other _ sh (λ e. absurd (omega (arith, within, beyond, e)))))
+        (is_other _ sh (λ e. absurd (omega arith))))
         ∙ rates.none_beyond sh beyond;
   }
 
@@ -256,7 +256,7 @@ module _ (v : StreamValue) (log : Journal) (by : ℕ) (item : NewItem) (shown : 
       }
     where
       past : (sh other len : ℕ) → sh < len → len ≤ other → sh ≡ other → ⊥
-      past sh other len within beyond e = omega (arith, within, beyond, e)
+      past sh other len within beyond e = omega arith
 
   place_is : (sh : ℕ) → sh ≡ home_among (filter is_open v.tree) item.hash
       → record { shard = sh; seq = v.next } ≡ put_place log v.no (next_number log v.no) item
@@ -340,15 +340,15 @@ under_more None next higher more h = tt
 under_more (Some n) next higher more h = omega arith
 
 pub one_free : (n m : ℕ) → m ≡ n + 1 → n ≢ last_number → n < 2 ^ 64 → m < 2 ^ 64
-one_free n m is free fits = omega (arith, is, free, fits)
+one_free n m is free fits = omega arith
 
 pub stream_put : (v : StreamValue) (sh next : ℕ) (r : Logged) (logs : List LogValue) (windows : List WindowValue)
     → next ≡ v.next + 1 → v.next ≢ last_number → r.seq ≡ v.next → r.arrival ≡ v.clock → logs ≡ with_appended sh r v.logs
     → AreRated v.clock (length v.tree) windows → IsStream v
     → IsStream (record v { logs = logs; windows = windows; next = next; clock_before = v.clock; cut_before = v.cut })
 stream_put v sh next r logs windows drawn free number arrival are rated is =
-    let one : next ≤ v.next + 1 = omega (arith, drawn) in
-    let more : v.next + 1 ≤ next = omega (arith, drawn) in
+    let one : next ≤ v.next + 1 = omega arith in
+    let more : v.next + 1 ≤ next = omega arith in
     record {
       as_many = ap length are ∙ length-appended sh r v.logs ∙ is.as_many;
       few = is.few;
@@ -356,17 +356,17 @@ stream_put v sh next r logs windows drawn free number arrival are rated is =
       numbers =
           subst (AllByRecursion (IsBelow next)) (sym are)
           (all-appended (IsBelow v.next) (IsBelow next) sh r (λ l h. under_more l.last v.next next more h)
-          (λ l h. omega (arith, number, drawn)) v.logs is.numbers);
-      endings = ends_later v.next next v.tree (omega (arith, drawn)) is.endings;
+          (λ l h. omega arith) v.logs is.numbers);
+      endings = ends_later v.next next v.tree (omega arith) is.endings;
       arrivals =
           subst (AllByRecursion (HasArrived v.clock)) (sym are)
           (all-appended (HasArrived v.clock) (HasArrived v.clock) sh r (λ l h. h)
-          (λ l h. all_append (λ (x : Logged). x.arrival ≤ v.clock) l.kept (r ∷ []) h (omega (arith, arrival), tt))
+          (λ l h. all_append (λ (x : Logged). x.arrival ≤ v.clock) l.kept (r ∷ []) h (omega arith, tt))
           v.logs (arrived_later v.clock_before v.clock v.logs is.order is.arrivals));
       order = omega arith;
       trims = is.trims;
       trims_before = is.trims;
       rated = rated;
-      drawn = omega (arith, drawn);
+      drawn = omega arith;
       fits = one_free v.next next drawn free is.fits;
     }

@@ -15,14 +15,14 @@ pub stand_unused : (f : ℕ → List SizedPut) (n : ℕ) (ws : List WindowValue)
 stand_unused f n [] unused none = tt
 stand_unused f n (w ∷ ws) unused none = (
   subst (StandsFor w) (sym (none n (omega arith))) unused.0.none,
-  stand_unused f (n + 1) ws unused.1 (λ sh beyond. none sh (omega (arith, beyond))),
+  stand_unused f (n + 1) ws unused.1 (λ sh beyond. none sh (omega arith)),
 )
 
 pub stand_more : (f : ℕ → List SizedPut) (n : ℕ) (ws new : List WindowValue) → AllByRecursion IsUnused new
     → ((sh : ℕ) → n + length ws ≤ sh → f sh ≡ []) → StandFor f n ws → StandFor f n (ws ++ new)
-stand_more f n [] new unused none h = stand_unused f n new unused (λ sh beyond. none sh (omega (arith, beyond)))
+stand_more f n [] new unused none h = stand_unused f n new unused (λ sh beyond. none sh (omega arith))
 stand_more f n (w ∷ ws) new unused none h =
-    (h.0, stand_more f (n + 1) ws new unused (λ sh beyond. none sh (omega (arith, beyond))) h.1)
+    (h.0, stand_more f (n + 1) ws new unused (λ sh beyond. none sh (omega arith)) h.1)
 
 pub counted_unused : (moment : ℕ) (ws : List WindowValue) → AllByRecursion IsUnused ws
     → AllByRecursion (IsCounted moment) ws
@@ -42,7 +42,7 @@ two_windows new one reserved before a b more first same =
 
 pub counted_later : (moment later : ℕ) (ws : List WindowValue) → moment ≤ later → AllByRecursion (IsCounted moment) ws
     → AllByRecursion (IsCounted later) ws
-counted_later moment later ws le h = all_weaker (IsCounted moment) (IsCounted later) (λ w c. omega (arith, c, le)) ws h
+counted_later moment later ws le h = all_weaker (IsCounted moment) (IsCounted later) (λ w c. omega arith) ws h
 
 pub rated_later : (moment later count : ℕ) (ws : List WindowValue) → moment ≤ later → AreRated moment count ws
     → AreRated later count ws

@@ -65,16 +65,16 @@ kept_empty floor log s n (l ∷ ls) h none = (
     early = omega arith;
     rest = ap (λ (x : LogValue). x.kept) h.0 ∙ ap (left_among 0 0) (sym (none n (omega arith)));
   },
-  kept_empty floor log s (n + 1) ls h.1 (λ sh beyond. none sh (omega (arith, beyond))),
+  kept_empty floor log s (n + 1) ls h.1 (λ sh beyond. none sh (omega arith)),
 )
 
 kept_grown : (floor : ℕ) (log : Journal) (s n : ℕ) (ls new : List LogValue) → AllByRecursion (λ l. l ≡ empty_log) new
     → ((sh : ℕ) → n + length ls ≤ sh → records log s sh ≡ []) → AreKept floor log s n ls
     → AreKept floor log s n (ls ++ new)
 kept_grown floor log s n [] new h none kept =
-    kept_empty floor log s n new h (λ sh beyond. none sh (omega (arith, beyond)))
+    kept_empty floor log s n new h (λ sh beyond. none sh (omega arith))
 kept_grown floor log s n (l ∷ ls) new h none kept =
-    (kept.0, kept_grown floor log s (n + 1) ls new h (λ sh beyond. none sh (omega (arith, beyond))) kept.1)
+    (kept.0, kept_grown floor log s (n + 1) ls new h (λ sh beyond. none sh (omega arith)) kept.1)
 
 all_empty : (P : LogValue → Type 0) (new : List LogValue) → P empty_log → AllByRecursion (λ l. l ≡ empty_log) new
     → AllByRecursion P new
@@ -108,7 +108,7 @@ stream_grown v tree new ws next more within empty unused beside grown few ends i
   trims = is.trims;
   trims_before = is.trims;
   rated = rated_more v.clock_before v.clock (length v.tree) (length tree) v.windows ws is.order
-      (omega (arith, grown, beside)) unused is.rated;
+      (omega arith) unused is.rated;
   drawn = omega (arith, more, is.drawn);
   fits = within;
 }
@@ -142,12 +142,12 @@ shows_grown v log line tree new ws next at live was named made lasts enforces sa
         hours_are = lasts ∙ show.stored.hours_are;
         shards_are = shards_are;
         next_is = next_is;
-        floor_is = floor_same log line v.no v.clock (omega (arith, at)) lasts ∙ show.stored.floor_is;
+        floor_is = floor_same log line v.no v.clock (omega arith) lasts ∙ show.stored.floor_is;
         kept =
             kept_along (floor_of v.cut) log (line ∷ log) v.no 0 (v.logs ++ new) same
             (kept_grown (floor_of v.cut) log v.no 0 v.logs new empty
-            (λ sh beyond. show.stored.none_beyond sh (omega (arith, beyond, as_many))) show.stored.kept);
-        none_beyond = λ sh beyond. same sh ∙ show.stored.none_beyond sh (omega (arith, beyond, grown));
+            (λ sh beyond. show.stored.none_beyond sh (omega arith)) show.stored.kept);
+        none_beyond = λ sh beyond. same sh ∙ show.stored.none_beyond sh (omega arith);
       };
       rates =
           record {
@@ -155,8 +155,8 @@ shows_grown v log line tree new ws next at live was named made lasts enforces sa
             stand =
                 stand_along (puts log v.no) (puts (line ∷ log) v.no) 0 (v.windows ++ ws) (λ sh any. sym (same_puts sh))
                 (stand_more (puts log v.no) 0 v.windows ws unused
-                (λ sh beyond. show.rates.none_beyond sh (omega (arith, beyond, as_wide))) show.rates.stand);
-            none_beyond = λ sh beyond. same_puts sh ∙ show.rates.none_beyond sh (omega (arith, beyond, grown));
+                (λ sh beyond. show.rates.none_beyond sh (omega arith)) show.rates.stand);
+            none_beyond = λ sh beyond. same_puts sh ∙ show.rates.none_beyond sh (omega arith);
           };
     }
 
@@ -286,14 +286,14 @@ stream_split v sh at next tree logs windows ws drawn free few passes tree_is log
       clock_before = v.clock;
       cut_before = v.cut;
     })) (sym logs_are)
-    (stream_grown v tree (empty_log ∷ empty_log ∷ []) ws next (omega (arith, drawn))
+    (stream_grown v tree (empty_log ∷ empty_log ∷ []) ws next (omega arith)
     (one_free v.next next drawn free is.fits) (refl, (refl, tt)) unused beside
     (ap length tree_is ∙ length_split sh at (v.next + 1) how v.tree)
     (subst (λ (xs : List ShardState). length (filter is_open xs) ≤ OPEN_SHARDS) (sym tree_is)
     (few_split v.tree sh at (v.next + 1) how few passes))
     (subst (AllByRecursion (EndsUnder next)) (sym tree_is)
-    (ends_split next sh at (v.next + 1) how v.tree (omega (arith, drawn))
-    (ends_later v.next next v.tree (omega (arith, drawn)) is.endings))) is))
+    (ends_split next sh at (v.next + 1) how v.tree (omega arith)
+    (ends_later v.next next v.tree (omega arith) is.endings))) is))
 
 pub stream_merged : (v : StreamValue) (sh other next : ℕ) (tree : List ShardState) (logs : List LogValue)
     (windows ws : List WindowValue) → next ≡ v.next + 1 → v.next ≢ last_number → merge_refusal v.tree sh other ≡ None
@@ -328,14 +328,14 @@ stream_merged v sh other next tree logs windows ws drawn free passes tree_is log
       clock_before = v.clock;
       cut_before = v.cut;
     })) (sym logs_are)
-    (stream_grown v tree (empty_log ∷ []) ws next (omega (arith, drawn)) (one_free v.next next drawn free is.fits)
+    (stream_grown v tree (empty_log ∷ []) ws next (omega arith) (one_free v.next next drawn free is.fits)
     (refl, tt) unused beside
     (ap length tree_is ∙ length_merged sh other (v.next + 1) how v.tree)
     (subst (λ (xs : List ShardState). length (filter is_open xs) ≤ OPEN_SHARDS) (sym tree_is)
     (few_merged v.tree sh other (v.next + 1) how is.few passes))
     (subst (AllByRecursion (EndsUnder next)) (sym tree_is)
-    (ends_merged next sh other (v.next + 1) how v.tree (omega (arith, drawn))
-    (ends_later v.next next v.tree (omega (arith, drawn)) is.endings))) is))
+    (ends_merged next sh other (v.next + 1) how v.tree (omega arith)
+    (ends_later v.next next v.tree (omega arith) is.endings))) is))
 
 -- ---- what the calls owe
 

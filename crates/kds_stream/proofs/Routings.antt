@@ -215,7 +215,7 @@ pub shows_puts : (items : List NewItem) (v : StreamValue) (log : Journal) (by : 
     → ShowsStored v log → Stores v log by f items
 unfolding after_one
 shows_puts [] v log by f enforces same none within trims shown = record {
-  stored = λ next drawn. shows_none v next log (omega (arith, drawn)) shown;
+  stored = λ next drawn. shows_none v next log (omega arith) shown;
   rates = λ ws stand. record {
     enforced_is = enforces;
     stand = stand_along f (puts log v.no) 0 ws (λ sh any. same sh) stand;
@@ -305,7 +305,7 @@ shows_puts (item ∷ items) v log by f enforces same none within trims shown =
                 clock_before = v.clock;
                 cut_before = v.cut;
               }) (with_lines us log)) (sym ls)
-              (rest.stored next (omega (arith, drawn'))));
+              (rest.stored next (omega arith)));
           rates = λ ws stand.
               subst (λ us. ShowsRates (with_lines us log) v.no v.enforced (length v.tree) ws) (sym ls)
               (rest.rates ws (stand_along (after_items v.tree v.clock v.enforced f (item ∷ items))
@@ -335,7 +335,7 @@ stream_same v windows next same rated is = record {
 }
 
 number_free : (n m k : ℕ) → m ≡ n + suc k → m < 2 ^ 64 → n ≢ last_number
-number_free n m k is fits e = absurd (omega (arith, is, fits, e))
+number_free n m k is fits e = absurd (omega arith)
 
 pub stream_puts : (items : List NewItem) (v : StreamValue) (next : ℕ) → next ≡ v.next + length items → next < 2 ^ 64
     → IsStream v
@@ -347,10 +347,10 @@ pub stream_puts : (items : List NewItem) (v : StreamValue) (next : ℕ) → next
     })
 unfolding after_one
 stream_puts [] v next drawn fits is =
-    stream_same v v.windows next (omega (arith, drawn))
+    stream_same v v.windows next (omega arith)
     (rated_later v.clock_before v.clock (length v.tree) v.windows is.order is.rated) is
 stream_puts (item ∷ items) v next drawn fits is =
-    stream_puts items (after_one v item) next (omega (arith, drawn)) fits
+    stream_puts items (after_one v item) next (omega arith) fits
     (stream_put v (home_among (filter is_open v.tree) item.hash) (v.next + 1) (put_record v item) _ v.windows refl
     (number_free v.next next (length items) drawn fits) refl refl refl
     (rated_later v.clock_before v.clock (length v.tree) v.windows is.order is.rated) is)

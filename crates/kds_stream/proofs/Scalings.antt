@@ -57,12 +57,12 @@ ends_scaled : (steps : List ScaleStep) (n c next : ℕ) (xs : List ShardState) �
     → AllByRecursion (EndsUnder next) xs → AllByRecursion (EndsUnder next) (scaled steps n c xs)
 ends_scaled [] n c next xs le h = h
 ends_scaled (Join b ∷ steps) n c next xs le h =
-    ends_scaled steps (n + 1) c next (stepped (Join b) n c xs) (omega (arith, le))
+    ends_scaled steps (n + 1) c next (stepped (Join b) n c xs) (omega arith)
     (ends_merged next (home_in xs (b - 1)) (home_in xs b) (n + 1) (record { number = n; clock = c }) xs
-    (omega (arith, le)) h)
+    (omega arith) h)
 ends_scaled (Cut b ∷ steps) n c next xs le h =
-    ends_scaled steps (n + 1) c next (stepped (Cut b) n c xs) (omega (arith, le))
-    (ends_split next (home_in xs b) b (n + 1) (record { number = n; clock = c }) xs (omega (arith, le)) h)
+    ends_scaled steps (n + 1) c next (stepped (Cut b) n c xs) (omega arith)
+    (ends_split next (home_in xs b) b (n + 1) (record { number = n; clock = c }) xs (omega arith) h)
 
 -- ---- the stream after them
 
@@ -85,8 +85,8 @@ stream_scaled v steps tree logs windows ws next tree_is few drawn fits logs_are 
     let new : List LogValue = replicate (made_by steps) empty_log in
     let as_long : length new ≡ made_by steps = length-replicate (made_by steps) empty_log in
     let ends : AllByRecursion (EndsUnder next) (scaled steps v.next v.clock v.tree) =
-    ends_scaled steps v.next v.clock next v.tree (omega (arith, drawn))
-    (ends_later v.next next v.tree (omega (arith, drawn)) is.endings) in
+    ends_scaled steps v.next v.clock next v.tree (omega arith)
+    (ends_later v.next next v.tree (omega arith) is.endings) in
     subst (λ (us : List WindowValue).
     IsStream (record v {
       tree = tree;
@@ -106,9 +106,9 @@ stream_scaled v steps tree logs windows ws next tree_is few drawn fits logs_are 
       clock_before = v.clock;
       cut_before = v.cut;
     })) (sym logs_are)
-    (stream_grown v tree new ws next (omega (arith, drawn)) fits
+    (stream_grown v tree new ws next (omega arith) fits
     (all_replicate (λ l. l ≡ empty_log) (made_by steps) empty_log refl) unused (many ∙ sym as_long)
-    (omega (arith, grown, as_long)) few (subst (AllByRecursion (EndsUnder next)) (sym tree_is) ends) is))
+    (omega arith) few (subst (AllByRecursion (EndsUnder next)) (sym tree_is) ends) is))
 
 -- ---- what it shows
 
@@ -151,11 +151,11 @@ pub scales_so : (steps : List ScaleStep) (v : StreamValue) (log : Journal) (by :
 scales_so [] v log by [] unused many as_many as_wide show = record {
   shows = λ next drawn.
       shows_unscaled v log (v.logs ++ []) (v.windows ++ []) next (append-nil v.logs) (append-nil v.windows)
-      (omega (arith, drawn)) show;
+      (omega arith) show;
   entries_are = refl;
 }
-scales_so [] v log by (w ∷ ws) unused many as_many as_wide show = absurd (omega (arith, many))
-scales_so (Join b ∷ steps) v log by [] unused many as_many as_wide show = absurd (omega (arith, many))
+scales_so [] v log by (w ∷ ws) unused many as_many as_wide show = absurd (omega arith)
+scales_so (Join b ∷ steps) v log by [] unused many as_many as_wide show = absurd (omega arith)
 scales_so (Join b ∷ steps) v log by (w ∷ ws) unused many as_many as_wide show =
     let sh : ℕ = home_in v.tree (b - 1) in
     let other : ℕ = home_in v.tree b in
@@ -174,7 +174,7 @@ scales_so (Join b ∷ steps) v log by (w ∷ ws) unused many as_many as_wide sho
     ap (λ xs. merge_line log v.clock by v.no (home_in xs (b - 1)) (home_in xs b)) show.stored.shards_are in
     let grown = length_merged sh other (v.next + 1) (record { number = v.next; clock = v.clock }) v.tree in
     let rest : ScalesSo after (line ∷ log) by steps ws =
-    scales_so steps after (line ∷ log) by ws unused.1 (omega (arith, many))
+    scales_so steps after (line ∷ log) by ws unused.1 (omega arith)
     (omega (arith, length-append v.logs (empty_log ∷ []), as_many, grown))
     (omega (arith, length-append v.windows (w ∷ []), as_wide, grown))
     (shows_merged v log by show as_many as_wide sh other (v.next + 1) tree (v.logs ++ (empty_log ∷ []))
@@ -213,7 +213,7 @@ scales_so (Join b ∷ steps) v log by (w ∷ ws) unused many as_many as_wide sho
             cut_before = v.cut;
           })
           (with_lines (step_lines (line ∷ log) v.clock by v.no steps) (line ∷ log)))
-          (append_assoc v.windows (w ∷ []) ws) (rest.shows next (omega (arith, drawn)))));
+          (append_assoc v.windows (w ∷ []) ws) (rest.shows next (omega arith))));
       entries_are =
           ap (λ l. l.what ∷ map (λ k. k.what) (step_lines (l ∷ log) v.clock by v.no steps)) same
           ∙ ap (λ n. entry.Merged v.no sh other n (length (shards log v.no)) ∷ map (λ k. k.what)
@@ -222,8 +222,8 @@ scales_so (Join b ∷ steps) v log by (w ∷ ws) unused many as_many as_wide sho
           ∷ map (λ k. k.what) (step_lines (line ∷ log) v.clock by v.no steps)) show.stored.shards_are
           ∙ ap (λ es. entry.Merged v.no sh other v.next (length v.tree) ∷ es) rest.entries_are;
     }
-scales_so (Cut b ∷ steps) v log by [] unused many as_many as_wide show = absurd (omega (arith, many))
-scales_so (Cut b ∷ steps) v log by (w ∷ []) unused many as_many as_wide show = absurd (omega (arith, many))
+scales_so (Cut b ∷ steps) v log by [] unused many as_many as_wide show = absurd (omega arith)
+scales_so (Cut b ∷ steps) v log by (w ∷ []) unused many as_many as_wide show = absurd (omega arith)
 scales_so (Cut b ∷ steps) v log by (w ∷ u ∷ ws) unused many as_many as_wide show =
     let sh : ℕ = home_in v.tree b in
     let tree : List ShardState = stepped (Cut b) v.next v.clock v.tree in
@@ -242,7 +242,7 @@ scales_so (Cut b ∷ steps) v log by (w ∷ u ∷ ws) unused many as_many as_wid
     ap (λ xs. split_line log v.clock by v.no (home_in xs b) b) show.stored.shards_are in
     let grown = length_split sh b (v.next + 1) (record { number = v.next; clock = v.clock }) v.tree in
     let rest : ScalesSo after (line ∷ log) by steps ws =
-    scales_so steps after (line ∷ log) by ws unused.1.1 (omega (arith, many))
+    scales_so steps after (line ∷ log) by ws unused.1.1 (omega arith)
     (omega (arith, length-append v.logs both, as_many, grown))
     (omega (arith, length-append v.windows (w ∷ u ∷ []), as_wide, grown))
     (shows_split v log by show as_many as_wide sh b (v.next + 1) tree (v.logs ++ (empty_log ∷ empty_log ∷ []))
@@ -281,7 +281,7 @@ scales_so (Cut b ∷ steps) v log by (w ∷ u ∷ ws) unused many as_many as_wid
             cut_before = v.cut;
           })
           (with_lines (step_lines (line ∷ log) v.clock by v.no steps) (line ∷ log)))
-          (append_assoc v.windows (w ∷ u ∷ []) ws) (rest.shows next (omega (arith, drawn)))));
+          (append_assoc v.windows (w ∷ u ∷ []) ws) (rest.shows next (omega arith))));
       entries_are =
           ap (λ l. l.what ∷ map (λ k. k.what) (step_lines (l ∷ log) v.clock by v.no steps)) same
           ∙ ap (λ n. entry.Split v.no sh b n (length (shards log v.no)) (length (shards log v.no) + 1)

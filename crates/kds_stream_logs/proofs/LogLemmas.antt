@@ -83,8 +83,8 @@ settled_at_zero (suc n) (l ∷ ls) = ap (λ xs. l ∷ xs) (settled_at_zero n ls)
 -- at a place that there isn't nothing is trimmed
 pub settled_beyond : (floor n : ℕ) (ls : List LogValue) → length ls ≤ n → ls ≡ settled_at floor n ls
 settled_beyond floor n [] beyond = refl
-settled_beyond floor zero (l ∷ ls) beyond = absurd (omega (arith, beyond))
-settled_beyond floor (suc n) (l ∷ ls) beyond = ap (λ xs. l ∷ xs) (settled_beyond floor n ls (omega (arith, beyond)))
+settled_beyond floor zero (l ∷ ls) beyond = absurd (omega arith)
+settled_beyond floor (suc n) (l ∷ ls) beyond = ap (λ xs. l ∷ xs) (settled_beyond floor n ls (omega arith))
 
 pub settled_set : (ls : List LogWithRoom) (i floor : ℕ) (d l : LogWithRoom) → i < length ls
     → log_of l ≡ settled_log floor (log_of (get_or ls i d))

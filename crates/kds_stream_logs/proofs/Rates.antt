@@ -36,7 +36,7 @@ pub stand_along : (f g : ℕ → List SizedPut) (n : ℕ) (ws : List WindowValue
 stand_along f g n [] same h = tt
 stand_along f g n (w ∷ ws) same h = (
   subst (StandsFor w) (same n (omega arith)) h.0,
-  stand_along f g (n + 1) ws (λ sh beyond. same sh (omega (arith, beyond))) h.1,
+  stand_along f g (n + 1) ws (λ sh beyond. same sh (omega arith)) h.1,
 )
 
 -- ---- one put more
@@ -58,12 +58,12 @@ pub stand_set : (f : ℕ → List SizedPut) (n i at : ℕ) (ws : List WindowValu
     → StandFor (with_put at p f) n (slice_set ws i w)
 stand_set f n i at [] w p is below stands h = tt
 stand_set f n zero at (x ∷ ws) w p is below stands h =
-    let e : at ≡ n = omega (arith, is) in (
+    let e : at ≡ n = omega arith in (
       subst (StandsFor w) (ap (λ k. p ∷ f k) e ∙ put_here at n p f e) stands,
       stand_along f (with_put at p f) (n + 1) ws
-          (λ sh beyond. put_elsewhere at sh p f (other_number at sh (omega (arith, e, beyond)))) h.1,
+          (λ sh beyond. put_elsewhere at sh p f (other_number at sh (omega arith))) h.1,
     )
 stand_set f n (suc i) at (x ∷ ws) w p is below stands h = (
-  subst (StandsFor x) (put_elsewhere at n p f (higher_number at n (omega (arith, is)))) h.0,
-  stand_set f (n + 1) i at ws w p (omega (arith, is)) (omega arith) stands h.1,
+  subst (StandsFor x) (put_elsewhere at n p f (higher_number at n (omega arith))) h.0,
+  stand_set f (n + 1) i at ws w p (omega arith) (omega arith) stands h.1,
 )

@@ -108,7 +108,7 @@ room_left ls i r rs at can =
     subst (λ n. n ≤ room_at ls i) (sum_by-cons (λ (q : Routed). cond (is_routed_to i q) 1 0) r rs) (can.room i) in
     let had : cond true 1 0 + count_by (is_routed_to i) rs ≤ room_at ls i =
     subst (λ c. cond c 1 0 + count_by (is_routed_to i) rs ≤ room_at ls i) (is_equal r.shard i (sym at)) counted in
-    omega (arith, had)
+    omega arith
 
 module _ (ls : List LogWithRoom) (i : ℕ) (d l : LogWithRoom) (r : Routed) (rs : List Routed) (at : i ≡ r.shard)
     (below : i < length ls) (used : l.room + 1 ≡ (get_or ls i d).room)
@@ -250,7 +250,7 @@ placed_none xs c n r none no_place number below = record {
   items = [];
   are = none;
   next_is = omega (arith, number);
-  fits = omega (arith, number, below);
+  fits = omega (arith, number);
   within = subst (AllByRecursion (IsWithin (length xs))) (sym none) tt;
   places_are = no_place ∙ ap (map place_of) (sym none);
 }
@@ -314,7 +314,7 @@ pub all_from : (xs : List ShardState) (clock first n : ℕ) (items : List NewIte
     → AllByRecursion (IsFrom first clock) (routed_items xs clock n items)
 all_from xs clock first n [] le = tt
 all_from xs clock first n (item ∷ items) le =
-    (record { number = le; arrival = refl }, all_from xs clock first (n + 1) items (omega (arith, le)))
+    (record { number = le; arrival = refl }, all_from xs clock first (n + 1) items (omega arith))
 
 pub turns : (xs : List ShardState) (clock n : ℕ) (items : List NewItem) → AreInTurn (routed_items xs clock n items)
 turns xs clock n [] = tt
@@ -352,4 +352,4 @@ can_take_all before ls rs ps placed same can turns room = record {
 -- ---- what the stream shows after them
 
 pub apart : (n sh len : ℕ) → n < len → len ≤ sh → n ≡ sh → ⊥
-apart n sh len within beyond e = omega (arith, within, beyond, e)
+apart n sh len within beyond e = omega arith

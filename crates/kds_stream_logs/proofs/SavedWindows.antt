@@ -20,8 +20,8 @@ set_back (v ∷ ws) (suc i) u w is = ap (λ (us : List WindowValue). v ∷ us) (
 -- where there is no window, nothing is set
 pub set_outside : (ws : List WindowValue) (i : ℕ) (w : WindowValue) → length ws ≤ i → slice_set ws i w ≡ ws
 set_outside [] i w h = refl
-set_outside (v ∷ ws) zero w h = absurd (omega (arith, h))
-set_outside (v ∷ ws) (suc i) w h = ap (λ (us : List WindowValue). v ∷ us) (set_outside ws i w (omega (arith, h)))
+set_outside (v ∷ ws) zero w h = absurd (omega arith)
+set_outside (v ∷ ws) (suc i) w h = ap (λ (us : List WindowValue). v ∷ us) (set_outside ws i w (omega arith))
 
 -- the newest is put back first
 pub restored_more : (saved : List SavedWindow) (s : SavedWindow) (ws : List WindowValue)

@@ -26,12 +26,12 @@ other_byte b differs = elim (cases_Bool (b == 58)) [
 
 found_at : (text : List ℕ) (at : ℕ) → at < length text → ((k : ℕ) → k < at → Passes (is_byte 58) text k → ⊥)
     → Passes (is_byte 58) text at → field text ≡ Some (take at text, drop (suc at) text)
-found_at [] at within before here = absurd (omega (arith, within))
+found_at [] at within before here = absurd (omega arith)
 found_at (b ∷ bs) zero within before here = rw here refl
 found_at (b ∷ bs) (suc at) within before here =
     rw (
       other_byte b (before 0 (omega arith)),
-      found_at bs at (omega (arith, within)) (λ k lt. before (suc k) (omega (arith, lt))) here,
+      found_at bs at (omega arith) (λ k lt. before (suc k) (omega arith)) here,
     ) refl
 
 pub field_found : (text : List ℕ) (at : ℕ) → NoneBefore (Passes (is_byte 58) text) 0 (length text) at
@@ -45,7 +45,7 @@ field_found text at found =
 pub field_nowhere : (text : List ℕ) → ((k : ℕ) → k < length text → Passes (is_byte 58) text k → ⊥) → field text ≡ None
 field_nowhere [] nowhere = refl
 field_nowhere (b ∷ bs) nowhere =
-    rw (other_byte b (nowhere 0 (omega arith)), field_nowhere bs (λ k lt. nowhere (suc k) (omega (arith, lt)))) refl
+    rw (other_byte b (nowhere 0 (omega arith)), field_nowhere bs (λ k lt. nowhere (suc k) (omega arith))) refl
 
 -- ---- a field and the rest spell the text
 

@@ -106,9 +106,9 @@ nones n = replicate n None
 
 none_at : (n place : ℕ) → place < n → slice_get (nones n) place ≡ Some None
 unfolding nones
-none_at zero place below = absurd (omega (arith, below))
+none_at zero place below = absurd (omega arith)
 none_at (suc n) zero below = refl
-none_at (suc n) (suc place) below = none_at n place (omega (arith, below))
+none_at (suc n) (suc place) below = none_at n place (omega arith)
 
 pub families_made : (count n start : ℕ) (ranges : List Span) → length (first_shards n start ranges) ≡ count
     → AreFamilies (replicate count None) (first_shards n start ranges)
@@ -212,7 +212,7 @@ module _ (firsts more : List (Option ℕ)) (xs closed born : List ShardState) (s
       let within = slice_get_within born h.place y h.at in
       let sets = slice_set (slice_set firsts sh (Some child)) other (Some child) in
       let e : place ≡ length sets + h.place = omega (arith, h.is, long_sets) in
-      ap (slice_get (sets ++ more)) e ∙ get_back sets more h.place ∙ none h.place (omega (arith, within, as_many))
+      ap (slice_get (sets ++ more)) e ∙ get_back sets more h.place ∙ none h.place (omega arith)
 
   pub born_families : AreFamilies (after_birth firsts sh other child more) (closed ++ born)
   born_families = record {
@@ -257,12 +257,12 @@ of_merge sh other a start r parent (suc place) y is child = absurd cc
 
 none_in_one : AreNone (None ∷ [])
 none_in_one zero below = refl
-none_in_one (suc i) below = absurd (omega (arith, below))
+none_in_one (suc i) below = absurd (omega arith)
 
 none_in_two : AreNone (None ∷ None ∷ [])
 none_in_two zero below = refl
 none_in_two (suc zero) below = refl
-none_in_two (suc (suc i)) below = absurd (omega (arith, below))
+none_in_two (suc (suc i)) below = absurd (omega arith)
 
 pub split_families : (firsts : List (Option ℕ)) (xs : List ShardState) (sh a b start : ℕ) (r q : Span)
     (closing : Closing) (x : ShardState)

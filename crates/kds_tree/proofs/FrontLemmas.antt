@@ -65,37 +65,37 @@ pub one_passed : (f n c m : ℕ) (names : List ℕ) (xs : List ShardState) (x : 
     → x ≡ get_or xs c x
     → is_closed_below f x ≡ true → AreLeft f n c names xs → AreLeft f n m names xs
 one_passed f n c m names xs x is below at e left =
-    let next : suc c ≡ m = omega (arith, is) in
+    let next : suc c ≡ m = omega arith in
     subst (λ k. AreLeft f n k names xs) next (longer n c names xs below at left)
   where
     longer : (n k : ℕ) (ns : List ℕ) (ys : List ShardState) → k < length ys → x ≡ get_or ys k x → AreLeft f n k ns ys
         → AreLeft f n (suc k) ns ys
-    longer n k ns [] below at left = absurd (omega (arith, below))
+    longer n k ns [] below at left = absurd (omega arith)
     longer n zero ns (y ∷ ys) below at left = passed_left f n 0 ns y ys (ap (is_closed_below f) (sym at) ∙ e) left
-    longer n (suc k) [] (y ∷ ys) below at left = (left.0, longer (suc n) k [] ys (omega (arith, below)) at left.1)
+    longer n (suc k) [] (y ∷ ys) below at left = (left.0, longer (suc n) k [] ys (omega arith) at left.1)
     longer n (suc k) (i ∷ ns) (y ∷ ys) below at (inl a) =
-        inl (a.0, longer (suc n) k ns ys (omega (arith, below)) at a.1)
+        inl (a.0, longer (suc n) k ns ys (omega arith) at a.1)
     longer n (suc k) (i ∷ ns) (y ∷ ys) below at (inr a) =
-        inr (a.0, longer (suc n) k (i ∷ ns) ys (omega (arith, below)) at a.1)
+        inr (a.0, longer (suc n) k (i ∷ ns) ys (omega arith) at a.1)
 
 -- or is named
 pub one_named : (f n c m : ℕ) (names : List ℕ) (xs : List ShardState) → m ≡ c + 1 → c < length xs
     → AreLeft f n c names xs → AreLeft f n m (names ++ (n + c) ∷ []) xs
 one_named f n c m names xs is below left =
-    let next : suc c ≡ m = omega (arith, is) in
+    let next : suc c ≡ m = omega arith in
     subst (λ k. AreLeft f n k (names ++ (n + c) ∷ []) xs) next (longer n c names xs refl below left)
   where
     longer : (p k : ℕ) (ns : List ℕ) (ys : List ShardState) → n + c ≡ p + k → k < length ys → AreLeft f p k ns ys
         → AreLeft f p (suc k) (ns ++ (n + c) ∷ []) ys
-    longer p k ns [] e below left = absurd (omega (arith, below))
+    longer p k ns [] e below left = absurd (omega arith)
     longer p zero ns (y ∷ ys) e below left =
-        subst (λ us. AreLeft f p 1 (us ++ (n + c) ∷ []) (y ∷ ys)) (sym left) (inl (omega (arith, e), refl))
+        subst (λ us. AreLeft f p 1 (us ++ (n + c) ∷ []) (y ∷ ys)) (sym left) (inl (omega arith, refl))
     longer p (suc k) [] (y ∷ ys) e below left =
-        inr (left.0, longer (suc p) k [] ys (omega (arith, e)) (omega (arith, below)) left.1)
+        inr (left.0, longer (suc p) k [] ys (omega arith) (omega arith) left.1)
     longer p (suc k) (i ∷ ns) (y ∷ ys) e below (inl a) =
-        inl (a.0, longer (suc p) k ns ys (omega (arith, e)) (omega (arith, below)) a.1)
+        inl (a.0, longer (suc p) k ns ys (omega arith) (omega arith) a.1)
     longer p (suc k) (i ∷ ns) (y ∷ ys) e below (inr a) =
-        inr (a.0, longer (suc p) k (i ∷ ns) ys (omega (arith, e)) (omega (arith, below)) a.1)
+        inr (a.0, longer (suc p) k (i ∷ ns) ys (omega arith) (omega arith) a.1)
 
 -- ---- further shards, and changes of open ones, leave the front as it is
 
@@ -164,23 +164,23 @@ least : (f n c : ℕ) (names : List ℕ) (xs : List ShardState) → AreLeft f n 
     → n ≤ get_or names j d
 least f n zero names xs left j d lt = absurd (omega (arith, lt, ap length left))
 least f n (suc c) names [] left j d lt = absurd left
-least f n (suc c) [] (x ∷ xs) left j d lt = absurd (omega (arith, lt))
+least f n (suc c) [] (x ∷ xs) left j d lt = absurd (omega arith)
 least f n (suc c) (i ∷ names) (x ∷ xs) (inl a) zero d lt = omega (arith, a.0)
 least f n (suc c) (i ∷ names) (x ∷ xs) (inl a) (suc j) d lt =
-    omega (arith, least f (suc n) c names xs a.1 j d (omega (arith, lt)))
+    omega (arith, least f (suc n) c names xs a.1 j d (omega arith))
 least f n (suc c) (i ∷ names) (x ∷ xs) (inr a) j d lt = omega (arith, least f (suc n) c (i ∷ names) xs a.1 j d lt)
 
 pub names_rise : (f n c : ℕ) (names : List ℕ) (xs : List ShardState) → AreLeft f n c names xs
     → (i j d : ℕ) → i ≤ j → j < length names → get_or names i d ≤ get_or names j d
 names_rise f n zero names xs left i j d le lt = absurd (omega (arith, lt, ap length left))
 names_rise f n (suc c) names [] left i j d le lt = absurd left
-names_rise f n (suc c) [] (x ∷ xs) left i j d le lt = absurd (omega (arith, lt))
+names_rise f n (suc c) [] (x ∷ xs) left i j d le lt = absurd (omega arith)
 names_rise f n (suc c) (k ∷ names) (x ∷ xs) (inl a) zero zero d le lt = omega arith
 names_rise f n (suc c) (k ∷ names) (x ∷ xs) (inl a) zero (suc j) d le lt =
-    omega (arith, a.0, least f (suc n) c names xs a.1 j d (omega (arith, lt)))
-names_rise f n (suc c) (k ∷ names) (x ∷ xs) (inl a) (suc i) zero d le lt = absurd (omega (arith, le))
+    omega (arith, a.0, least f (suc n) c names xs a.1 j d (omega arith))
+names_rise f n (suc c) (k ∷ names) (x ∷ xs) (inl a) (suc i) zero d le lt = absurd (omega arith)
 names_rise f n (suc c) (k ∷ names) (x ∷ xs) (inl a) (suc i) (suc j) d le lt =
-    names_rise f (suc n) c names xs a.1 i j d (omega (arith, le)) (omega (arith, lt))
+    names_rise f (suc n) c names xs a.1 i j d (omega arith) (omega arith)
 names_rise f n (suc c) (k ∷ names) (x ∷ xs) (inr a) i j d le lt = names_rise f (suc n) c (k ∷ names) xs a.1 i j d le lt
 
 none_left : (at : ℕ) (names : List ℕ) → names ≡ [] → drop at names ≡ []
@@ -206,24 +206,24 @@ pub names_behind : (f n c m t k at : ℕ) (names : List ℕ) (xs : List ShardSta
     → ((j d : ℕ) → at ≤ j → j < length names → t ≤ get_or names j d)
     → AreLeft f n c names xs → AreLeft f t k (drop at names) (drop m xs)
 names_behind f n c zero t k at names xs is_t is_k before from left =
-    let e : n ≡ t = omega (arith, is_t) in
-    let g : c ≡ k = omega (arith, is_k) in
+    let e : n ≡ t = omega arith in
+    let g : c ≡ k = omega arith in
     subst (λ us. AreLeft f t k us xs) (sym (nothing_before f n c t at names xs (sym e) before left))
     (subst (λ a. AreLeft f a k names xs) e (subst (λ b. AreLeft f n b names xs) g left))
 names_behind f n zero (suc m) t k at names xs is_t is_k before from left =
-    let g : 0 ≡ k = omega (arith, is_k) in
+    let g : 0 ≡ k = omega arith in
     subst (λ b. AreLeft f t b (drop at names) (drop (suc m) xs)) g (none_left at names left)
 names_behind f n (suc c) (suc m) t k at names [] is_t is_k before from left = absurd left
 names_behind f n (suc c) (suc m) t k at [] (x ∷ xs) is_t is_k before from left =
-    names_behind f (suc n) c m t k at [] xs (omega (arith, is_t)) (omega (arith, is_k)) before from left.1
+    names_behind f (suc n) c m t k at [] xs (omega arith) (omega arith) before from left.1
 names_behind f n (suc c) (suc m) t k zero (i ∷ names) (x ∷ xs) is_t is_k before from (inl a) =
     absurd (omega (arith, is_t, a.0, from 0 i (omega arith) (omega arith)))
 names_behind f n (suc c) (suc m) t k (suc at) (i ∷ names) (x ∷ xs) is_t is_k before from (inl a) =
-    names_behind f (suc n) c m t k at names xs (omega (arith, is_t)) (omega (arith, is_k))
-    (λ j d lt within. before (suc j) d (omega (arith, lt)) (omega (arith, within)))
-    (λ j d le within. from (suc j) d (omega (arith, le)) (omega (arith, within))) a.1
+    names_behind f (suc n) c m t k at names xs (omega arith) (omega arith)
+    (λ j d lt within. before (suc j) d (omega arith) (omega arith))
+    (λ j d le within. from (suc j) d (omega arith) (omega arith)) a.1
 names_behind f n (suc c) (suc m) t k at (i ∷ names) (x ∷ xs) is_t is_k before from (inr a) =
-    names_behind f (suc n) c m t k at (i ∷ names) xs (omega (arith, is_t)) (omega (arith, is_k)) before from a.1
+    names_behind f (suc n) c m t k at (i ∷ names) xs (omega arith) (omega arith) before from a.1
 
 -- ---- listings pass over the others
 
@@ -271,7 +271,7 @@ pub listing_left : (cut after : Option ℕ) (xs : List ShardState) (names : List
     → listing cut (picked names xs ++ drop m xs)
     ≡ map shown (filter (is_after_shard after) (listed_among (floor_of cut) xs))
 listing_left cut after xs names c start m left is behind =
-    let e : m ≡ start + (c - start) = omega (arith, is) in
+    let e : m ≡ start + (c - start) = omega arith in
     ap (λ k. listing cut (picked names xs ++ drop k xs)) e
     ∙ ap (λ us. listing cut (picked names xs ++ us)) (sym (drop_twice start (c - start) xs))
     ∙ ap (map shown) (listed_left (floor_of cut) start (c - start) names (drop start xs) xs (λ j. get_drop start j xs)

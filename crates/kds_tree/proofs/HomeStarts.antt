@@ -51,12 +51,12 @@ module _ (xs : List ShardState) (ss : List OpenStart) (k i : ℕ) (tree : IsTree
       let e : (get_or ss member.0 first).key ≡ h.state.range.start = ap (λ (t : OpenStart). t.key) member.2 in
       let low : h.state.range.start ≤ k = h.contains.0 in
       let high : k ≤ h.state.range.end = h.contains.1 in
-      let before : member.0 < i = before_point member.0 first member.1 (omega (arith, e, low)) in
+      let before : member.0 < i = before_point member.0 first member.1 (omega arith) in
       let le : s.key ≤ k = at_most s.key k
       (subst (λ (t : OpenStart). leb t.key k ≡ true) (sym is)
-      (point.0 at s (omega arith) (omega (arith, is_at, before)))) in
+      (point.0 at s (omega arith) (omega arith))) in
       let rises : (get_or ss member.0 s).key ≤ (get_or ss at s).key =
-      starts.order member.0 at s (omega (arith, is_at, before)) within in
+      starts.order member.0 at s (omega arith) within in
       let same_default : get_or ss member.0 first ≡ get_or ss member.0 s = default_at ss member.0 first s member.1 in
       let e' : (get_or ss member.0 s).key ≡ h.state.range.start = ap (λ (t : OpenStart). t.key) (sym same_default)
       ∙ e in
@@ -64,10 +64,10 @@ module _ (xs : List ShardState) (ss : List OpenStart) (k i : ℕ) (tree : IsTree
       let stands = subst (λ (t : OpenStart). IsStart xs t) (sym is) (starts.of.each at s within) in
       let ordered : IsOrdered stands.state =
       all_made IsOrdered xs s.shard stands.state tree.tiled.ordered stands.made in
-      let key_below : s.key < 2 ^ 128 = omega (arith, le, below) in
+      let key_below : s.key < 2 ^ 128 = omega arith in
       let in_s : Covers stands.state.range s.key =
       (omega (arith, stands.begins), omega (arith, stands.begins, ordered)) in
-      let in_h : Covers h.state.range s.key = (omega (arith, rises, e', top), omega (arith, le, high)) in
+      let in_h : Covers h.state.range s.key = (omega arith, omega arith) in
       let same = only xs s.key s.shard (home_among (filter is_open xs) k) stands.state h.state
       (omega (arith, tree.tiled.times s.key key_below)) stands.made stands.is_open_now in_s h.made h.is_open_now
       in_h in
@@ -81,5 +81,5 @@ module _ (xs : List ShardState) (ss : List OpenStart) (k i : ℕ) (tree : IsTree
       let first = start_of h.state (home_among (filter is_open xs) k) in
       let e : (get_or ss member.0 first).key ≡ h.state.range.start = ap (λ (t : OpenStart). t.key) member.2 in
       let low : h.state.range.start ≤ k = h.contains.0 in
-      let before : member.0 < i = before_point member.0 first member.1 (omega (arith, e, low)) in
+      let before : member.0 < i = before_point member.0 first member.1 (omega arith) in
       omega (arith, is_at, before, member.1, bound)

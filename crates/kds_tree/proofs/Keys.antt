@@ -46,7 +46,7 @@ not_less x y xs ys t e below =
 
 same_tail : (x y k : ℕ) (xs ys : List ℕ) → x ≡ y → times k (x ∷ xs) ≡ times k (y ∷ ys) → times k xs ≡ times k ys
 same_tail x y k xs ys same e = let c : cond (x == k) 1 0 + 0 ≡ cond (y == k) 1 0 + 0 =
-    ap (λ (z : ℕ). cond (z == k) 1 0 + 0) same in omega (arith, e, c)
+    ap (λ (z : ℕ). cond (z == k) 1 0 + 0) same in omega arith
 
 one_of : (x y : ℕ) → (x < y → ⊥) → (y < x → ⊥) → x ≡ y
 one_of x y a b = omega arith
@@ -67,7 +67,7 @@ same_lists n (x ∷ xs) (y ∷ ys) r t e =
 times_by : (lt : Bool) (k b x : ℕ) (xs more : List ℕ) → times k more ≡ cond (b == k) 1 0 + times k xs
     → times k (cond lt (b ∷ x ∷ xs) (x ∷ more)) ≡ cond (b == k) 1 0 + times k (x ∷ xs)
 times_by true k b x xs more h = refl
-times_by false k b x xs more h = omega (arith, h)
+times_by false k b x xs more h = omega arith
 
 -- one start more is once more there
 times_with : (k b : ℕ) (xs : List ℕ) → times k (with_start b xs) ≡ cond (b == k) 1 0 + times k xs
@@ -80,8 +80,8 @@ has_key k s = s.key == k
 
 counted : (b : Bool) (s : OpenStart) (ss : List OpenStart) (n : ℕ) → n ≡ length ss
     → cond b 1 0 + n ≡ length (cond b (s ∷ ss) ss)
-counted true s ss n h = omega (arith, h)
-counted false s ss n h = omega (arith, h)
+counted true s ss n h = omega arith
+counted false s ss n h = omega arith
 
 times_starts : (k : ℕ) (xs : List ShardState)
     → times k (starts_among xs) ≡ length (filter (has_key k) (map own_start xs))
@@ -103,8 +103,8 @@ none_falls : (n : ℕ) (ss : List OpenStart) → IsNonDecreasingBy (λ (s : Open
 none_falls n [] order above = tt
 none_falls n (s ∷ ss) order above =
     let later : IsNonDecreasingBy (λ (t : OpenStart). t.key) ss =
-    λ i j d le within. order (suc i) (suc j) d (omega (arith, le)) (omega (arith, within)) in
-    (above s (omega arith), none_falls s.key ss later (λ d some. order 0 1 d (omega arith) (omega (arith, some))))
+    λ i j d le within. order (suc i) (suc j) d (omega arith) (omega arith) in
+    (above s (omega arith), none_falls s.key ss later (λ d some. order 0 1 d (omega arith) (omega arith)))
 
 pub same_keys : (ss : List OpenStart) (xs : List ShardState) → AreStarts ss xs → IsTree xs
     → starting_keys ss ≡ starts_among (filter is_open xs)

@@ -45,7 +45,7 @@ all_behind [] n after numbers h = refl
 all_behind (x ∷ xs) n after numbers h =
     ap (λ c. cond c (x ∷ filter (is_after_shard (Some after)) xs) (filter (is_after_shard (Some after)) xs))
     (above x.no n after numbers.0 h)
-    ∙ ap (λ ys. x ∷ ys) (all_behind xs (n + 1) after numbers.1 (omega (arith, h)))
+    ∙ ap (λ ys. x ∷ ys) (all_behind xs (n + 1) after numbers.1 (omega arith))
 
 -- the place right behind a number, or the end where that comes first
 point : (xs : List ShardState) (n after from : ℕ) → AreNumbered n xs → n + from ≤ after + 1 → (n + from ≡ after + 1)
@@ -53,26 +53,26 @@ point : (xs : List ShardState) (n after from : ℕ) → AreNumbered n xs → n +
     → drop from xs ≡ filter (is_after_shard (Some after)) xs
 point [] n after zero numbers below is = refl
 point [] n after (suc from) numbers below is = refl
-point (x ∷ xs) n after zero numbers below (inl e) = sym (all_behind (x ∷ xs) n after numbers (omega (arith, e)))
-point (x ∷ xs) n after zero numbers below (inr h) = absurd (omega (arith, h))
+point (x ∷ xs) n after zero numbers below (inl e) = sym (all_behind (x ∷ xs) n after numbers (omega arith))
+point (x ∷ xs) n after zero numbers below (inr h) = absurd (omega arith)
 point (x ∷ xs) n after (suc from) numbers below is =
-    point xs (n + 1) after from numbers.1 (omega (arith, below)) (later is)
+    point xs (n + 1) after from numbers.1 (omega arith) (later is)
     ∙ sym (ap (λ c. cond c (x ∷ filter (is_after_shard (Some after)) xs) (filter (is_after_shard (Some after)) xs))
-    (not_above x.no n after numbers.0 (omega (arith, below))))
+    (not_above x.no n after numbers.0 (omega arith)))
   where
     later : (n + suc from ≡ after + 1) ⊎ (length (x ∷ xs) ≤ suc from) → (n + 1 + from ≡ after + 1) ⊎ (length xs ≤ from)
-    later (inl e) = inl (omega (arith, e))
-    later (inr h) = inr (omega (arith, h))
+    later (inl e) = inl (omega arith)
+    later (inr h) = inr (omega arith)
 
 pub right_behind : (xs : List ShardState) (after i from : ℕ) → AreNumbered 0 xs → i ≡ after → from ≡ i + 1
     → drop from xs ≡ filter (is_after_shard (Some after)) xs
 right_behind xs after i from numbers same is =
-    point xs 0 after from numbers (omega (arith, same, is)) (inl (omega (arith, same, is)))
+    point xs 0 after from numbers (omega arith) (inl (omega arith))
 
 pub at_end : (xs : List ShardState) (after i from : ℕ) → AreNumbered 0 xs → i ≡ after → length xs ≤ i → from ≡ length xs
     → drop from xs ≡ filter (is_after_shard (Some after)) xs
 at_end xs after i from numbers same far is =
-    point xs 0 after from numbers (omega (arith, same, far, is)) (inr (omega (arith, is)))
+    point xs 0 after from numbers (omega arith) (inr (omega arith))
 
 pub behind_none : (xs : List ShardState) → xs ≡ filter (is_after_shard None) xs
 behind_none [] = refl

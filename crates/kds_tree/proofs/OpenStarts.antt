@@ -347,8 +347,8 @@ left_behind : (xs : List ShardState) (n k : ℕ) → AreNumbered n xs → k < n
 left_behind [] n k numbers below = refl
 left_behind (x ∷ xs) n k numbers below =
     kept_step k (is_open x) x (filter is_open xs) (filter is_open xs)
-    (another x.no n k numbers.0 (λ e. absurd (omega (arith, below, e))))
-    (left_behind xs (n + 1) k numbers.1 (omega (arith, below)))
+    (another x.no n k numbers.0 (λ e. absurd (omega arith)))
+    (left_behind xs (n + 1) k numbers.1 (omega arith))
 
 left_one : (xs : List ShardState) (n sh k : ℕ) (closing : Closing) → AreNumbered n xs → k ≡ n + sh
     → filter (is_other k) (open_starts xs) ≡ open_starts (with_closed sh closing xs)
@@ -358,7 +358,7 @@ left_one (x ∷ xs) n zero k closing numbers is =
     (left_behind xs (n + 1) k numbers.1 (omega (arith, is)))
 left_one (x ∷ xs) n (suc sh) k closing numbers is =
     kept_step k (is_open x) x (filter is_open xs) (filter is_open (with_closed sh closing xs))
-    (another x.no n k numbers.0 (λ e. absurd (omega (arith, is, e))))
+    (another x.no n k numbers.0 (λ e. absurd (omega (arith, is))))
     (left_one xs (n + 1) sh k closing numbers.1 (omega (arith, is)))
 
 left_two : (xs : List ShardState) (sh other : ℕ) (closing : Closing) → AreNumbered 0 xs

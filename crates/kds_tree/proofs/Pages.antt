@@ -10,9 +10,9 @@ use Rattle.kds_tree.specs.Front.{Lists, listing, picked_before}
 
 take_whole : (n : ℕ) (xs : List Shard) → length xs ≤ n → take n xs ≡ xs
 take_whole zero [] le = refl
-take_whole zero (x ∷ xs) le = absurd (omega (arith, le))
+take_whole zero (x ∷ xs) le = absurd (omega arith)
 take_whole (suc n) [] le = refl
-take_whole (suc n) (x ∷ xs) le = ap (λ us. x ∷ us) (take_whole n xs (omega (arith, le)))
+take_whole (suc n) (x ∷ xs) le = ap (λ us. x ∷ us) (take_whole n xs (omega arith))
 
 false_lt : (n m : ℕ) → m ≤ n → false ≡ nat_lt n m
 false_lt n m h = grind (arith, nat_tests)
@@ -23,8 +23,8 @@ whole limit listed few =
 
 beyond : (xs : List ShardState) (i : ℕ) → length xs ≤ i → slice_get xs i ≡ None
 beyond [] i le = refl
-beyond (x ∷ xs) zero le = absurd (omega (arith, le))
-beyond (x ∷ xs) (suc i) le = beyond xs i (omega (arith, le))
+beyond (x ∷ xs) zero le = absurd (omega arith)
+beyond (x ∷ xs) (suc i) le = beyond xs i (omega arith)
 
 lt_false : (n m : ℕ) → false ≡ nat_lt n m → m ≤ n
 lt_false n m e = grind (arith, nat_tests)

@@ -119,10 +119,10 @@ within_last : (width start n : ℕ) → start + n * width ≤ 2 ^ 128 → (i s :
 within_last width start zero fits i s = tt
 within_last width start (suc zero) fits i s = (omega arith, tt)
 within_last width start (suc (suc n)) fits i s =
-    (before_key start width n fits, within_last width (start + width) (suc n) (omega (arith, fits)) (i + 1) s)
+    (before_key start width n fits, within_last width (start + width) (suc n) (omega arith) (i + 1) s)
   where
     before_key : (start width n : ℕ) → start + suc (suc n) * width ≤ 2 ^ 128 → start + width - 1 < 2 ^ 128
-    before_key start width n fits = omega (arith, fits)
+    before_key start width n fits = omega arith
 
 pub tree_split : (xs : List ShardState) (sh at start : ℕ) (closing : Closing) → split_refusal xs sh at ≡ None
     → IsTree xs → IsTree (split_shards sh at closing start xs)
@@ -132,7 +132,7 @@ tree_split xs sh at start closing h tree =
     let high = new_shard (length xs + 1) (upper_part (range_of (slice_get xs sh)) at) (Some sh) None start in
     let n : length (with_closed sh closing xs) ≡ length xs = length-closed sh closing xs in
     let goes_on : AreNumbered (0 + length (with_closed sh closing xs)) (low ∷ high ∷ []) =
-    numbered_two (0 + length (with_closed sh closing xs)) low high (omega (arith, n)) (omega (arith, n)) in
+    numbered_two (0 + length (with_closed sh closing xs)) low high (omega arith) (omega arith) in
     record {
       numbered = numbered-append 0 (with_closed sh closing xs) (low ∷ high ∷ [])
           (numbered-closed 0 sh closing xs tree.numbered) goes_on;
@@ -163,7 +163,7 @@ tree_merged xs sh other start closing h tree =
     let closed = with_closed other closing (with_closed sh closing xs) in
     let n : length (with_closed other closing (with_closed sh closing xs)) ≡ length xs =
     length-closed other closing (with_closed sh closing xs) ∙ length-closed sh closing xs in
-    let goes_on : AreNumbered (0 + length closed) (child ∷ []) = (omega (arith, n), tt) in
+    let goes_on : AreNumbered (0 + length closed) (child ∷ []) = (omega arith, tt) in
     record {
       numbered = numbered-append 0 closed (child ∷ [])
           (numbered-closed 0 other closing (with_closed sh closing xs) (numbered-closed 0 sh closing xs tree.numbered))

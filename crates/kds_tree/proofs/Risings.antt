@@ -65,7 +65,7 @@ one_here r h = grind (arith, nat_tests)
 counted_by : (b c : Bool) (x : ShardState) (k n : ℕ) → is_open x ≡ b → (x.range.start == k) ≡ c
     → x.range.start ≤ x.range.end → (b && c) ≡ true → 1 ≤ count_if b (one x.range k) + n
 counted_by true true x k n isb isc o h = let e : x.range.start ≡ k = equal_so x.range.start k isc in
-    let w : one x.range k ≡ 1 = ap (one x.range) (sym e) ∙ one_here x.range o in omega (arith, w)
+    let w : one x.range k ≡ 1 = ap (one x.range) (sym e) ∙ one_here x.range o in omega arith
 counted_by true false x k n isb isc o h = absurd cc
 counted_by false c x k n isb isc o h = absurd cc
 
@@ -80,7 +80,7 @@ begins_counted (x ∷ xs) k o h =
     either (is_open x && (x.range.start == k)) (begins_at xs k) (1 ≤ open_times (x ∷ xs) k) (sym (begins_more x xs k)
     ∙ h)
     (λ here. counted_by (is_open x) (x.range.start == k) x k (open_times xs k) refl refl o.0 here)
-    (λ there. let r : 1 ≤ open_times xs k = begins_counted xs k o.1 there in omega (arith, r))
+    (λ there. let r : 1 ≤ open_times xs k = begins_counted xs k o.1 there in omega arith)
 
 rise_open : (b : Bool) (x : ShardState) (xs : List ShardState) → (b ≡ true → begins_at xs x.range.start ≡ false)
     → RiseFrom 0 (starts_among (filter is_open xs))
@@ -102,7 +102,7 @@ open_rise (x ∷ xs) once o w =
     (λ open_now. false_from_ne_true (begins_at xs x.range.start)
     (λ h. twice (is_open x) x (open_times xs x.range.start) open_now o.0 (once x.range.start low)
     (begins_counted xs x.range.start o.1 h)))
-    (open_rise xs (λ k below. let n : open_times (x ∷ xs) k ≤ 1 = once k below in omega (arith, n)) o.1 w.1)
+    (open_rise xs (λ k below. let n : open_times (x ∷ xs) k ≤ 1 = once k below in omega arith) o.1 w.1)
 
 pub tree_rises : (xs : List ShardState) → IsTree xs → RiseFrom 0 (starts_among (filter is_open xs))
 tree_rises xs tree = open_rise xs (λ k below. omega (arith, tree.tiled.times k below)) tree.tiled.ordered tree.within
@@ -112,7 +112,7 @@ tree_rises xs tree = open_rise xs (λ k below. omega (arith, tree.tiled.times k 
 zero_by : (b : Bool) (x : ShardState) (xs : List ShardState) (n : ℕ) → is_open x ≡ b
     → 1 ≤ count_if b (one x.range 0) + n → (1 ≤ n → begins_at xs 0 ≡ true)
     → ((b && (x.range.start == 0)) || begins_at xs 0) ≡ true
-zero_by false x xs n isb h rest = rest (omega (arith, h))
+zero_by false x xs n isb h rest = rest (omega arith)
 zero_by true x xs n isb h rest = by (x.range.start == 0) refl
   where
     later : (r : Span) → (r.start == 0) ≡ false → one r 0 ≡ 0

@@ -21,8 +21,8 @@ has_more least by last p q r e f same joined from = λ n a b.
     ap (times n) joined ∙ times_append n p.joined (accounts_of q) in
     let own : has n (account r.by r.own) ≡ has n (account p.by p.own) = ap (λ (k : ℕ). has n (account k [])) same in
     dite (ℕ_discrete by n)
-    (λ is. let one = has_one n (account q.by q.own) (f ∙ is) in omega (arith, all, own, one))
-    (λ ne. let before = from n (omega (arith, e, a, ne)) b in omega (arith, all, own, before))
+    (λ is. let one = has_one n (account q.by q.own) (f ∙ is) in omega arith)
+    (λ ne. let before = from n (omega arith) b in omega arith)
 
 -- the passes before the last one are of the hall as well
 pub all_front : (id : TableId) (all xs : List Standing) (x : Standing) → all ≡ xs ++ x ∷ [] → All (λ p. p.hall ≡ id) all

@@ -32,7 +32,7 @@ overflow_add-at g c =
     let low : c.loop-at.at + c.args.tick < 2 ^ 62 =
     moment_left (length c.loop-at.pass.own) (3 * c.args.turns) c.args.tick c.loop-at.at inv.at more
     c.requires.moments in
-    omega (arith, low)
+    omega arith
 
 pub moment-requires : goal.moment-requires
 moment-requires g c =
@@ -48,7 +48,7 @@ loop-at-smaller g c =
     inv.finishing inv.none_due (sym c.loop-at-test.ensures) in
     let one = length_added c.moment.result c.loop-at.pass.own c.last_round.new.pass.own
     c.in_ok-last_round.ensures.added in
-    omega (arith, more, one)
+    omega arith
 
 pub loop-at-preserved : goal.loop-at-preserved
 loop-at-preserved g c =

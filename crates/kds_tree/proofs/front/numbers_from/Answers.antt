@@ -18,6 +18,6 @@ returns c = λ floor count xs front.
     let bound : at ≤ length names = search rules in
     subst (λ (us : List ℕ). AreLeft floor t (count - t) us (drop t xs)) (sym c.split_at.ensures.back)
     (names_behind floor 0 count t t (count - t) at names xs (omega arith) refl
-    (λ j d lt within. ltb-true (get_or names j d) t (point.0 j d (omega arith) (omega (arith, lt))))
-    (λ j d le within. ltb-false (get_or names j d) t (point.1 j d (omega (arith, le)) (omega (arith, within))))
+    (λ j d lt within. ltb-true (get_or names j d) t (point.0 j d (omega arith) (omega arith)))
+    (λ j d le within. ltb-false (get_or names j d) t (point.1 j d (omega arith) (omega arith)))
     front)

@@ -43,7 +43,7 @@ invariant_of-self-then-is_deletion c =
     let set = changed_there vs a.no f good c.no.inside.0 c.no.view_is at.result.now at.ensures.value
     (with_entry a.clock a.what.now) c.add.new.self c.in_ok-add.ensures.ok in
     let some = (is_of vs a.no f good).some in
-    let first : a.no ≡ 1 + (a.no - 1) = omega (arith, some) in
+    let first : a.no ≡ 1 + (a.no - 1) = omega arith in
     c.take_out.ensures
     ∙ ap (filter (λ n. not (n == a.no))) c.self.invariant
     ∙ sym (deleted_live a.clock (a.no - 1) a.no a.what.now vs (sym c.is_deletion.ensures ∙ c.if-is_deletion.true) first)
