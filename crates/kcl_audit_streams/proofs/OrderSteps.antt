@@ -12,13 +12,6 @@ use Rattle.kcl_audit_streams.proofs.BatchSteps.{left_in}
 
 -- ---- puts
 
-abbrev AreUnder : ℕ → List Sized → Type 0
-AreUnder next rs = AllByRecursion (λ (r : Sized). r.seq < next) rs
-
-under_more : (next : ℕ) (rs : List Sized) → AreUnder next rs → AreUnder (next + 1) rs
-under_more next [] h = tt
-under_more next (r ∷ rs) h = let one : r.seq < next = h.0 in (omega arith, under_more next rs h.1)
-
 -- ---- positions
 
 -- a record below the position isn't left

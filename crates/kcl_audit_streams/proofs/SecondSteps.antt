@@ -14,70 +14,9 @@ use Rattle.kcl_audit_streams.proofs.RateSteps.{sized}
 
 -- ---- puts
 
-abbrev UpTo : ℕ → List Sized → Type 0
-UpTo second rs = AllByRecursion (λ (r : Sized). r.arrival / SECOND ≤ second) rs
-
 abbrev Below : ℕ → List Sized → Type 0
 Below second rs = AllByRecursion (λ (r : Sized). r.arrival / SECOND < second) rs
 
-up_more : (second : ℕ) (rs : List Sized) (r : Sized) → r.arrival / SECOND ≤ second → UpTo second rs
-    → UpTo second (rs ++ r ∷ [])
-up_more second [] r one h = (one, tt)
-up_more second (x ∷ rs) r one h = (h.0, up_more second rs r one h.1)
-
-later_one : (n old new : ℕ) → old < new → n ≤ old → n ≤ new
-later_one n old new lt le = omega arith
-
-sooner_one : (n old new : ℕ) → old < new → n ≤ old → n < new
-sooner_one n old new lt le = omega arith
-
-up_later : (old new : ℕ) (rs : List Sized) → old < new → UpTo old rs → UpTo new rs
-up_later old new [] lt h = tt
-up_later old new (r ∷ rs) lt h = (later_one (r.arrival / SECOND) old new lt h.0, up_later old new rs lt h.1)
-
-below_all : (old new : ℕ) (rs : List Sized) (r : Sized) → old < new → UpTo old rs
-    → Below new (take (length rs) (rs ++ r ∷ []))
-below_all old new [] r lt h = tt
-below_all old new (x ∷ rs) r lt h = (sooner_one (x.arrival / SECOND) old new lt h.0, below_all old new rs r lt h.1)
-
-below_same : (second start : ℕ) (rs : List Sized) (r : Sized) → start ≤ length rs → Below second (take start rs)
-    → Below second (take start (rs ++ r ∷ []))
-below_same second zero rs r few h = tt
-below_same second (suc start) [] r few h = absurd (few_none start few)
-  where
-    few_none : (n : ℕ) → suc n ≤ 0 → ⊥
-    few_none n le = omega arith
-below_same second (suc start) (x ∷ rs) r few h =
-    (h.0, below_same second start rs r (few_less start (length rs) few) h.1)
-  where
-    few_less : (n m : ℕ) → suc n ≤ suc m → n ≤ m
-    few_less n m le = omega arith
-
-length_more : (rs : List Sized) (r : Sized) → length rs ≤ length (rs ++ r ∷ [])
-length_more [] r = omega arith
-length_more (x ∷ rs) r = let one = length_more rs r in omega arith
-
-at_most : (a b c : ℕ) → a ≤ b → b ≤ c → a ≤ c
-at_most a b c x y = omega arith
-
--- a put in a later second
-pub latest_new : (old start : ℕ) (rs : List Sized) (r : Sized) → AreLatest old start rs → old < r.arrival / SECOND
-    → AreLatest (r.arrival / SECOND) (length rs) (rs ++ r ∷ [])
-latest_new old start rs r h lt =
-    let self : r.arrival / SECOND ≤ r.arrival / SECOND = omega arith in
-    record {
-      few = length_more rs r;
-      none_after = up_more (r.arrival / SECOND) rs r self (up_later old (r.arrival / SECOND) rs lt h.none_after);
-      before = below_all old (r.arrival / SECOND) rs r lt h.none_after;
-    }
-
--- ... in the latest second, or an earlier one
-pub latest_same : (second start : ℕ) (rs : List Sized) (r : Sized) → AreLatest second start rs
-    → r.arrival / SECOND ≤ second → AreLatest second start (rs ++ r ∷ [])
-latest_same second start rs r h le = record {
-  few = at_most start (length rs) (length (rs ++ r ∷ [])) h.few (length_more rs r);
-  none_after = up_more second rs r le h.none_after;
-  before = below_same second start rs r h.few h.before;
 }
 
 -- ---- a window

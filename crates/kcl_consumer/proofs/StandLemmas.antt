@@ -19,10 +19,6 @@ use Rattle.kcl_consumer.specs.declared.stage.ConsumerStage.TheVariants as stage
 use Rattle.kcl_consumer.specs.Stages.{phase_of}
 use Rattle.kcl_consumer.specs.Standing.{HasCalled, IsAsBefore, Standing, StandsFor}
 
-pub begun : {P : Type 0} (stands : P → List Call → Type 0) (c : Standing P) → c.phase ≡ Opening → c.given ≡ None
-    → stands c.processor [] → StandsFor stands c []
-begun stands c phase given calls = record { phase = phase; given = given; calls = calls }
-
 pub called : {P : Type 0} (stands : P → List Call → Type 0) (asks : P → List Stored → Ask
     → Type 0) (asked : Ask) (old new : Standing P) (past : Past) → HasCalled stands asks asked old new
     → StandsFor stands old past → StandsFor stands new (Called asked ∷ past)

@@ -171,20 +171,4 @@ breaks wanted text grows old new line_text l is may texts t =
 
 -- ---- a line by its two ways of telling
 
-pub tells_answer : (wanted : Bool) (text : List Turn → List ℕ) (s : SimValue) (ran : Ran) (l : Line)
-    (before after : List ℕ) → wanted ≡ true
-    → GoesOn wanted s ran l before after → Tells wanted text s ran l before after
-tells_answer true text s ran l before after so g = record { made = g.made; wrote = g.wrote }
-tells_answer false text s ran l before after so g = absurd cc
-
--- the text of the turns since the run of the lines before
-pub tells_text : (wanted : Bool) (text : List Turn → List ℕ) (s : SimValue) (ran : Ran) (l : Line) (since : List Turn)
-    (from to before after : List ℕ)
-    → wanted ≡ false
-    → since ≡ ran.history → GoesOn wanted s ran l from to → AddsText (text since) (text s.history) before after
-    → Tells wanted text s ran l before after
-tells_text true text s ran l since from to before after so is g adds = absurd cc
-tells_text false text s ran l since from to before after so is g adds = record {
-  made = g.made;
-  wrote = (adds.0, sym (ap text g.made.history) ∙ adds.1 ∙ ap (λ h. text h ++ adds.0) is, adds.2);
 }

@@ -293,12 +293,6 @@ noted_at r now (s ∷ seen) key order =
 
 -- ---- all rows
 
-pub order_noted_all : (rows : List Row) (now : ℕ) (seen : List Seen) → AreInOrder seen
-    → AreInOrder (noted_all rows now seen)
-order_noted_all [] now seen order = order
-order_noted_all (r ∷ rows) now seen order =
-    order_noted_all rows now (noted (first_note r now) seen) (order_noted (first_note r now) seen order)
-
 pub noted_all_at : (rows : List Row) (now : ℕ) (seen : List Seen) (key : ShardRef) → AreInOrder seen
     → seen_at (noted_all rows now seen) key ≡ after_rows rows now (seen_at seen) key
 noted_all_at [] now seen key order = refl

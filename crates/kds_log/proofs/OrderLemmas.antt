@@ -59,11 +59,6 @@ orderly-left log floor position orderly = record {
 
 -- ---- trims
 
-left_choice : (b : Bool) (x : Stored) (xs : List Stored) (ys : List Logged) → map logged xs ≡ ys
-    → map logged (cond b (x ∷ xs) xs) ≡ cond b (logged x ∷ ys) ys
-left_choice true x xs ys h = ap (λ zs. logged x ∷ zs) h
-left_choice false x xs ys h = h
-
 -- ---- the least number
 
 at_front : (n : ℕ) (ns : List ℕ) → Contains (n ∷ ns) n

@@ -5,12 +5,6 @@ use Rattle.kds_rate.specs.Windows.{WindowValue}
 use Rattle.kds_stream_logs.specs.declared.windows.SavedWindow.{SavedWindow}
 use Rattle.kds_stream_logs.specs.Saved.{DiffersAt, restored}
 
--- to put back what is there changes nothing
-pub set_same : (ws : List WindowValue) (i : ℕ) → DiffersAt i ws ws
-set_same [] i w is = refl
-set_same (v ∷ ws) zero w is = ap (λ (u : WindowValue). u ∷ ws) is
-set_same (v ∷ ws) (suc i) w is = ap (λ (us : List WindowValue). v ∷ us) (set_same ws i w is)
-
 -- nor does it after the window at that place was set
 pub set_back : (ws : List WindowValue) (i : ℕ) (u : WindowValue) → DiffersAt i (slice_set ws i u) ws
 set_back [] i u w is = refl

@@ -17,27 +17,9 @@ use Rattle.kds_tree.specs.Tree.{IsTree, IsWithinKeys}
 
 -- ---- keys
 
-or_swap : (a b c : Bool) → (a || (b || c)) ≡ (b || (a || c))
-or_swap true true c = refl
-or_swap true false c = refl
-or_swap false true c = refl
-or_swap false false c = refl
-
 -- ---- members of a list with one start more
 
-in_place : (lt : Bool) (b x k : ℕ) (xs : List ℕ) → is_start (with_start b xs) k ≡ ((b == k) || is_start xs k)
-    → is_start (cond lt (b ∷ x ∷ xs) (x ∷ with_start b xs)) k ≡ ((b == k) || is_start (x ∷ xs) k)
-in_place true b x k xs m = refl
-in_place false b x k xs m = ap (λ (r : Bool). (x == k) || r) m ∙ or_swap (x == k) (b == k) (is_start xs k)
-
 -- ---- rising lists
-
-rise_placed : (lt same : Bool) (b n x : ℕ) (xs : List ℕ) → nat_lt b x ≡ lt → (x == b) ≡ same → same ≡ false → n ≤ b
-    → n ≤ x → RiseFrom (x + 1) xs
-    → (x + 1 ≤ b → RiseFrom (x + 1) (with_start b xs)) → RiseFrom n (cond lt (b ∷ x ∷ xs) (x ∷ with_start b xs))
-rise_placed true same b n x xs l s f h k r ih = let a : b + 1 ≤ x = grind (arith, nat_tests) in (h, (a, r))
-rise_placed false true b n x xs l s f h k r ih = absurd (cc)
-rise_placed false false b n x xs l s f h k r ih = let a : x + 1 ≤ b = grind (arith, nat_tests) in (k, ih a)
 
 -- ---- the starts of open shards
 
