@@ -1,5 +1,5 @@
 -- What a consumer's calls do to the record that it stands for.
-use Rattle.std.proofs.Common.{◌≡◌, ℕ, Bool, false, List, [], ◌∷◌, Option, None, Ok, Err, refl, sym, ap, subst, ◌∙◌}
+use Rattle.std.proofs.Common.{◌≡◌, ℕ, Bool, false, List, ◌∷◌, Option, None, Ok, Err, refl, sym, ap, subst, ◌∙◌}
 use Rattle.std.specs.Prelude.{Result}
 use Rattle.kds_defs.specs.declared.command.Target.{Target}
 use Rattle.kcl_defs.specs.declared.consumer.Ask.{Ask}
@@ -9,7 +9,7 @@ use Rattle.kcl_defs.specs.declared.consumer.Tenancy.{Tenancy}
 use Rattle.kds_defs.specs.declared.reply.Refusal.{Refusal}
 use Rattle.kds_defs.specs.declared.reply.Reply.{Reply}
 use Rattle.kds_defs.specs.declared.reply.Stored.{Stored}
-use Rattle.kcl_defs.specs.Consumers.{Answered, Called, Filling, Giving, Losing, Opening, Past, after_answer, after_call}
+use Rattle.kcl_defs.specs.Consumers.{Answered, Called, Filling, Giving, Losing, Past, after_answer, after_call}
 use Rattle.kcl_defs.specs.Consumers.{after_give, after_loss, after_read, call_at, calls_after, given_after, phase_after}
 use Rattle.kcl_defs.specs.Consumers.{with_call}
 use Rattle.kcl_defs.specs.Lives.{last_given}

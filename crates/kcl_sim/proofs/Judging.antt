@@ -8,11 +8,10 @@ use Rattle.kds_lines.specs.Taking.{Goes, Breaks, GoesOn as TextGoesOn}
 use Rattle.kds_defs.specs.declared.command.Turn.{Turn}
 use Rattle.kcl_script.specs.declared.line.Line.{Line}
 use Rattle.kcl_script.specs.Line.{line_of}
-use Rattle.kcl_sim.specs.Keeping.{AddsText}
 use Rattle.kcl_sim.proofs.MoreTurns.{line_grows}
 use Rattle.kcl_sim.specs.Output.{Ran, fresh, with_line, output_of, with_schedule, outputs}
 use Rattle.kcl_sim.specs.Schedule.{whole, judge_form, judge, preceded_by}
-use Rattle.kcl_sim.specs.Standing.{GoesOn, IsTold, MayHaveBroken, RunsSo, SimValue, Tells}
+use Rattle.kcl_sim.specs.Standing.{IsTold, MayHaveBroken, RunsSo, SimValue, Tells}
 use Rattle.kcl_sim.specs.Taking.{Broke, judged_texts, told_texts, Took, texts_output}
 
 pub outputs-append : (ran : Ran) (ls ks : List Line)

@@ -1,7 +1,7 @@
 -- Notes on rows, in the order of their keys, and read by their keys.
 use Rattle.std.proofs.Common.{◌≡◌, ℕ, zero, suc, ◌<◌, ◌≤◌, length, slice_set, Bool, true, false}
 use Rattle.std.proofs.Common.{List, [], ◌∷◌, Option, Some, None, refl, sym, ap, subst, ◌∙◌, arith}
-use Rattle.std.specs.Prelude.{◌==◌, ◌&&◌, cond, if◌then◌else◌, slice_get, slice_index_or}
+use Rattle.std.specs.Prelude.{◌==◌, cond, if◌then◌else◌, slice_get, slice_index_or}
 use Rattle.std.specs.List.{insert}
 use Rattle.std.specs.List.Sorted.{IsPartitionedBy, IsPartitionPoint}
 use Rattle.std.proofs.lemmas.Bool.Decides.{nat_tests}

@@ -1,11 +1,10 @@
 -- Records in order: what an append and a trim do to them, and which of them has the least number.
-use Rattle.std.proofs.Common.{◌≡◌, ℕ, ◌<◌, ◌≤◌, Bool, true, false, List, [], ◌∷◌, ◌++◌, Option, Some, None, refl, ap}
+use Rattle.std.proofs.Common.{ℕ, ◌<◌, ◌≤◌, Bool, true, false, List, [], ◌∷◌, ◌++◌, Option, Some, None, refl}
 use Rattle.std.proofs.Common.{arith}
-use Rattle.std.specs.Prelude.{cond, map, IfSome}
+use Rattle.std.specs.Prelude.{cond, IfSome}
 use Rattle.std.specs.List.{AllByRecursion, Contains, filter}
 use Rattle.kds_base.proofs.Facts.{all_append, all_weaker, all_both, all_filter}
-use Rattle.kds_defs.specs.Records.{Logged, is_left, left_among, logged, numbers_of}
-use Rattle.kds_defs.specs.declared.reply.Stored.{Stored}
+use Rattle.kds_defs.specs.Records.{Logged, is_left, left_among, numbers_of}
 use Rattle.kds_log.specs.Log.{LogValue, IsBefore, AreInOrder, IsUpTo, IsOrderly, first_number, since, IsLeast}
 
 -- ---- order

@@ -1,13 +1,13 @@
 -- The starts of the open shards in rising order: they are those of a partition.
 use Rattle.std.proofs.Common.{◌≡◌, ℕ, zero, suc, ◌+◌, ◌^◌, ◌<◌, ◌≤◌, Bool, true, false, List, [], ◌∷◌, refl, sym, ap}
 use Rattle.std.proofs.Common.{subst, ◌∙◌, arith}
-use Rattle.std.specs.Prelude.{cond, ◌==◌, ◌&&◌, ◌||◌, nat_lt}
+use Rattle.std.specs.Prelude.{cond, ◌==◌, ◌&&◌, ◌||◌}
 use Rattle.std.specs.List.{AllByRecursion, filter}
 use Rattle.std.proofs.lemmas.Bool.Decides.{nat_tests}
 use Rattle.std.proofs.lemmas.Bool.{false_from_ne_true}
 use Rattle.kds_base.specs.Span.{Span}
 use Rattle.kds_base.proofs.Facts.{equal_so}
-use Rattle.kds_defs.specs.Scaling.{AreStarts, RiseFrom, is_start, with_start}
+use Rattle.kds_defs.specs.Scaling.{AreStarts, RiseFrom, is_start}
 use Rattle.kds_defs.specs.ScaleCommands.{starts_among}
 use Rattle.kds_defs.specs.Shards.{ShardState, is_open}
 use Rattle.kds_defs.specs.Tiled.{one, count_if, open_times, IsOrdered}
