@@ -9,8 +9,6 @@ use Rattle.kcl_audit_streams.specs.declared.records.Sized.{Sized}
 use Rattle.kcl_audit_streams.specs.Standing.{is_in}
 use Rattle.kcl_audit_streams.proofs.BatchSteps.{left_in}
 
--- ---- puts
-
 -- ---- positions
 
 -- a record below the position isn't left

@@ -17,8 +17,6 @@ use Rattle.kcl_audit_streams.proofs.RateSteps.{sized}
 abbrev Below : ℕ → List Sized → Type 0
 Below second rs = AllByRecursion (λ (r : Sized). r.arrival / SECOND < second) rs
 
-}
-
 -- ---- a window
 
 window_cons : (c : ℕ) (p : SizedPut) (a b : List SizedPut) (t : Bool) → is_same_second p.clock c ≡ t

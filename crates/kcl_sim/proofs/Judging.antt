@@ -167,7 +167,3 @@ pub breaks : (wanted : Bool) (text : List Turn → List ℕ) → Grows text
 breaks wanted text grows old new line_text l is may texts t =
     breaks_by wanted text grows old new line_text l is texts t
     (may (with_schedule fresh (judged_texts texts).lines) t.made)
-
--- ---- a line by its two ways of telling
-
-}

@@ -56,8 +56,6 @@ orderly-left log floor position orderly = record {
   numbers = all_filter (IsUpTo log.last) (is_left floor position) log.kept orderly.numbers;
 }
 
--- ---- trims
-
 -- ---- the least number
 
 at_front : (n : ℕ) (ns : List ℕ) → Contains (n ∷ ns) n

@@ -1,7 +1,6 @@
 pub mod Clocks
 pub mod Cuts
 pub mod Listed
-pub mod ListedKeys
 pub mod LogLemmas
 pub mod NewStreams
 pub mod Opens

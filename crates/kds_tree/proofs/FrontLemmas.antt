@@ -1,10 +1,14 @@
 -- What stays true of the shards at the front, and that listings may pass over those that aren't named.
 use Rattle.std.proofs.Common.{◌≡◌, ℕ, zero, suc, ◌+◌, ◌-◌, ◌<◌, ◌≤◌, Bool, true, false, List, [], ◌∷◌, ◌++◌, drop}
 use Rattle.std.proofs.Common.{get_or, length, map, Option, Some, None, refl, sym, ap, subst, ◌∙◌, arith, inl, inr}
-use Rattle.std.specs.Prelude.{cond, max, not, slice_get, slice_set, ◌⊎◌}
+use Rattle.std.specs.Prelude.{cond, max, not, slice_get, slice_set}
 use Rattle.std.specs.List.{filter}
 use Rattle.std.proofs.lemmas.Bool.Decides.{nat_tests}
-use Rattle.kds_defs.specs.Listings.{is_after_shard}
+use Rattle.std.proofs.lemmas.List.{append_assoc, map-append}
+use Rattle.std.proofs.lemmas.List.Elements.{filter-append}
+use Rattle.kds_base.specs.declared.lease_key.ShardRef.{ShardRef}
+use Rattle.kds_defs.specs.Keys.{ref}
+use Rattle.kds_defs.specs.Listings.{is_after_shard, refs_of}
 use Rattle.kds_defs.specs.Shards.{Closing, ShardState, is_closed_below, is_open, listed_among, shown, was_closed_below}
 use Rattle.kds_defs.specs.Streams.{floor_of}
 use Rattle.kds_tree.specs.Front.{AreLeft, listing, picked, picked_before}
@@ -277,6 +281,23 @@ listing_left cut after xs names c start m left is behind =
     ∙ ap (map shown) (listed_left (floor_of cut) start (c - start) names (drop start xs) xs (λ j. get_drop start j xs)
     left)
     ∙ listing_behind cut after xs (drop start xs) behind
+
+-- the keys of the named shards and then those of the shards behind the front are the keys of all
+pub keys_left : (s f c : ℕ) (names : List ℕ) (xs : List ShardState) (keys now new : List ShardRef)
+    → AreLeft f 0 c names xs
+    → now ≡ keys ++ refs_of s (listed_among f (picked names xs))
+    → new ≡ now ++ refs_of s (listed_among f (drop c xs))
+    → new ≡ keys ++ refs_of s (listed_among f xs)
+keys_left s f c names xs keys now new left is_now is_new =
+    let first = picked names xs in
+    is_new
+    ∙ ap (λ ks. ks ++ refs_of s (listed_among f (drop c xs))) is_now
+    ∙ append_assoc keys (refs_of s (listed_among f first)) (refs_of s (listed_among f (drop c xs)))
+    ∙ ap (λ ks. keys ++ ks)
+    (sym (map-append (λ (x : ShardState). ref s x.no) (listed_among f first) (listed_among f (drop c xs)))
+    ∙ ap (refs_of s)
+    (sym (filter-append _ first (drop c xs))
+    ∙ listed_left f 0 c names xs xs (λ j. let e : 0 + j ≡ j = omega arith in ap (slice_get xs) e) left))
 
 pub left_within : (f n c : ℕ) (names : List ℕ) (xs : List ShardState) → AreLeft f n c names xs → c ≤ length xs
 left_within f n zero names xs left = omega arith

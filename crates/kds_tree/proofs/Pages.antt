@@ -1,11 +1,13 @@
--- Pages with room for all that is listed.
+-- Pages with room for all that is listed, and numbers at which there is no shard.
 use Rattle.std.proofs.Common.{◌≡◌, ℕ, zero, suc, ◌≤◌, false, List, [], ◌∷◌, ◌++◌, length, take, Option, None, refl, sym}
-use Rattle.std.proofs.Common.{ap, subst, ◌∙◌, arith}
+use Rattle.std.proofs.Common.{ap, subst, arith}
 use Rattle.std.specs.Prelude.{nat_lt, slice_get}
 use Rattle.std.proofs.lemmas.Bool.Decides.{nat_tests}
 use Rattle.std.proofs.lemmas.List.{append-nil}
+use Rattle.kds_base.specs.declared.lease_key.ShardRef.{ShardRef}
 use Rattle.kds_defs.specs.declared.reply.Shard.{Shard}
-use Rattle.kds_defs.specs.Shards.{ShardState}
+use Rattle.kds_defs.specs.Listings.{refs_of}
+use Rattle.kds_defs.specs.Shards.{ShardState, listed_among}
 use Rattle.kds_tree.specs.Front.{Lists, listing, picked_before}
 
 take_whole : (n : ℕ) (xs : List Shard) → length xs ≤ n → take n xs ≡ xs
@@ -40,3 +42,10 @@ pub none_more : (limit : ℕ) (cut : Option ℕ) (listed : List Shard) (o : Opti
 none_more limit cut listed o none few =
     subst (λ (p : Option ShardState). Lists limit (listed ++ listing cut (picked_before p [])) listed false) (sym none)
     (subst (λ (us : List Shard). Lists limit us listed false) (sym (append-nil listed)) (whole limit listed few))
+
+-- where there is no shard, there is no key
+pub no_key : (s floor : ℕ) (keys : List ShardRef) (o : Option ShardState) → o ≡ None
+    → keys ≡ keys ++ refs_of s (listed_among floor (picked_before o []))
+no_key s floor keys o none =
+    subst (λ (p : Option ShardState). keys ≡ keys ++ refs_of s (listed_among floor (picked_before p []))) (sym none)
+    (sym (append-nil keys))

@@ -15,12 +15,6 @@ use Rattle.kds_defs.proofs.Members.{in_with_start}
 use Rattle.kds_defs.proofs.Rising.{rise_with, none_below}
 use Rattle.kds_tree.specs.Tree.{IsTree, IsWithinKeys}
 
--- ---- keys
-
--- ---- members of a list with one start more
-
--- ---- rising lists
-
 -- ---- the starts of open shards
 
 -- an open shard starts at the key

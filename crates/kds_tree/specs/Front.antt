@@ -1,5 +1,5 @@
 -- The shards at the front of a list: those that have expired, and the others, which are named.
-use Rattle.std.specs.Prelude.{ℕ, zero, suc, ◌≡◌, ◌⊎◌, true, Bool, List, [], ◌∷◌, ◌++◌, map, take, slice_get, Option}
+use Rattle.std.specs.Prelude.{ℕ, zero, suc, ◌≡◌, ◌⊎◌, true, Bool, List, [], ◌∷◌, map, take, slice_get, Option}
 use Rattle.std.specs.Prelude.{Some, None}
 use Rattle.kds_defs.specs.declared.reply.Shard.{Shard}
 use Rattle.kds_defs.specs.Listings.{are_more}

@@ -16,6 +16,7 @@ use std::alloc::Global;
 /// except for the shards `left`.
 #[derive(Drop)]
 pub struct ExpiredFront {
+    /// How many shards the front has. Its last shard has expired, unless memory ran out before it was reached.
     pub count: usize,
     /// The numbers of those of the first `count` shards that may not have expired, in rising order. At most as many
     /// shards are in this list as were open together.
@@ -79,7 +80,8 @@ pub fn numbers_from(numbers: &[ShardNo], start: usize) -> &[ShardNo]
 }
 
 /// Extends `front` to the later trim horizon `cut`, if a shard expired since. If `cut` is earlier than the trim
-/// horizon of `front`, `front` is unchanged. If memory runs out, `front` has fewer shards than it could have.
+/// horizon of `front`, `front` is unchanged. If memory runs out, `front` has fewer shards than it could have, and the
+/// next call goes on from there.
 pub fn move_on(front: &mut ExpiredFront, shards: &[KeptShard], cut: Option<Moment>)
     ensures { AreLeft (floor_of front.old.cut) 0 front.old.count front.old.left.items shards.now
         → AreLeft (floor_of front.new.cut) 0 front.new.count front.new.left.items shards.now }
@@ -91,7 +93,17 @@ pub fn move_on(front: &mut ExpiredFront, shards: &[KeptShard], cut: Option<Momen
     remove_expired(&mut front.left, shards, &cut);
     front.count = pass_until(&mut front.left, shards, &cut, front.count, end);
     front.cut = cut;
-    front.child = child;
+    front.child = child_after(front, child, end);
+}
+
+/// Returns the index of a shard from which the next call of `move_on` goes on: `child`, or the same as before if memory
+/// ran out before the front reached the index `end`.
+fn child_after(front: &ExpiredFront, child: usize, end: usize) -> usize {
+    if front.count >= end {
+        child
+    } else {
+        front.child
+    }
 }
 
 /// Returns the index of the first shard, from the index `start` on, with a parent that hasn't expired at the trim

@@ -5,7 +5,7 @@ ghost use Rattle.std.specs.List.{AllByRecursion, filter};
 ghost use Rattle.std.specs.Option.{option_map};
 ghost use Rattle.kds_base.specs.Span.{joined};
 ghost use Rattle.kds_defs.specs.declared.limits.TheConstants.{MOST_SHARDS};
-ghost use Rattle.kds_defs.specs.Listings.{are_more, is_after_shard};
+ghost use Rattle.kds_defs.specs.Listings.{are_more, is_after_shard, refs_of};
 ghost use Rattle.kds_defs.specs.Scaling as scaling;
 ghost use Rattle.kds_defs.specs.ScaleCommands.{starts_among};
 ghost use Rattle.kds_defs.specs.Shards.{children_among, home_among, is_open, listed_among, made_shards, merged_shards};
@@ -20,8 +20,9 @@ ghost use Rattle.kds_tree.specs.Tree.{split_parts, split_refusal, was_expired};
 use crate::family::{children_in, family_of, no_children, set_first_child};
 use crate::front::{ExpiredFront, is_expired_at, move_on, no_front, numbers_from, passed_at};
 use crate::kept::KeptShard;
+use crate::listed_keys::{add_numbers, add_rest};
 use crate::start::{OpenStart, home_of, remove_starts, sort_starts};
-use kds_base::{Items, Memory, Moment, Range, Seq, ShardNo};
+use kds_base::{Items, Memory, Moment, Range, Seq, ShardNo, ShardRef, StreamNo};
 use kds_defs::{Refusal, Shard};
 use std::alloc::Global;
 use std::marker::Model;
@@ -154,6 +155,23 @@ impl ShardTree {
             &cut,
             limit,
         )
+    }
+
+    /// Appends the keys of the shards that haven't expired at the trim horizon `cut` to `keys`, in the order of the
+    /// shards' numbers. `stream` is the number of the stream, the first part of each key.
+    pub fn add_listed(
+        &self,
+        cut: Option<Moment>,
+        stream: StreamNo,
+        keys: &mut Items<ShardRef>,
+    ) -> Result<(), Memory>
+        ensures { OnOk result (keys.new ≡ keys.old
+            ++ refs_of stream (listed_among (floor_of cut) self.now.shards)) }
+    {
+        let (passed, left) = passed_at(&self.front, &self.shards, &cut);
+        add_numbers(keys, stream, &self.shards, left, &cut)?;
+        let (_, rest) = self.shards.split_at(passed);
+        add_rest(keys, stream, rest, &cut)
     }
 
     /// Remembers which shards at the beginning of the list have expired at the trim horizon `cut`, so that listings can

@@ -49,15 +49,7 @@ impl Stream {
         ensures { OnOk result (keys.new ≡ keys.old
             ++ refs_of self.now.no (listed_among (floor_of self.now.cut) self.now.tree)) }
     {
-        for i in 0..self.logs.len() {
-            if let Some(shard) = self.listed(ShardNo(i as u64)) {
-                keys.push(ShardRef {
-                    stream: self.no,
-                    shard: shard.no,
-                })?;
-            }
-        }
-        Ok(())
+        self.tree.add_listed(self.cut, self.no, keys)
     }
 
     /// Returns a shard iterator, issued at the stream's clock, for the position in the shard that `from` selects

@@ -1,4 +1,4 @@
-use Rattle.std.proofs.Common.{◌≡◌, ◌-◌, ◌+◌, ◌<◌, ◌≤◌, List, ℕ, drop, get_or, length, ltb, refl, rules, arith, subst}
+use Rattle.std.proofs.Common.{◌-◌, ◌≤◌, List, ℕ, drop, get_or, length, ltb, refl, rules, arith, subst}
 use Rattle.std.proofs.Common.{sym}
 use Rattle.std.proofs.lemmas.Bool.{ltb-false, ltb-true}
 use Rattle.std.proofs.lemmas.List.Sorted.{IsPartitionPoint-from_clause, IsPartitionedBy-ltb}

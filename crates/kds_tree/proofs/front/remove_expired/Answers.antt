@@ -1,8 +1,7 @@
-use Rattle.std.proofs.Common.{◌≡◌, ◌+◌, ◌∙◌, Bool, true, false, List, ℕ, Option, Some, None, ap, arith, refl, rules}
+use Rattle.std.proofs.Common.{Bool, List, ℕ, rules}
 use Rattle.std.proofs.Common.{subst, sym}
 use Rattle.std.specs.Prelude.{not, slice_get}
 use Rattle.std.proofs.lemmas.Fn.{filter_same}
-use Rattle.kds_defs.specs.Shards.{ShardState, is_closed_below}
 use Rattle.kds_defs.specs.Streams.{floor_of}
 use Rattle.kds_tree.specs.Front.{AreLeft}
 use Rattle.kds_tree.specs.Tree.{was_expired}

@@ -1,0 +1,12 @@
+use Rattle.std.proofs.Common.{◌≡◌, ◌++◌, drop}
+use Rattle.kds_defs.specs.Listings.{refs_of}
+use Rattle.kds_defs.specs.Shards.{listed_among}
+use Rattle.kds_defs.specs.Streams.{floor_of}
+use Rattle.kds_tree.specs.Front.{picked}
+use Rattle.kds_tree.proofs.listed_keys.add_numbers.Given as goal
+
+-- with the keys that are left, the keys so far are all of them
+abbrev pub invariant-loop-no : goal.invariant-loop-no
+invariant-loop-no l =
+    l.keys ++ refs_of l.stream (listed_among (floor_of l.cut) (picked (drop l.no-index l.numbers) l.shards))
+    ≡ l.initial.keys ++ refs_of l.stream (listed_among (floor_of l.cut) (picked l.numbers l.shards))
