@@ -1,108 +1,108 @@
 #!/usr/bin/env python3
-"""No turn looks at every shard that was ever made. A replay of rounds, each a split or a merge with requests behind it, takes at most 3 times the
-processor time when there are twice as many rounds: 20,000 closed shards and more, and not 10,000. The same is true of rounds whose requests come two days
-later, when the closed shards have expired. A turn that goes over them all makes it 4 times, and more where they no longer fit the processor's caches.
-Each time is the least of three runs, the lengths in turn; where that isn't enough, since the machine does other things, of twice as many."""
-import base64
+"""The work of a replay or an audit grows as its length does (.ci/growing.py has what is run): twice as many rounds take at most 2.3 times the
+instructions. A turn that goes over all closed shards, or an audit that goes over all records, makes it more. Instructions are counted by valgrind. Where
+that isn't installed, processor time is measured over ten times as many rounds, and may be 3 times as much: it also grows where the data no longer fit the
+processor's caches. Each time is the least of three runs, the lengths in turn; where that isn't enough, since the machine does other things, of six.
+
+    .ci/growth.py [WORD]     WORD: only the kinds whose names have it"""
+import concurrent.futures
 import os
+import re
+import shutil
 import subprocess
 import sys
 import tempfile
 import threading
 
 from checks import SECONDS, Tally, asked, fail, program
+from growing import KINDS
 
-DAY = 86_400_000
-ROUNDS = 10_000
+COUNTED = shutil.which('valgrind')
+ROUNDS, MOST = (1_000, 2.3) if COUNTED else (10_000, 3)
 RUNS = 3
-MOST = 3
+REFS = re.compile(r'I\s+refs:\s+([\d,]+)')
 
 
-def rounds(count, requests):
-    """A split and a merge in turn, each with requests about one of the shards that are closed by then."""
-    yield '1000 api CreateStream {"StreamName":"s","ShardCount":1}'
-    last, made = 0, 1  # the open shard, and how many were made
-    for number in range(count):
-        at = 1000 + number
-        if number % 2 == 0:
-            yield f'{at} api SplitShard {{"StreamName":"s","ShardToSplit":"shardId-{last:012}","NewStartingHashKey":"{2**127 + number}"}}'
-            closed, made = last + 1, made + 2
-        else:
-            yield (f'{at} api MergeShards {{"StreamName":"s","ShardToMerge":"shardId-{made - 2:012}",'
-                   f'"AdjacentShardToMerge":"shardId-{made - 1:012}"}}')
-            closed, last, made = made, made, made + 1
-        yield from requests(at, number, number * 7919 % closed)
-
-
-def put_and_look(at, number, shard):
-    """A put, a read of a closed shard to its end, and the five shards behind it."""
-    token = base64.b64encode(f'KI1:1:{shard}:0:{at}'.encode()).decode()
-    yield f'{at} api PutRecord {{"StreamName":"s","PartitionKey":"key-{number}","Data":"aGk="}}'
-    yield f'{at} api GetRecords {{"ShardIterator":"{token}"}}'
-    yield f'{at} api ListShards {{"StreamName":"s","ExclusiveStartShardId":"shardId-{shard:012}","MaxResults":5}}'
-
-
-def put_many_of_one(at, number, _):
-    yield f'{at} api PutRecords {{"StreamName":"s","Records":[{{"PartitionKey":"key-{number}","Data":"aGk="}}]}}'
-
-
-def first_pages(count):
-    """The rounds alone, and two days later as many first pages of a shard: all closed shards have expired."""
-    yield from rounds(count, lambda *_: ())
-    for number in range(count):
-        yield f'{1000 + count + 2 * DAY + number} api ListShards {{"StreamName":"s","MaxResults":1}}'
-
-
-# A name, and the lines of so many rounds.
-KINDS = [
-    ('a put, the end of a closed shard, five shards behind it', lambda count: rounds(count, put_and_look)),
-    ('a PutRecords of one', lambda count: rounds(count, put_many_of_one)),
-    ('a first page among expired shards', first_pages),
-]
-
-
-def seconds(schedule, lines):
-    """The processor time of a replay of a file of so many lines, that of the kernel among it. Each must have its answer."""
-    with open(schedule, 'rb') as source, tempfile.TemporaryFile() as out:
-        child = subprocess.Popen([KDS, 'replay'], stdin=source, stdout=out)
+def ended(command, source, out=subprocess.DEVNULL):
+    """Runs a command on a file to its end, and returns what it wrote on standard error, and its processor time, that of the kernel among it."""
+    with open(source, 'rb') as given, tempfile.TemporaryFile() as told:
+        child = subprocess.Popen(command, stdin=given, stdout=out, stderr=told)
         limit = threading.Timer(SECONDS, child.kill)
         limit.start()
         _, status, usage = os.wait4(child.pid, 0)
         limit.cancel()
         child.returncode = os.waitstatus_to_exitcode(status)
+        told.seek(0)
+        text = told.read().decode(errors='replace')
+    if child.returncode != 0:
+        fail(f'{" ".join(command)}: status {child.returncode}: {text[-200:]}')
+    return text, usage.ru_utime + usage.ru_stime
+
+
+def cost(word, source):
+    """What a run of the program takes: its instructions in millions, or its time in seconds."""
+    if COUNTED:
+        text, _ = ended([COUNTED, '--tool=cachegrind', '--cache-sim=no', '--cachegrind-out-file=/dev/null', KDS, word], source)
+        return int(REFS.search(text)[1].replace(',', '')) / 1e6
+    return ended([KDS, word], source)[1]
+
+
+def check_answered(schedule, lines):
+    """Each line of a schedule has its answer, and none was refused."""
+    with tempfile.TemporaryFile() as out:
+        ended([KDS, 'replay'], schedule, out)
         out.seek(0)
-        answered = sum(line.startswith(b'200') for line in out)
-    if child.returncode != 0 or answered != lines:
-        fail(f'a replay: status {child.returncode}, {answered} answers of {lines} that are 200')
-    return usage.ru_utime + usage.ru_stime
+        bad = [line for line in out if not line.startswith(b'200') and (line.startswith((b'refused', b'4', b'5')) or b' = refused' in line)]
+        out.seek(0)
+        count = sum(1 for _ in out)
+    if bad or count != lines:
+        fail(f'{schedule}: {count} answers to {lines} lines, of which {len(bad)} are refusals, as {bad[:1]}')
 
 
-def measured(folder, kind):
-    """The least times of both lengths."""
-    schedules = []
-    for count in (ROUNDS, 2 * ROUNDS):
-        lines = list(kind(count))
-        schedules.append((f'{folder}/{count}', len(lines)))
-        with open(schedules[-1][0], 'w') as text:
-            text.writelines(line + '\n' for line in lines)
-    times = [], []
-    while len(times[0]) < RUNS or len(times[0]) < 2 * RUNS and min(times[1]) > MOST * min(times[0]):
-        for (schedule, lines), found in zip(schedules, times):
-            found.append(seconds(schedule, lines))
-    return min(times[0]), min(times[1])
+def written(folder, name, kind, count, audited):
+    """The file of so many rounds of a kind: a schedule, or the journal of one."""
+    schedule = f'{folder}/{name} {count}'.replace(',', '')
+    lines = 0
+    with open(schedule, 'w') as text:
+        for line in kind(count):
+            text.write(line + '\n')
+            lines += not re.match(r'\d+ worker ', line)
+    check_answered(schedule, lines)
+    if not audited:
+        return schedule
+    with open(f'{schedule} journal', 'wb') as journal:
+        ended([KDS, 'replay', '--journal'], schedule, journal)
+    return f'{schedule} journal'
+
+
+def measured(folder, name, kind, audited):
+    """The least costs of both lengths."""
+    word = 'audit' if audited else 'replay'
+    files = [written(folder, name, kind, count, audited) for count in (ROUNDS, 2 * ROUNDS)]
+    costs = [], []
+    while len(costs[0]) < (1 if COUNTED else RUNS) or not COUNTED and len(costs[0]) < 2 * RUNS and min(costs[1]) > MOST * min(costs[0]):
+        for file, found in zip(files, costs):
+            found.append(cost(word, file))
+    for file in files:
+        os.remove(file)
+    return min(costs[0]), min(costs[1])
 
 
 def main():
     global KDS  # the program to be checked
-    asked(__doc__, '.ci/growth.py')
+    words = asked(__doc__, '.ci/growth.py [WORD]', lambda words: len(words) < 2)
+    kinds = [kind for kind in KINDS if not words or words[0] in kind[0]]
     KDS = program()
-    tally, told = Tally(), []
-    with tempfile.TemporaryDirectory() as folder:
-        for name, kind in KINDS:
-            one, two = measured(folder, kind)
-            told.append(f'{two / one:.1f}')
-            tally.holds(two <= MOST * one, f'{name}: {one:.2f} seconds for {ROUNDS:,} rounds, and {two:.2f}, {two / one:.1f} times as much, for {2 * ROUNDS:,}')
-    return tally.end(f'growth when rounds double: {", ".join(told)}: ')
+    tally, unit = Tally(), 'million instructions' if COUNTED else 'seconds'
+    with tempfile.TemporaryDirectory() as folder, concurrent.futures.ThreadPoolExecutor(os.cpu_count() if COUNTED else 1) as pool:
+        found = list(pool.map(lambda kind: measured(folder, *kind), kinds))
+    for (name, _, _), (one, two) in zip(kinds, found):
+        says = f'{name}: {one:.2f} {unit} for {ROUNDS:,} rounds, and {two:.2f}, {two / one:.2f} times as much, for {2 * ROUNDS:,}'
+        tally.holds(two <= MOST * one, says)
+        if words:
+            print(says)
+    worst = max((two / one for one, two in found), default=0)
+    return tally.end(f'growth of {unit} when rounds double, at most {worst:.2f}: ')
 
 
 if __name__ == '__main__':

@@ -19,7 +19,7 @@ abbrev pub left_in : ℕ → ℕ → ℕ → List Sized → List Logged
 left_in sh floor position xs = left_among floor position (records_in xs sh)
 
 -- one record more
-left_by : (sh floor position : ℕ) (x : Sized) (xs : List Sized) (a b : Bool) → is_in sh x ≡ a
+pub left_by : (sh floor position : ℕ) (x : Sized) (xs : List Sized) (a b : Bool) → is_in sh x ≡ a
     → is_left floor position (logged x) ≡ b
     → left_in sh floor position (x ∷ xs)
     ≡ cond (a && b) (logged x ∷ left_in sh floor position xs) (left_in sh floor position xs)

@@ -1,3 +1,5 @@
+pub mod ApartSteps
+pub mod ArrivalSteps
 pub mod BatchSteps
 pub mod BatchTold
 pub mod Changed

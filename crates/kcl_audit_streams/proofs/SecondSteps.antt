@@ -1,5 +1,5 @@
 -- The records of the latest second: what a put does to them, and that earlier ones count nothing there.
-use Rattle.std.proofs.Common.{◌≡◌, ℕ, zero, suc, ◌-◌, ◌<◌, ◌≤◌, Bool, true, false, List, [], ◌∷◌, length}
+use Rattle.std.proofs.Common.{◌≡◌, ℕ, zero, suc, ◌+◌, ◌-◌, ◌<◌, ◌≤◌, Bool, true, false, List, [], ◌∷◌, ◌++◌, length}
 use Rattle.std.proofs.Common.{drop, take, refl, ap, ◌∙◌, arith}
 use Rattle.std.specs.Prelude.{◌/◌, ◌==◌, if◌then◌else◌}
 use Rattle.std.specs.List.{AllByRecursion}
@@ -16,6 +16,43 @@ use Rattle.kcl_audit_streams.proofs.RateSteps.{sized}
 
 abbrev Below : ℕ → List Sized → Type 0
 Below second rs = AllByRecursion (λ (r : Sized). r.arrival / SECOND < second) rs
+
+abbrev UpTo : ℕ → List Sized → Type 0
+UpTo second rs = AllByRecursion (λ (r : Sized). r.arrival / SECOND ≤ second) rs
+
+up_more : (second : ℕ) (rs : List Sized) (r : Sized) → r.arrival / SECOND ≤ second → UpTo second rs
+    → UpTo second (rs ++ r ∷ [])
+up_more second [] r one h = (one, tt)
+up_more second (x ∷ rs) r one h = (h.0, up_more second rs r one h.1)
+
+below_same : (second start : ℕ) (rs : List Sized) (r : Sized) → start ≤ length rs → Below second (take start rs)
+    → Below second (take start (rs ++ r ∷ []))
+below_same second zero rs r few h = tt
+below_same second (suc start) [] r few h = absurd (few_none start few)
+  where
+    few_none : (n : ℕ) → suc n ≤ 0 → ⊥
+    few_none n le = omega arith
+below_same second (suc start) (x ∷ rs) r few h =
+    (h.0, below_same second start rs r (few_less start (length rs) few) h.1)
+  where
+    few_less : (n m : ℕ) → suc n ≤ suc m → n ≤ m
+    few_less n m le = omega arith
+
+length_more : (rs : List Sized) (r : Sized) → length rs ≤ length (rs ++ r ∷ [])
+length_more [] r = omega arith
+length_more (x ∷ rs) r = let one = length_more rs r in omega arith
+
+at_most : (a b c : ℕ) → a ≤ b → b ≤ c → a ≤ c
+at_most a b c x y = omega arith
+
+-- a put in the latest second, or in an earlier one, leaves them the latest
+pub latest_same : (second start : ℕ) (rs : List Sized) (r : Sized) → AreLatest second start rs
+    → r.arrival / SECOND ≤ second → AreLatest second start (rs ++ r ∷ [])
+latest_same second start rs r h le = record {
+  few = at_most start (length rs) (length (rs ++ r ∷ [])) h.few (length_more rs r);
+  none_after = up_more second rs r le h.none_after;
+  before = below_same second start rs r h.few h.before;
+}
 
 -- ---- a window
 

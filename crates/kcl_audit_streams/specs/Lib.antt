@@ -1,3 +1,4 @@
+pub mod Apart
 pub mod Judging
 pub mod Living
 pub mod Order

@@ -1,6 +1,7 @@
--- In which seconds the records of a stream arrived.
-use Rattle.std.specs.Prelude.{ℕ, ◌/◌, ◌<◌, ◌≤◌, List, length, take}
+-- When the records of a shard arrived.
+use Rattle.std.specs.Prelude.{ℕ, ◌≡◌, ◌/◌, ◌<◌, ◌≤◌, Bool, true, List, length, take}
 use Rattle.std.specs.List.{AllByRecursion}
+use Rattle.std.specs.List.Sorted.{IsNonDecreasingBy}
 use Rattle.kds_defs.specs.declared.limits.TheConstants.{SECOND}
 use Rattle.kcl_audit_streams.specs.declared.records.Sized.{Sized}
 
@@ -9,3 +10,9 @@ pub record AreLatest (second start : ℕ) (rs : List Sized) : Type 0 where
   pub few : start ≤ length rs
   pub none_after : AllByRecursion (λ (r : Sized). r.arrival / SECOND ≤ second) rs
   pub before : AllByRecursion (λ (r : Sized). r.arrival / SECOND < second) (take start rs)
+
+-- what is kept of the times of these records: the latest second, how many arrived before it, and whether each arrived no
+-- earlier than those before it
+pub record AreTimed (second start : ℕ) (rising : Bool) (rs : List Sized) : Type 0 where
+  pub latest : AreLatest second start rs
+  pub order : rising ≡ true → IsNonDecreasingBy (λ (r : Sized). r.arrival) rs

@@ -1,7 +1,7 @@
-//! The records of a stream in the judge's model of the streams. The judge checks the entries of a journal, which is an
-//! event log. The model keeps the records in a plain list (see decision 66). A record is trimmed once its retention
-//! period is over.
-ghost use Rattle.std.specs.Prelude.{ℕ, ◌≡◌, ◌==◌, ◌&&◌, ◌∷◌, ◌++◌, [], IfOk, OnErr, OnOk};
+//! What the judge asks of a list of records: the batch of a read, the first record since a moment, and whether the
+//! throughput limits leave room for a further record. The judge checks the entries of a journal, which is an event log.
+//! A record is trimmed once its retention period is over.
+ghost use Rattle.std.specs.Prelude.{ℕ, ◌≡◌, ◌==◌, ◌&&◌, max, IfOk};
 ghost use Rattle.std.specs.List.Sorted.{IsNonDecreasingBy};
 ghost use Rattle.kds_defs.specs.Rates.{is_same_second, is_throttled, is_too_much};
 ghost use Rattle.kds_defs.specs.declared.limits.TheConstants.{BATCH_BYTES};
@@ -12,7 +12,6 @@ ghost use Rattle.kcl_audit_streams.specs.Standing.{logged, puts_in, records_in};
 use kds_base::{Items, Memory, Moment, Seq, ShardNo};
 use kds_defs::limits::{BATCH_BYTES, SECOND, SECOND_BYTES, SECOND_RECORDS};
 use std::alloc::Global;
-use std::marker::Model;
 
 /// What the model keeps of a record: its shard, its sequence number, its arrival time, and the size of its payload and
 /// partition key together, in bytes.
@@ -22,28 +21,6 @@ pub struct Sized {
     pub seq: Seq,
     pub arrival: Moment,
     pub bytes: u64,
-}
-
-/// The records of a stream, in the order in which they were put.
-#[derive(Drop)]
-pub struct Records {
-    items: Vec<Sized>,
-    /// The latest second of the clock in which a record arrived, in seconds, or 0 if there is no record.
-    second: u64,
-    /// How many records there were when the first record of this second arrived. These arrived in earlier seconds.
-    start: usize,
-}
-
-impl Model for Records {
-    ghost use Rattle.std.specs.Prelude.{List};
-    ghost use Rattle.kcl_audit_streams.specs.declared.records.Sized.{Sized};
-    ghost use Rattle.kcl_audit_streams.specs.Seconds.{AreLatest};
-
-    ghost Value = { List Sized };
-
-    ghost invariant = { λ s. AreLatest s.second s.start s.items.items };
-
-    ghost view = { λ s. s.items.items };
 }
 
 /// Whether a read of `shard` at `position` can return the record: the record belongs to the shard, isn't trimmed, and
@@ -62,6 +39,18 @@ pub fn from_position(records: &[Sized], position: u64) -> &[Sized]
         ≡ left_among floor position (records_in records.now shard) }
 {
     let start = records.partition_point(|item| item.seq.0 < position);
+    &records[start..]
+}
+
+/// Returns the tail of `records` that begins with the first record that arrived at the moment `least` or later.
+/// Precondition: `records` is sorted by arrival time.
+pub fn from_arrival(records: &[Sized], least: u64) -> &[Sized]
+    requires { IsNonDecreasingBy (λ r. r.arrival) records.now }
+    ensures { (shard floor moment otherwise : ℕ) → max floor moment ≡ least
+        → first_at (left_among floor 0 (records_in result.now shard)) moment otherwise
+        ≡ first_at (left_among floor 0 (records_in records.now shard)) moment otherwise }
+{
+    let start = records.partition_point(|item| item.arrival.ms() < least);
     &records[start..]
 }
 
@@ -148,7 +137,7 @@ fn is_too_much(records: u64, held: u64, bytes: u64) -> bool
 
 /// Whether the throughput limits prevent `shard` from accepting a record of `bytes` bytes (payload and partition key
 /// together) at the time `clock`, by these records alone.
-fn is_throttled_by(records: &[Sized], shard: ShardNo, clock: Moment, bytes: u64) -> bool
+pub fn is_throttled_by(records: &[Sized], shard: ShardNo, clock: Moment, bytes: u64) -> bool
     ensures { result ≡ is_throttled (puts_in records.now shard) clock bytes }
 {
     let mut count = 0;
@@ -160,50 +149,4 @@ fn is_throttled_by(records: &[Sized], shard: ShardNo, clock: Moment, bytes: u64)
         }
     }
     is_too_much(count, held, bytes)
-}
-
-impl Records {
-    /// Returns the list without records.
-    pub fn new(alloc: Global) -> Records
-        ensures { result ≡ [] }
-    {
-        Records {
-            items: Vec::new(alloc),
-            second: 0,
-            start: 0,
-        }
-    }
-
-    /// Returns the records in order.
-    pub fn as_slice(&self) -> &[Sized]
-        ensures { result.now ≡ self.now }
-    {
-        self.items.as_slice()
-    }
-
-    /// Adds `item` at the end. If memory runs out, the records are unchanged.
-    pub fn push(&mut self, item: Sized) -> Result<(), Memory>
-        ensures ok { OnOk result (self.new ≡ self.old ++ item ∷ []) }
-        ensures err { OnErr result (self.new ≡ self.old) }
-    {
-        let count = self.items.len();
-        let second = item.arrival.ms() / SECOND;
-        self.items.push(item)?;
-        if second > self.second {
-            self.second = second;
-            self.start = count;
-        }
-        Ok(())
-    }
-
-    /// Whether the throughput limits prevent `shard` from accepting a record of `bytes` bytes (payload and partition
-    /// key together) at the time `clock` (Kinesis API Reference, ProvisionedThroughputExceededException).
-    pub fn is_throttled(&self, shard: ShardNo, clock: Moment, bytes: u64) -> bool
-        ensures { result ≡ is_throttled (puts_in self.now shard) clock bytes }
-    {
-        if clock.ms() / SECOND < self.second {
-            return is_throttled_by(&self.items, shard, clock, bytes);
-        }
-        is_throttled_by(&self.items[self.start..], shard, clock, bytes)
-    }
 }

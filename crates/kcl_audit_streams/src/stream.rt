@@ -19,8 +19,9 @@ ghost use Rattle.kcl_audit_streams.specs.Judging.{with_entry, with_gone, with_ho
 ghost use Rattle.kcl_audit_streams.specs.Judging.{with_split};
 ghost use Rattle.kcl_audit_streams.specs.Standing.{floor_in, is_listed_in};
 
-use crate::records::{Records, Sized, batch, first_since, from_position, none_left};
+use crate::records::{Sized, batch, first_since, none_left};
 use crate::rule::Rule;
+use crate::stream_records::Records;
 use kds_base::{Items, Memory, Moment, Name, Seq, ShardNo};
 use kds_defs::limits::{FIRST_HOURS, HOUR};
 use kds_defs::{Entry, Origin, Refusal, Shard, place_after_numbers};
@@ -280,20 +281,14 @@ impl ToldStream {
         ensures end { IfOk result (λ r. r.1 ≡ is_end_in self.now clock shard position r.0) }
     {
         let floor = self.floor(clock);
-        let ahead = from_position(self.records.as_slice(), position);
+        let ahead = self.records.ahead(shard, position);
         let numbers = batch(alloc, ahead, shard, floor, position, limit)?;
         let place = place_after_numbers(position, numbers.as_slice());
         let closed = match self.tree.shard(shard) {
             Some(shown) => shown.end.is_some(),
             None => false,
         };
-        let end = closed
-            && none_left(
-                from_position(self.records.as_slice(), place),
-                shard,
-                floor,
-                place,
-            );
+        let end = closed && none_left(self.records.ahead(shard, place), shard, floor, place);
         Ok((numbers, end))
     }
 
@@ -306,10 +301,11 @@ impl ToldStream {
             Origin::TrimHorizon => 0,
             Origin::Latest => self.next,
             Origin::Time(moment) => {
+                let floor = self.floor(clock);
                 first_since(
-                    self.records.as_slice(),
+                    self.records.since(shard, floor, moment),
                     shard,
-                    self.floor(clock),
+                    floor,
                     moment,
                     self.next,
                 )

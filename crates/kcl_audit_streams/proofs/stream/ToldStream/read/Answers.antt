@@ -7,10 +7,9 @@ pub place_after_numbers-place-requires : goal.place_after_numbers-place-requires
 place_after_numbers-place-requires c =
     let a = c.args in
     rw (
-      c.as_slice-2.ensures,
-      c.in_ok-numbers.ensures,
-      c.from_position-ahead.ensures a.shard c.floor-floor.result,
       c.as_slice.ensures,
+      c.in_ok-numbers.ensures,
+      c.ahead-ahead.ensures c.floor-floor.result,
     ) (batch_below (2 ^ 64 - 1) a.shard c.floor-floor.result a.position a.limit BATCH_BYTES
     c.self.inside.records c.self.invariant.1.0)
 
@@ -19,7 +18,6 @@ returns-clause-small c =
     let a = c.args in
     rw (
       c.in_ok-numbers.ensures,
-      c.from_position-ahead.ensures a.shard c.floor-floor.result,
-      c.as_slice.ensures,
+      c.ahead-ahead.ensures c.floor-floor.result,
     ) (batch_below (2 ^ 64 - 1) a.shard c.floor-floor.result a.position a.limit BATCH_BYTES
     c.self.inside.records c.self.invariant.1.0)

@@ -4,7 +4,7 @@ use Rattle.kds_defs.specs.declared.limits.TheConstants.{SECOND}
 use Rattle.kds_defs.specs.Rates.{is_throttled}
 use Rattle.kcl_audit_streams.specs.Standing.{puts_in}
 use Rattle.kcl_audit_streams.proofs.SecondSteps.{throttled_latest}
-use Rattle.kcl_audit_streams.proofs.records.Records.is_throttled.Goals as goal
+use Rattle.kcl_audit_streams.proofs.shard_records.ShardRecords.is_throttled.Goals as goal
 
 pub returns : goal.returns
 returns c =
@@ -15,5 +15,5 @@ returns c =
     let by : c.is_throttled_by-2.result
     ≡ is_throttled (puts_in (take (length rs - me.start) (drop me.start rs)) a.shard) a.clock a.bytes =
     search rules in
-    by ∙ throttled_latest me.second me.start a.clock a.shard a.bytes rs c.self.invariant later
+    by ∙ throttled_latest me.second me.start a.clock a.shard a.bytes rs c.self.invariant.latest later
     ∙ ap (λ xs. is_throttled (puts_in xs a.shard) a.clock a.bytes) c.self.view_is

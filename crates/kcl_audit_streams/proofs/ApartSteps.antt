@@ -1,0 +1,113 @@
+-- The records of each shard apart: what a put does to them, and that a shard's own records answer what is asked of it.
+use Rattle.std.proofs.Common.{◌≡◌, ℕ, zero, suc, ◌<◌, ◌≤◌, Bool, true, false, List, [], ◌∷◌, ◌++◌, length, map, refl}
+use Rattle.std.proofs.Common.{get_or, sym, ap, ◌∙◌, arith}
+use Rattle.std.specs.Prelude.{◌==◌, cond, if◌then◌else◌, slice_get, slice_set, Option, Some, None}
+use Rattle.std.specs.List.{filter}
+use Rattle.std.proofs.lemmas.Bool.Decides.{nat_tests}
+use Rattle.std.proofs.lemmas.List.{append-nil}
+use Rattle.std.proofs.lemmas.List.Elements.{filter-append}
+use Rattle.kds_defs.specs.Rates.{SizedPut}
+use Rattle.kds_defs.specs.Records.{first_at, left_among}
+use Rattle.kcl_audit_streams.specs.declared.records.Sized.{Sized}
+use Rattle.kcl_audit_streams.specs.Apart.{AreApart, records_at, records_or_none}
+use Rattle.kcl_audit_streams.specs.Standing.{is_in, logged, puts_from, puts_in, records_in}
+use Rattle.kcl_audit_streams.proofs.RateSteps.{sized}
+
+-- ---- a shard's own records
+
+twice_one : (sh : ℕ) (x : Sized) (xs : List Sized) (b : Bool) → is_in sh x ≡ b
+    → filter (is_in sh) xs ≡ filter (is_in sh) (filter (is_in sh) xs)
+    → cond b (x ∷ filter (is_in sh) xs) (filter (is_in sh) xs)
+    ≡ filter (is_in sh) (cond b (x ∷ filter (is_in sh) xs) (filter (is_in sh) xs))
+twice_one sh x xs true e h =
+    ap (λ ys. x ∷ ys) h
+    ∙ sym (ap (λ c. cond c (x ∷ filter (is_in sh) (filter (is_in sh) xs)) (filter (is_in sh) (filter (is_in sh) xs))) e)
+twice_one sh x xs false e h = h
+
+pub twice : (sh : ℕ) (xs : List Sized) → filter (is_in sh) xs ≡ filter (is_in sh) (filter (is_in sh) xs)
+twice sh [] = refl
+twice sh (x ∷ xs) = twice_one sh x xs (is_in sh x) refl (twice sh xs)
+
+-- the records of a shard are those among its own
+pub records_own : (sh : ℕ) (xs own : List Sized) → own ≡ filter (is_in sh) xs → records_in own sh ≡ records_in xs sh
+records_own sh xs own is = ap (λ ys. map logged (filter (is_in sh) ys)) is ∙ ap (map logged) (sym (twice sh xs))
+
+puts_one : (sh : ℕ) (before : List SizedPut) (x : Sized) (xs : List Sized) (b : Bool) → is_in sh x ≡ b
+    → ((ps : List SizedPut) → puts_from ps xs sh ≡ puts_from ps (filter (is_in sh) xs) sh)
+    → puts_from (if b then sized x ∷ before else before) xs sh
+    ≡ puts_from before (cond b (x ∷ filter (is_in sh) xs) (filter (is_in sh) xs)) sh
+puts_one sh before x xs true e h =
+    h (sized x ∷ before)
+    ∙ sym (ap (λ c. puts_from (if c then sized x ∷ before else before) (filter (is_in sh) xs) sh) e)
+puts_one sh before x xs false e h = h before
+
+puts_of_own : (sh : ℕ) (xs : List Sized) (before : List SizedPut)
+    → puts_from before xs sh ≡ puts_from before (filter (is_in sh) xs) sh
+puts_of_own sh [] before = refl
+puts_of_own sh (x ∷ xs) before = puts_one sh before x xs (is_in sh x) refl (puts_of_own sh xs)
+
+pub puts_own : (sh : ℕ) (xs own : List Sized) → own ≡ filter (is_in sh) xs → puts_in own sh ≡ puts_in xs sh
+puts_own sh xs own is = ap (λ ys. puts_in ys sh) is ∙ sym (puts_of_own sh xs [])
+
+-- ---- room for further shards
+
+empty_behind : (shards : List (List Sized)) (sh : ℕ) → records_at (shards ++ [] ∷ []) sh ≡ records_at shards sh
+empty_behind [] zero = refl
+empty_behind [] (suc sh) = refl
+empty_behind (rs ∷ shards) zero = refl
+empty_behind (rs ∷ shards) (suc sh) = empty_behind shards sh
+
+pub more_room : (shards new more : List (List Sized)) (sh : ℕ) → new ≡ shards ++ [] ∷ []
+    → records_at new sh ≡ records_at shards sh
+more_room shards new more sh is = ap (λ us. records_at us sh) is ∙ empty_behind shards sh
+
+-- ---- a put
+
+set_here : (shards : List (List Sized)) (n : ℕ) (rs : List Sized) → n < length shards
+    → records_at (slice_set shards n rs) n ≡ rs
+set_here [] n rs lt = absurd (omega arith)
+set_here (s ∷ shards) zero rs lt = refl
+set_here (s ∷ shards) (suc n) rs lt = set_here shards n rs (omega arith)
+
+set_there : (shards : List (List Sized)) (n sh : ℕ) (rs : List Sized) → (sh ≡ n → ⊥)
+    → records_at (slice_set shards n rs) sh ≡ records_at shards sh
+set_there [] n sh rs other = refl
+set_there (s ∷ shards) zero zero rs other = absurd (other refl)
+set_there (s ∷ shards) zero (suc sh) rs other = refl
+set_there (s ∷ shards) (suc n) zero rs other = refl
+set_there (s ∷ shards) (suc n) (suc sh) rs other = set_there shards n sh rs (λ e. other (ap suc e))
+
+put_one : (shards : List (List Sized)) (all : List Sized) (item : Sized) (sh : ℕ) (b : Bool) → is_in sh item ≡ b
+    → AreApart shards all → item.shard < length shards
+    → records_at (slice_set shards item.shard (records_at shards item.shard ++ item ∷ [])) sh
+    ≡ filter (is_in sh) all ++ cond b (item ∷ []) []
+put_one shards all item sh true e apart lt =
+    let same : item.shard ≡ sh = same_shard item.shard sh e in
+    ap (records_at (slice_set shards item.shard (records_at shards item.shard ++ item ∷ []))) (sym same)
+    ∙ set_here shards item.shard (records_at shards item.shard ++ item ∷ []) lt
+    ∙ ap (λ n. records_at shards n ++ item ∷ []) same
+    ∙ ap (λ rs. rs ++ item ∷ []) (apart sh)
+  where
+    same_shard : (n m : ℕ) → (n == m) ≡ true → n ≡ m
+    same_shard n m e = grind (arith, nat_tests)
+put_one shards all item sh false e apart lt =
+    set_there shards item.shard sh (records_at shards item.shard ++ item ∷ [])
+    (λ same. other_shard item.shard sh e (sym same))
+    ∙ apart sh ∙ sym (append-nil (filter (is_in sh) all))
+  where
+    other_shard : (n m : ℕ) → (n == m) ≡ false → n ≡ m → ⊥
+    other_shard n m e same = grind (arith, nat_tests)
+
+-- a put goes behind the records of its shard
+pub apart_put : (shards : List (List Sized)) (all : List Sized) (item : Sized) → AreApart shards all
+    → item.shard < length shards
+    → AreApart (slice_set shards item.shard (records_at shards item.shard ++ item ∷ [])) (all ++ item ∷ [])
+apart_put shards all item apart lt = λ sh.
+    put_one shards all item sh (is_in sh item) refl apart lt
+    ∙ sym (filter-append (is_in sh) all (item ∷ []))
+
+pub at_index : (shards : List (List Sized)) (n : ℕ) (d : List Sized) → n < length shards
+    → get_or shards n d ≡ records_at shards n
+at_index [] n d lt = absurd (omega arith)
+at_index (rs ∷ shards) zero d lt = refl
+at_index (rs ∷ shards) (suc n) d lt = at_index shards n d (omega arith)
