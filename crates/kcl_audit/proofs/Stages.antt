@@ -1,5 +1,5 @@
 -- Where an audit stands after one more line.
-use Rattle.std.proofs.Common.{◌≡◌, ℕ, true, false, List, [], ◌∷◌, ◌++◌, refl, sym, ap, subst, ◌∙◌, inl, inr, Some, None}
+use Rattle.std.proofs.Common.{◌≡◌, ℕ, false, List, [], ◌∷◌, ◌++◌, refl, sym, ap, subst, ◌∙◌, inl, inr, Some, None}
 use Rattle.std.specs.Prelude.{Result, Ok, Err, OnErr}
 use Rattle.kds_lines.specs.Taking.{Breaks, Goes}
 use Rattle.kcl_audit_judge.specs.Standing.{JudgeValue, Stands}
@@ -10,7 +10,7 @@ use Rattle.kcl_journal.specs.declared.line.EntryLine.{EntryLine}
 use Rattle.kcl_journal.specs.Entries.{IsVersion}
 use Rattle.kcl_audit_streams.specs.Verdict.{Verdict}
 use Rattle.kcl_audit.specs.Progress.{Progress, after_entry, fresh, line_of, next, progress, step}
-use Rattle.kcl_audit.specs.Stages.{Broke, IsAt, IsNamed, IsOver, TakerValue, Took, is_found, name_in, stage_report}
+use Rattle.kcl_audit.specs.Stages.{Broke, IsAt, IsNamed, TakerValue, Took, is_found, name_in, stage_report}
 use Rattle.kcl_audit.specs.Stages.{texts_report}
 use Rattle.kcl_audit.specs.Text.{named_text, report, rule_name}
 use Rattle.kcl_audit.proofs.Ends.{appended}
@@ -24,15 +24,6 @@ report_at (stage.Found n name) a p h = ap report h.1.0 ∙ ap (named_text n) (sy
 nothing : (s : Stage) → is_found s ≡ false → stage_report s ≡ []
 nothing (stage.Found n name) h = absurd cc
 nothing _ h = refl
-
-over_at : (s : Stage) (a : JudgeValue) (texts : List (List ℕ)) (text : List ℕ) → is_found s ≡ true
-    → IsAt s a (progress texts) → IsOver texts text
-over_at (stage.Found n name) a texts text h at = (n, (at.0, at.1.0))
-over_at _ a texts text h at = absurd cc
-
-pub is_over : (v : TakerValue) (texts : List (List ℕ)) (text : List ℕ) → is_found v.stage ≡ true → Took v texts
-    → IsOver texts text
-is_over v texts text h at = over_at v.stage v.judge texts text h at
 
 -- ---- after an entry, and after the last line
 

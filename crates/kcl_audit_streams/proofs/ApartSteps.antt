@@ -1,15 +1,14 @@
 -- The records of each shard apart: what a put does to them, and that a shard's own records answer what is asked of it.
-use Rattle.std.proofs.Common.{◌≡◌, ℕ, zero, suc, ◌<◌, ◌≤◌, Bool, true, false, List, [], ◌∷◌, ◌++◌, length, map, refl}
+use Rattle.std.proofs.Common.{◌≡◌, ℕ, zero, suc, ◌<◌, Bool, true, false, List, [], ◌∷◌, ◌++◌, length, map, refl}
 use Rattle.std.proofs.Common.{get_or, sym, ap, ◌∙◌, arith}
-use Rattle.std.specs.Prelude.{◌==◌, cond, if◌then◌else◌, slice_get, slice_set, Option, Some, None}
+use Rattle.std.specs.Prelude.{◌==◌, cond, if◌then◌else◌, slice_set}
 use Rattle.std.specs.List.{filter}
 use Rattle.std.proofs.lemmas.Bool.Decides.{nat_tests}
 use Rattle.std.proofs.lemmas.List.{append-nil}
 use Rattle.std.proofs.lemmas.List.Elements.{filter-append}
 use Rattle.kds_defs.specs.Rates.{SizedPut}
-use Rattle.kds_defs.specs.Records.{first_at, left_among}
 use Rattle.kcl_audit_streams.specs.declared.records.Sized.{Sized}
-use Rattle.kcl_audit_streams.specs.Apart.{AreApart, records_at, records_or_none}
+use Rattle.kcl_audit_streams.specs.Apart.{AreApart, records_at}
 use Rattle.kcl_audit_streams.specs.Standing.{is_in, logged, puts_from, puts_in, records_in}
 use Rattle.kcl_audit_streams.proofs.RateSteps.{sized}
 
@@ -48,18 +47,6 @@ puts_of_own sh (x ∷ xs) before = puts_one sh before x xs (is_in sh x) refl (pu
 
 pub puts_own : (sh : ℕ) (xs own : List Sized) → own ≡ filter (is_in sh) xs → puts_in own sh ≡ puts_in xs sh
 puts_own sh xs own is = ap (λ ys. puts_in ys sh) is ∙ sym (puts_of_own sh xs [])
-
--- ---- room for further shards
-
-empty_behind : (shards : List (List Sized)) (sh : ℕ) → records_at (shards ++ [] ∷ []) sh ≡ records_at shards sh
-empty_behind [] zero = refl
-empty_behind [] (suc sh) = refl
-empty_behind (rs ∷ shards) zero = refl
-empty_behind (rs ∷ shards) (suc sh) = empty_behind shards sh
-
-pub more_room : (shards new more : List (List Sized)) (sh : ℕ) → new ≡ shards ++ [] ∷ []
-    → records_at new sh ≡ records_at shards sh
-more_room shards new more sh is = ap (λ us. records_at us sh) is ∙ empty_behind shards sh
 
 -- ---- a put
 

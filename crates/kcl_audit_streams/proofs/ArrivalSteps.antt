@@ -54,4 +54,4 @@ first_from sh floor moment otherwise least xs i is point =
     ap (first_in sh floor moment otherwise) (take_all (length xs - i) (drop i xs) all)
     ∙ first_behind sh floor moment otherwise xs i
     (λ k d low lt. let low_one : (get_or xs k d).arrival < least = ltb-true _ _ (point.0 k d (omega arith) low) in
-    omega (arith, is))
+    omega arith)

@@ -7,7 +7,7 @@ use Rattle.std.proofs.lemmas.Option.{get_or_from_slice_get}
 use Rattle.kds_defs.specs.declared.reply.Refusal.{Refusal}
 use Rattle.kds_defs.specs.StreamCommands.{last_number}
 use Rattle.kds_tree.specs.Tree.{merge_refusal, split_refusal}
-use Rattle.kcl_audit_streams.specs.Judging.{agrees, changed_at, in_live, merge_verdict, refused, refused_by}
+use Rattle.kcl_audit_streams.specs.Judging.{agrees, changed_at, in_live, merge_verdict, refused_by}
 use Rattle.kcl_audit_streams.specs.Judging.{split_verdict}
 use Rattle.kcl_audit_streams.specs.Standing.{StreamValue, if_live, live_at}
 use Rattle.kcl_audit_streams.specs.Verdict.{Verdict}
@@ -75,11 +75,6 @@ module _ (vs : List StreamValue) (s : ℕ) (f : StreamValue → Verdict) (good :
 pub agrees_so : (b : Bool) → agrees b ≡ Ok tt → b ≡ true
 agrees_so true h = refl
 agrees_so false h = absurd cc
-
-past : (r : Refusal) (b : Bool) (next : Verdict) → (if b then refused r else next) ≡ Ok tt
-    → (b ≡ false) × (next ≡ Ok tt)
-past r true next h = absurd cc
-past r false next h = (refl, h)
 
 pub past_by : (o : Option Refusal) (next : Verdict) → refused_by o next ≡ Ok tt → (o ≡ None) × (next ≡ Ok tt)
 past_by (Some r) next h = absurd cc

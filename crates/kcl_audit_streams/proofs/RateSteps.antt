@@ -1,10 +1,7 @@
 -- What a shard has taken within a second, put after put.
 use Rattle.std.proofs.Common.{◌≡◌, ℕ, ◌+◌, ◌-◌, ◌^◌, ◌<◌, ◌≤◌, min, Bool, List, ◌∷◌, length, get_or, drop, sym, ap, ◌∙◌}
-use Rattle.std.proofs.Common.{arith}
-use Rattle.std.specs.Prelude.{if◌then◌else◌, nat_lt}
-use Rattle.std.proofs.lemmas.Bool.Decides.{nat_tests}
+use Rattle.std.specs.Prelude.{if◌then◌else◌}
 use Rattle.std.proofs.lemmas.List.{at_drop_more}
-use Rattle.kds_defs.specs.declared.limits.TheConstants.{SECOND_BYTES}
 use Rattle.kds_defs.specs.Rates.{SizedPut, bytes_of, window}
 use Rattle.kcl_audit_streams.specs.declared.records.Sized.{Sized}
 use Rattle.kcl_audit_streams.specs.Standing.{is_in, puts_from, puts_in}
@@ -27,7 +24,3 @@ module _ (sh c : ℕ) (xs : List Sized) (i : ℕ) (x : Sized) (within : i < leng
       at_drop_more (λ ys. puts_from before ys sh) xs i x within
       ∙ ap (λ (y : Sized). puts_from before (y ∷ drop (i + 1) xs) sh) (sym is)
       ∙ ap (λ (t : Bool). puts_from (if t then sized x ∷ before else before) (drop (i + 1) xs) sh) in_it
-
-same_test : (n held bytes : ℕ) → held ≡ min n (2 ^ 64 - 1)
-    → nat_lt SECOND_BYTES (held + bytes) ≡ nat_lt SECOND_BYTES (n + bytes)
-same_test n held bytes h = grind (arith, nat_tests)
