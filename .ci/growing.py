@@ -134,12 +134,14 @@ def quiet_reads(count):
 
 
 def rows_at_a_moment(count):
-    """Puts to a shard, each with a row of the shard that is made at the moment of the put and cut again."""
-    yield from two_shards()
+    """Reshards of a shard, and in each shard that a merge made a put and a row from the moment of the put on."""
+    stream = Stream(1, [0])
+    yield from stream.begin()
     for number in range(count):
-        yield busy_put(1000 + number)
-        yield f'{1000 + number} raw 1 make 1/1 time {1000 + number}'
-        yield f'{1000 + number} raw 1 cut 1/1 0'
+        at = 1000 + number
+        yield from stream.round(at, number)
+        yield f'{at} api PutRecord {{"StreamName":"s","PartitionKey":"a","Data":"aGk="}}'
+        yield f'{at} raw 1 make 1/{stream.open[0]} time {at}'
 
 
 def limited_puts(count):

@@ -48,26 +48,23 @@ def cost(word, source):
 
 
 def check_answered(schedule, lines):
-    """Each line of a schedule has its answer, and none was refused."""
+    """Each line of a schedule has its answer, and no request or raw command was refused. A worker's may be."""
     with tempfile.TemporaryFile() as out:
         ended([KDS, 'replay'], schedule, out)
         out.seek(0)
-        bad = [line for line in out if not line.startswith(b'200') and (line.startswith((b'refused', b'4', b'5')) or b' = refused' in line)]
-        out.seek(0)
-        count = sum(1 for _ in out)
-    if bad or count != lines:
-        fail(f'{schedule}: {count} answers to {lines} lines, of which {len(bad)} are refusals, as {bad[:1]}')
+        answers = out.read().splitlines()
+    bad = [line for line in answers if line.startswith((b'refused', b'none', b'4', b'5'))]
+    if bad or len(answers) != lines:
+        fail(f'{schedule}: {len(answers)} answers to {lines} lines, of which {len(bad)} are refusals, as {bad[:1]}')
 
 
 def written(folder, name, kind, count, audited):
     """The file of so many rounds of a kind: a schedule, or the journal of one."""
     schedule = f'{folder}/{name} {count}'.replace(',', '')
-    lines = 0
+    lines = list(kind(count))
     with open(schedule, 'w') as text:
-        for line in kind(count):
-            text.write(line + '\n')
-            lines += not re.match(r'\d+ worker ', line)
-    check_answered(schedule, lines)
+        text.writelines(line + '\n' for line in lines)
+    check_answered(schedule, len(lines))
     if not audited:
         return schedule
     with open(f'{schedule} journal', 'wb') as journal:

@@ -17,7 +17,9 @@ import shlex
 import subprocess
 import sys
 
+import idle
 import shown
+import wrap
 from checks import ROOT, Tally, asked
 from drill import drilled
 
@@ -27,8 +29,9 @@ PLACE = re.compile(r'^k[a-z]+_[a-z_]+/specs(/\w+)?$')
 DEFINED = re.compile(r'^(?:(?:[a-z]+ )?pub (?:record |data )?|  (?:[a-z]+ pub |pub record |pub data ))([\w◌-]+)', re.M)
 FUNCTION = re.compile(r'^\s*pub fn (\w+)', re.M)
 MADE = re.compile(r'(<!-- begin (\S+(?: \w+)?) -->\n)(.*?)(<!-- end -->)', re.S)
-# how many lines of proofs and of definitions are wider than WIDTH: each number may only fall
-WIDTH, WIDE = 160, {'proofs': 2775, 'specs': 32}
+# How many lines of code and clauses, of definitions and of proofs are wider than wrap.WIDTH: imports of one name, attributes and texts, which can't be
+# broken. Each number may only fall.
+WIDE = {'src': 59, 'specs': 0, 'proofs': 1}
 # Turns of phrase that have a word in the field, each with it. No page has one; what comments of the crates' code have is counted, and may only fall.
 TURNS = {
     'out of memory': r'\bwants? of memory\b',
@@ -57,8 +60,8 @@ SHARED = {
     'ask': 'the command of a request, of a worker', 'advance': 'go on: a clock, a worker, an output', 'expired': 'a lease; a token; a shard',
     'is_listed': 'of a shard, at each layer', 'position': 'of a shard, at each layer', 'shard': 'of a key, at each layer', 'lease_lines': 'laws on lines of leases',
 }
-# the most lines of a function, contract included, and the most characters of a line of a clause
-LINES, CLAUSE = 44, 200
+# the most lines of a function, its contract included, each clause counted as one
+LINES = 44
 # the kinds of change whose files CONTRIBUTING.md lists, each in a section of its own with the search that finds them
 KINDS = ['A command', 'An entry of the journal', 'A state of a stream', 'A refusal', 'A changed refusal', 'A reply with a body',
          'A command that only reads', 'Add a kind of schedule line']
@@ -390,27 +393,27 @@ def end_of(lines, start, margin):
     return len(lines) - 1
 
 
+def clause_lines(lines):
+    """The lines that go on with a clause: those behind its first one, up to where its braces close."""
+    depth, found = 0, set()
+    for at, line in enumerate(lines):
+        if depth > 0:
+            found.add(at)
+        elif not re.match(r'^\s*(requires|ensures|ghost|invariant)\b', line):
+            continue
+        depth += opened(line)
+    return found
+
+
 def check_lengths(tally, where, lines):
-    """No function has more than LINES lines, its contract included."""
+    """No function has more than LINES lines, its contract included, each clause counted as one."""
+    going_on = clause_lines(lines)
     for start, line in enumerate(lines):
         begins = BEGINS.match(line)
         end = end_of(lines, start, begins[1]) if begins else None
         if end is not None:
-            count = end - start + 1
+            count = len(set(range(start, end + 1)) - going_on)
             tally.holds(count <= LINES, f'{where}:{start + 1}: {begins[2]} has {count} lines, contract included; {LINES} are allowed')
-
-
-def check_clauses(tally, where, lines):
-    """No line of a clause has more than CLAUSE characters. A clause ends where its braces close."""
-    depth = None
-    for at, line in enumerate(lines, 1):
-        if depth is None and re.match(r'^\s*(requires|ensures|invariant)\b', line):
-            depth = 0
-        if depth is not None:
-            width = len(line.strip())
-            tally.holds(width <= CLAUSE, f'{where}:{at}: this line of a clause has {width} characters, and {CLAUSE} are allowed: name its relation')
-            depth += opened(line)
-            depth = None if depth == 0 and '}' in line else depth
 
 
 def is_told(lines, at):
@@ -435,7 +438,6 @@ def check_rules(tally):
     for where, lines in product().items():
         if where.endswith('.rt'):
             check_lengths(tally, where, lines)
-            check_clauses(tally, where, lines)
             check_sentences(tally, where, lines)
 
 
@@ -452,13 +454,25 @@ def check_shared(tally):
 
 
 def check_width(tally):
-    """There are as many wide lines as WIDE says."""
+    """There are as many wide lines as WIDE says, and none that .ci/wrap.py would break."""
+    found = {part: [] for part in WIDE}
+    for path in wrap.files_of([]):
+        for at, line in enumerate(path.read_text().splitlines(), 1):
+            if len(line) > wrap.WIDTH:
+                found[path.relative_to(ROOT).parts[2]].append((f'{path.relative_to(ROOT)}:{at}', line))
+                tally.holds(wrap.wrapped(line, path.suffix == '.rt') == [line], f'{path.relative_to(ROOT)}:{at}: .ci/wrap.py --write breaks this line')
     for part, allowed in WIDE.items():
-        files = ROOT.glob(f'crates/*/{part}/**/*.antt')
-        now = sum(len(line) > WIDTH for file in files for line in file.read_text().splitlines())
-        says = f'lines of {part} above {WIDTH} characters: {now} now, {allowed} allowed'
-        tally.holds(now <= allowed, f'{says}: break the new ones')
-        tally.holds(now >= allowed, f'{says}: set WIDE in .ci/names.py to {now}, so that it can only fall')
+        says = f'lines of {part} above {wrap.WIDTH} characters: {len(found[part])} now, {allowed} allowed'
+        tally.holds(len(found[part]) <= allowed, f'{says}: break the new ones')
+        tally.holds(len(found[part]) >= allowed, f'{says}: set WIDE in .ci/names.py to {len(found[part])}, so that it can only fall')
+
+
+def check_idle(tally):
+    """No proof lists what omega reads anyway, and no lemma or definition is named by nothing."""
+    for where, entries in idle.idle_entries():
+        tally.holds(False, f'{where}: omega reads these variables without being given them: {", ".join(entries)}')
+    for where, name in idle.unnamed():
+        tally.holds(False, f'{where}: nothing names {name}')
 
 
 def check_turns(tally):
@@ -591,6 +605,7 @@ def main():
     check_policy(tally, ROOT / 'viewer' / 'journal.html', write)
     check_rules(tally)
     check_width(tally)
+    check_idle(tally)
     check_turns(tally)
     check_shared(tally)
     return tally.end()

@@ -11,8 +11,8 @@ pub record AreLatest (second start : ℕ) (rs : List Sized) : Type 0 where
   pub none_after : AllByRecursion (λ (r : Sized). r.arrival / SECOND ≤ second) rs
   pub before : AllByRecursion (λ (r : Sized). r.arrival / SECOND < second) (take start rs)
 
--- what is kept of the times of these records: the latest second, how many arrived before it, and whether each arrived no
--- earlier than those before it
+-- what is kept of the times of these records: the latest second, how many arrived before it, and whether each arrived
+-- no earlier than those before it
 pub record AreTimed (second start : ℕ) (rising : Bool) (rs : List Sized) : Type 0 where
   pub latest : AreLatest second start rs
   pub order : rising ≡ true → IsNonDecreasingBy (λ (r : Sized). r.arrival) rs

@@ -1,6 +1,6 @@
 //! A model of the streams for the judge, which checks the entries of a journal (an event log) one after another. The
-//! model is a plain list of streams, each with a plain list of records for each shard. The judge checks an entry about a
-//! stream against the model. If the entry breaks no rule, the judge applies it to the model.
+//! model is a plain list of streams, each with a plain list of records for each shard. The judge checks an entry about
+//! a stream against the model. If the entry breaks no rule, the judge applies it to the model.
 #![tactic(auto)]
 
 mod puts;

@@ -98,8 +98,8 @@ impl Records {
         from_position(self.of_shard(shard), position)
     }
 
-    /// Returns records of `shard` in which the first one that arrived at or after both `floor` and `moment` is the first
-    /// one of the shard.
+    /// Returns records of `shard` in which the first one that arrived at or after both `floor` and `moment` is the
+    /// first one of the shard.
     pub fn since(&self, shard: ShardNo, floor: u64, moment: Moment) -> &[Sized]
         ensures { (otherwise : ℕ) → first_at (left_among floor 0 (records_in result.now shard)) moment otherwise
             ≡ first_at (left_among floor 0 (records_in self.now shard)) moment otherwise }

@@ -14,7 +14,7 @@ use std::marker::Model;
 
 /// A worker's notes on all lease rows that it has seen (Kinesis Client Library, LeaseTaker). The note on a row has the
 /// row's last seen counter, and the moment at which this counter was first seen. A row that is no longer in the lease
-/// table keeps its note. The notes are in the order of the rows' keys, so that the note on a row is found by halves.
+/// table keeps its note. The notes are in the order of the rows' keys, so the note on a row is found by binary search.
 #[derive(Drop)]
 pub struct Observed {
     seen: Vec<Seen>,

@@ -64,9 +64,9 @@ fn row_at<'a>(rows: &'a [Row], index: usize, key: &ShardRef) -> Option<&'a Row>
     if row.key == *key { Some(row) } else { None }
 }
 
-/// Returns the row whose key is `key`, by halves, or `None` if there is no such row.
+/// Returns the row whose key is `key`, by binary search, or `None` if there is no such row.
 #[tactic(auto, using(crate::proofs::Places::row_there))]
-fn row_by_halves<'a>(rows: &'a [Row], key: &ShardRef) -> Option<&'a Row>
+fn search_row<'a>(rows: &'a [Row], key: &ShardRef) -> Option<&'a Row>
     requires { AreRising (keys_of rows.now) }
     ensures { option_map (λ r. r.now) result ≡ row_of rows.now key.now }
 {
@@ -86,13 +86,13 @@ fn first_row<'a>(rows: &'a [Row], key: &ShardRef) -> Option<&'a Row>
 }
 
 /// Returns the first row with the key `key`, or `None` if no row has this key. If the keys rise, `rising` may say so;
-/// the row is then found by halves.
+/// the row is then found by binary search.
 pub fn row_of<'a>(rows: &'a [Row], key: &ShardRef, rising: bool) -> Option<&'a Row>
     requires { rising ≡ true → AreRising (keys_of rows.now) }
     ensures { option_map (λ r. r.now) result ≡ row_of rows.now key.now }
 {
     if rising {
-        row_by_halves(rows, key)
+        search_row(rows, key)
     } else {
         first_row(rows, key)
     }

@@ -146,7 +146,7 @@ fn note_free(free: &Option<Arc<AtomicBool>>, is_free: bool) {
     }
 }
 
-/// Whether a read gives up after this many slices without a byte, while so many looks in a row found no free place.
+/// Whether a read gives up after `slices` slices without a byte, if the last `crowded` looks found no free place.
 fn gives_up(slices: u32, crowded: u32) -> bool {
     (slices >= CROWDED_SLICES && crowded >= LOOKS)
         || (slices >= SHORT_SLICES && crowded >= LONG_LOOKS)

@@ -1,5 +1,5 @@
-//! The keys of the listed (unexpired) shards of a stream. The key of a shard consists of the number of its stream and the
-//! number of the shard.
+//! The keys of the listed (unexpired) shards of a stream. The key of a shard consists of the number of its stream and
+//! the number of the shard.
 ghost use Rattle.std.specs.Prelude.{◌≡◌, ◌++◌, ◌∷◌, [], ℕ, OnOk, slice_get};
 ghost use Rattle.kds_defs.specs.Listings.{refs_of};
 ghost use Rattle.kds_defs.specs.Shards.{listed_among};
