@@ -8,9 +8,9 @@ pub const REQUESTS: u32 = 1_000_000;
 /// session is live and has no whole message among its unread bytes, it can be fed at least this many bytes.
 pub const PIECE_BYTES: usize = 65_536;
 
-/// The buffer for requests of at most this many bytes is kept for the next request. The capacity of the buffer grows by
-/// doubling, so it can be twice as large as this: a buffer above that is freed as soon as no byte is unread.
-pub const KEPT_REQUEST_BYTES: usize = 524_288;
+/// The greatest capacity of a buffer for requests that is kept for the next request. A larger buffer is freed as soon
+/// as no byte is unread. What the buffer was before it grew stays with the allocator, and is about as much again.
+pub const KEPT_BUFFER_BYTES: usize = 655_360;
 
 /// The greatest number of unread bytes of a session. It is the sum of the largest sizes of a head, of a body and of a
 /// piece.
