@@ -16,8 +16,12 @@ ghost use Rattle.kds_server.specs.Texts.{Tells, IsAnswerStatus, status_at};
 ghost use Rattle.kds_server.specs.Steps.{ReadsOn, EndsThere, IsReadStop};
 
 use kds_ends::{Sink, Source, Status, write_all};
-use kds_session::limits::PIECE_BYTES;
+use kds_session::limits::{PIECE_BYTES, UNREAD_BYTES};
 use kds_session::{Session, Standing};
+
+/// The number of bytes of the buffer that each connection has. Most requests fit. A request that is longer is read on
+/// with a buffer of `PIECE_BYTES` bytes, whose pages a connection with short requests never touches.
+pub const SMALL_PIECE_BYTES: usize = 16_384;
 
 /// Writes the session's whole output to the sink. If the sink fails, a prefix of the output may have been written.
 fn flush<K: Sink>(session: &mut Session, out: &mut K) -> Result<(), Status>
@@ -63,13 +67,71 @@ pub fn write_early<K: Sink>(session: &mut Session, out: &mut K) -> Result<(), St
     }
 }
 
-/// Reads a piece of at most `PIECE_BYTES` bytes into the buffer, and feeds it to the session. Returns `false` at the
-/// end of the input. Preconditions: `PIECE_BYTES` bytes may be fed to the session, and the session's output is empty.
-/// The output must be written first, since a client may wait for its response before it sends more.
+/// Reads a piece into the buffer, and feeds it to the session. Returns `false` at the end of the input. Preconditions:
+/// the buffer has at most `PIECE_BYTES` bytes, which may be fed to the session, and the session's output is empty. The
+/// output must be written first, since a client may wait for its response before it sends more.
 fn read_piece<S: Source>(
     session: &mut Session,
     input: &mut S,
-    buffer: &mut [u8; PIECE_BYTES],
+    buffer: &mut [u8],
+) -> Result<bool, Status>
+    requires some { 0 < length buffer.old }
+    requires few { length buffer.old ≤ PIECE_BYTES }
+    requires room { PIECE_BYTES ≤ room_of session.old }
+    requires written { session.old.output ≡ [] }
+    ensures ok { OnOk result ((held : Option (List ℕ))
+        → ReadsOn (S.left input.old) session.old held (S.left input.new) session.new held) }
+    ensures ends { IfOk result (λ more. more ≡ false → IsAtEnd (S.left input.new) × (session.new ≡ session.old)) }
+    ensures grows { session.old.standing ≡ Live → IfOk result (λ more. more ≡ true
+        → (session.new ≡ record session.old { unread = session.new.unread })
+        × (length session.old.unread < length session.new.unread)) }
+    ensures err { IfErr result (λ s. session.new ≡ session.old) }
+    ensures left { IsErrOf result Status.Read → Keeps (S.left input.old) (S.left input.new) }
+    ensures kinds { IfErr result IsReadStop }
+    ensures later { S.faults input.old ≤ S.faults input.new }
+    ensures read { IsErrOf result Status.Read → Rose (S.faults input.old) (S.faults input.new) }
+{
+    match input.read(buffer) {
+        Ok(0) => Ok(false),
+        Ok(count) => {
+            let (piece, _) = buffer.split_at(count);
+            match session.feed(piece) {
+                Ok(()) => Ok(true),
+                Err(_) => Err(Status::Memory),
+            }
+        }
+        Err(_) => Err(Status::Read),
+    }
+}
+
+/// As `read_piece`, with a buffer of `PIECE_BYTES` bytes. Not inlined, since the buffer makes the frame large, and
+/// every page of a frame is touched, also by a connection whose requests are short.
+#[inline(never)]
+fn read_large_piece<S: Source>(session: &mut Session, input: &mut S) -> Result<bool, Status>
+    requires room { PIECE_BYTES ≤ room_of session.old }
+    requires written { session.old.output ≡ [] }
+    ensures ok { OnOk result ((held : Option (List ℕ))
+        → ReadsOn (S.left input.old) session.old held (S.left input.new) session.new held) }
+    ensures ends { IfOk result (λ more. more ≡ false → IsAtEnd (S.left input.new) × (session.new ≡ session.old)) }
+    ensures grows { session.old.standing ≡ Live → IfOk result (λ more. more ≡ true
+        → (session.new ≡ record session.old { unread = session.new.unread })
+        × (length session.old.unread < length session.new.unread)) }
+    ensures err { IfErr result (λ s. session.new ≡ session.old) }
+    ensures left { IsErrOf result Status.Read → Keeps (S.left input.old) (S.left input.new) }
+    ensures kinds { IfErr result IsReadStop }
+    ensures later { S.faults input.old ≤ S.faults input.new }
+    ensures read { IsErrOf result Status.Read → Rose (S.faults input.old) (S.faults input.new) }
+{
+    let mut buffer = [0u8; PIECE_BYTES];
+    read_piece(session, input, &mut buffer)
+}
+
+/// As `read_piece`, with the small buffer for the beginning of a request, and with a large one for the rest of a
+/// request that is longer than the small buffer.
+fn read_next<S: Source>(
+    session: &mut Session,
+    input: &mut S,
+    buffer: &mut [u8; SMALL_PIECE_BYTES],
 ) -> Result<bool, Status>
     requires room { PIECE_BYTES ≤ room_of session.old }
     requires written { session.old.output ≡ [] }
@@ -85,16 +147,10 @@ fn read_piece<S: Source>(
     ensures later { S.faults input.old ≤ S.faults input.new }
     ensures read { IsErrOf result Status.Read → Rose (S.faults input.old) (S.faults input.new) }
 {
-    match input.read(&mut buffer[..]) {
-        Ok(0) => Ok(false),
-        Ok(count) => {
-            let (piece, _) = buffer.split_at(count);
-            match session.feed(piece) {
-                Ok(()) => Ok(true),
-                Err(_) => Err(Status::Memory),
-            }
-        }
-        Err(_) => Err(Status::Read),
+    if session.feed_limit() > UNREAD_BYTES - SMALL_PIECE_BYTES {
+        read_piece(session, input, buffer)
+    } else {
+        read_large_piece(session, input)
     }
 }
 
@@ -124,7 +180,7 @@ pub fn exchange<S: Source, K: Sink>(
     session: &mut Session,
     input: &mut S,
     out: &mut K,
-    buffer: &mut [u8; PIECE_BYTES],
+    buffer: &mut [u8; SMALL_PIECE_BYTES],
 ) -> Option<Status>
     requires quiet { IsQuiet session.old }
     requires room { session.old.standing ≡ Live → PIECE_BYTES ≤ room_of session.old }
@@ -150,7 +206,7 @@ pub fn exchange<S: Source, K: Sink>(
         Err(status) => return Some(status),
     }
     match session.standing() {
-        Standing::Live => match read_piece(session, input, buffer) {
+        Standing::Live => match read_next(session, input, buffer) {
             Ok(true) => None,
             Ok(false) => Some(ending(session)),
             Err(status) => Some(status),

@@ -31,19 +31,19 @@ returns-in-Ok-false-clause-ended g c = λ all start given told r.
     (g.K.Sink.held c.args.out.now) (g.K.Sink.held c.flush.new.out) given told r c.in-Ok.ensures.stands
     c.in-Ok.ensures.written) in
     let ends = c.in-Ok-false.ensures.ends c.in-Ok-false.field-0-test in
-    tells_status c.whole_text.ensures c.ending.result all (g.S.Source.left c.read_piece.new.input)
-    c.read_piece.new.session c.flush.new.session c.args.session.now given told start now reads c.requires.quiet
+    tells_status c.whole_text.ensures c.ending.result all (g.S.Source.left c.read_next.new.input)
+    c.read_next.new.session c.flush.new.session c.args.session.now given told start now reads c.requires.quiet
     c.in-Ok.ensures.same ends.1 ends.0 c.ending.ensures
 
-pub returns-in-Err-read_piece-clause-ended : goal.returns-in-Err-read_piece-clause-ended
-returns-in-Err-read_piece-clause-ended g c = λ all start given told r.
-    tells_stop c.whole_text.ensures c.first_part.ensures c.in-Err-read_piece.status c.in-Err-read_piece.ensures.kinds
-    all (g.S.Source.left c.args.input.now) (g.S.Source.left c.read_piece.new.input) c.flush.new.session
+pub returns-in-Err-read_next-clause-ended : goal.returns-in-Err-read_next-clause-ended
+returns-in-Err-read_next-clause-ended g c = λ all start given told r.
+    tells_stop c.whole_text.ensures c.first_part.ensures c.in-Err-read_next.status c.in-Err-read_next.ensures.kinds
+    all (g.S.Source.left c.args.input.now) (g.S.Source.left c.read_next.new.input) c.flush.new.session
     c.args.session.now given told start (g.K.Sink.held c.flush.new.out)
     (flushed all (g.S.Source.left c.args.input.now) c.args.session.now c.flush.new.session start
     (g.K.Sink.held c.args.out.now) (g.K.Sink.held c.flush.new.out) given told r c.in-Ok.ensures.stands
     c.in-Ok.ensures.written)
-    c.requires.quiet c.in-Ok.ensures.same (λ e. c.in-Err-read_piece.ensures.left (ap Err e))
+    c.requires.quiet c.in-Ok.ensures.same (λ e. c.in-Err-read_next.ensures.left (ap Err e))
 
 pub returns-in_default : goal.returns-in_default
 returns-in_default g c = record {
