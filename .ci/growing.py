@@ -151,6 +151,9 @@ def limited_puts(count):
     yield from (f'{1000 + number} api PutRecord {{"StreamName":"s","PartitionKey":"a","Data":"aGk="}}' for number in range(count))
 
 
+# A worker keeps a note on each row that it ever saw, and plans on a copy of its notes. So its steps cost a copy of them all (docs/performance.md).
+SURVIVOR = 'steps of a worker that lived through reshards'
+BY_DECISION = {SURVIVOR: 2.8}
 # What is measured: a name, the lines of so many rounds, and whether the journal of the lines is audited in place of a replay of the lines.
 LISTINGS = [('first pages', first_page), ('whole pages', whole_page), ('later pages', later_page), ('descriptions', description),
             ('later descriptions', later_description)]
@@ -159,7 +162,7 @@ KINDS = [
     *[(f'{what} among expired shards, {shape[0]}', lambda count, shape=shape, request=request: pages(shape, count, request), False)
       for what, request in LISTINGS for shape in SHAPES],
     *[(f'pages while shards expire, {shape[0]}', lambda count, shape=shape: expiring(shape, count), False) for shape in SHAPES],
-    ('steps of a worker that lived through reshards', survivor, False),
+    (SURVIVOR, survivor, False),
     ('first surveys of many shards', first_surveys, False),
     ('an audit of streams made and deleted', made_and_deleted, True),
     ('an audit of reads beside a busy shard', quiet_reads, True),

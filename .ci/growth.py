@@ -1,6 +1,6 @@
 #!/usr/bin/env python3
 """The work of a replay or an audit grows as its length does (.ci/growing.py has what is run): twice as many rounds take at most 2.3 times the
-instructions. A turn that goes over all closed shards, or an audit that goes over all records, makes it more. Instructions are counted by valgrind. Where
+instructions, but for the kinds of BY_DECISION there. A turn that goes over all closed shards, or an audit that goes over all records, makes it more. Instructions are counted by valgrind. Where
 that isn't installed, processor time is measured over ten times as many rounds, and may be 3 times as much: it also grows where the data no longer fit the
 processor's caches. Each time is the least of three runs, the lengths in turn; where that isn't enough, since the machine does other things, of six.
 
@@ -15,7 +15,7 @@ import tempfile
 import threading
 
 from checks import SECONDS, Tally, asked, fail, program
-from growing import KINDS
+from growing import BY_DECISION, KINDS
 
 COUNTED = shutil.which('valgrind')
 ROUNDS, MOST = (1_000, 2.3) if COUNTED else (10_000, 3)
@@ -95,7 +95,7 @@ def main():
         found = list(pool.map(lambda kind: measured(folder, *kind), kinds))
     for (name, _, _), (one, two) in zip(kinds, found):
         says = f'{name}: {one:.2f} {unit} for {ROUNDS:,} rounds, and {two:.2f}, {two / one:.2f} times as much, for {2 * ROUNDS:,}'
-        tally.holds(two <= MOST * one, says)
+        tally.holds(two <= max(MOST, BY_DECISION.get(name, 0)) * one, says)
         if words:
             print(says)
     worst = max((two / one for one, two in found), default=0)
