@@ -17,6 +17,9 @@ import threading
 import time
 import unittest
 
+import recorder
+import recorder_http
+import recorder_server
 import suite
 from server import ROOT, free_port, request, responses, serving
 
@@ -35,17 +38,17 @@ def program(name):
 record = program('record')
 
 
-class Witness(record.Recorder):
+class Witness(recorder.Recorder):
     """A recorder that remembers what each line was answered."""
 
     def __init__(self, target, file):
         super().__init__(target, file)
         self.answers = []
 
-    def answer(self, head, body):
-        answer = super().answer(head, body)
-        if answer and record.operation(head) and record.one_line(body) is not None:
-            self.answers.append((record.operation(head), int(answer[0].split(b' ')[1]), answer[1]))
+    def answer(self, request):
+        answer = super().answer(request)
+        if request.operation:
+            self.answers.append((request.operation, answer.status, answer.body))
         return answer
 
 
@@ -161,7 +164,7 @@ class Beside(unittest.TestCase):
         self.assert_answered(self.connect(), plain.replace(b': ', b':\t'))
         for odd in (plain.replace(b'\r\n', b'\n', 1), plain.replace(b'\r\n', b'\n') + plain):
             self.assert_answered(self.connect(), odd, 400)
-        long = b'{"StreamName":"b","ShardCount":1,"x":"%s"}' % (b'x' * (record.MOST_BODY - 40))
+        long = b'{"StreamName":"b","ShardCount":1,"x":"%s"}' % (b'x' * (recorder_http.MOST_BODY - 40))
         self.assert_answered(self.connect(), request('CreateStream', long), 413)
         self.assertEqual(self.lines(), [b'CreateStream {"StreamName":"a","ShardCount":1}'])
 
@@ -285,13 +288,13 @@ class Amiss(Program):
 
     def in_process(self, target):
         """What the recorder's command says where it has less patience, and its status."""
-        signs, given = [(sign, signal.getsignal(sign)) for sign in (signal.SIGINT, signal.SIGTERM)], record.SILENCE
-        record.SILENCE, said = 1, io.StringIO()
+        signs, given = [(sign, signal.getsignal(sign)) for sign in (signal.SIGINT, signal.SIGTERM)], recorder_server.SILENCE
+        recorder_server.SILENCE, said = 1, io.StringIO()
         try:
             with contextlib.redirect_stderr(said), contextlib.redirect_stdout(io.StringIO()):
                 return record.main([str(self.port), str(target), str(self.path)]), said.getvalue()
         finally:
-            record.SILENCE = given
+            recorder_server.SILENCE = given
             for sign, handler in signs:
                 signal.signal(sign, handler)
 
@@ -323,12 +326,12 @@ class Amiss(Program):
             started = self.recording(server.port)
             self.assertEqual([self.ask('CreateStream', b'{"StreamName":"%s","ShardCount":1}' % name) for name in (b'a', b'b')], [200, 200])
             self.assertEqual([self.ask('DeleteStream', b'{"StreamName":"b"}'), self.ask('DeleteStream', b'{"StreamName":"b"}')], [200, 400])
-            time.sleep(record.UNUSED + 0.5)
+            time.sleep(recorder_server.LOOKED + 0.5)
             self.assertEqual(self.ask('ListStreams', b'{}'), 200)
             with server.connect() as connection:
                 connection.sendall(request('CreateStream', b'{"StreamName":"past","ShardCount":1}', close=True))
                 self.assertEqual([status for status, _ in responses(connection, 1)], [200])
-            time.sleep(record.UNUSED + 0.5)
+            time.sleep(recorder_server.LOOKED + 0.5)
             self.assertIsNone(self.ask('PutRecord', b'{"StreamName":"a","PartitionKey":"a","Data":""}'))
             self.assert_refused(started, 'the server has the streams a, past, and the lines make the streams a')
         self.assert_replays([200, 200, 200, 400, 200])
