@@ -72,7 +72,7 @@ class Server:
         self.socket = None
         self.looked = 0.0
         self.is_cut = False
-        # of each stream that there is by the answers, the number of its last record, or of its last step of a resharding
+        # of each stream that there is by the answers, the number of its last record or of its last step of a resharding
         self.last = {}
 
     def begin(self):

@@ -1,0 +1,142 @@
+"""Byte streams on their way through a recorder to a new server, and to a second new server without a recorder; and what is there at the end: what each
+client got, what the server has, and what the recorder's file replays to."""
+import base64
+import collections
+import contextlib
+import json
+import pathlib
+import re
+import signal
+import socket
+import subprocess
+import tempfile
+import time
+from concurrent.futures import ThreadPoolExecutor
+
+from recorder_bytes import STREAMS, Case
+from server import ROOT, free_port, request, responses, serving
+
+# The seconds for which a client waits for an answer or an end, and those between two pieces of a request.
+WAIT, PAUSE = 20, 0.001
+SHARDS = 2
+# What differs between two servers, and between a server and a replay.
+MOMENTS = {'ApproximateArrivalTimestamp', 'StreamCreationTimestamp', 'MillisBehindLatest', 'NextShardIterator'}
+
+Answer = collections.namedtuple('Answer', ('status', 'body', 'closes'))
+# By the number of a case, the bytes that it got through the recorder and those that it got without; how the recorder ended; what the server has;
+# the lines of the file, their answers, and what the replay has.
+Outcome = collections.namedtuple('Outcome', ('got', 'direct', 'ended', 'done', 'lines', 'answers', 'file'))
+
+
+# ---- what clients send, and what they get
+
+def sent(port, case):
+    """Sends a case on a connection of its own, and gives the bytes that come back until the end of the connection. None where there is no end."""
+    with socket.create_connection(('127.0.0.1', port), timeout=WAIT) as connection:
+        connection.setsockopt(socket.IPPROTO_TCP, socket.TCP_NODELAY, 1)
+        got = b''
+        try:
+            for piece in case.pieces:
+                connection.sendall(piece)
+                time.sleep(PAUSE if 1 < len(case.pieces) < 5 else 0)
+            if case.goes:
+                return got
+            connection.shutdown(socket.SHUT_WR)
+        except OSError:
+            pass  # the other side has refused, and takes no more
+        try:
+            while more := connection.recv(65_536):
+                got += more
+        except TimeoutError:
+            return None
+        except OSError:
+            pass
+        return got
+
+
+def answers_in(data):
+    """The answers that these bytes are, or None where they are none."""
+    found = []
+    while data:
+        head, end, rest = data.partition(b'\r\n\r\n')
+        status = re.match(rb'HTTP/1\.1 (\d{3}) ', head)
+        length = re.search(rb'\r\nContent-Length: (\d+)(?:\r\n|\Z)', head)
+        if not end or not status or not length or len(rest) < int(length[1]):
+            return None
+        found.append(Answer(int(status[1]), rest[:int(length[1])], b'\r\nConnection: close' in head))
+        data = rest[int(length[1]):]
+    return found
+
+
+def told(body, left_out=frozenset()):
+    """What a body says, but for moments and these members."""
+    def without(value):
+        if isinstance(value, dict):
+            return {name: without(it) for name, it in value.items() if name not in MOMENTS | left_out}
+        return [without(it) for it in value] if isinstance(value, list) else value
+
+    return without(json.loads(body)) if body else None
+
+
+# ---- a server, a recorder before it, and a second server without one
+
+class Bench:
+    """The recorder between clients and a new server, and beside them a second new server. Both servers have the same streams."""
+
+    def __init__(self, recorder, stack):
+        self.folder = pathlib.Path(stack.enter_context(tempfile.TemporaryDirectory()))
+        self.file, self.port = self.folder / 'session.txt', free_port()
+        self.server, self.second = stack.enter_context(serving(members=8)), stack.enter_context(serving(members=16))
+        self.process = subprocess.Popen([recorder, str(self.port), str(self.server.port), self.file], stdin=subprocess.DEVNULL, stdout=subprocess.PIPE, stderr=subprocess.PIPE)
+        stack.callback(self.process.stdout.close)
+        stack.callback(self.process.stderr.close)
+        stack.callback(self.process.kill)
+        if self.process.stdout.readline() != b'recording\n':
+            raise SystemExit(f'{recorder} did not begin: {self.process.stderr.read()!r}')
+        for port in (self.port, self.second.port):
+            for name in STREAMS:
+                body = json.dumps({'StreamName': name, 'ShardCount': SHARDS}).encode()
+                assert b' 200 ' in sent(port, Case('', [request('CreateStream', body)]))
+
+    def ended(self):
+        """Interrupts the recorder, and gives its status and words."""
+        self.process.send_signal(signal.SIGINT)
+        _, words = self.process.communicate(timeout=60)
+        return self.process.returncode, words.decode()
+
+
+def questions(now):
+    """What is asked of a server and of a replay at the end: the operations and their bodies."""
+    tokens = [base64.b64encode(f'KI1:{stream + 1}:{shard}:1:{now}'.encode()).decode() for stream in range(len(STREAMS)) for shard in range(SHARDS)]
+    return [('ListStreams', b'{}'), *(('DescribeStream', json.dumps({'StreamName': name}).encode()) for name in STREAMS),
+            *(('GetRecords', json.dumps({'ShardIterator': token}).encode()) for token in tokens)]
+
+
+def asked_of(server):
+    """What the server has, asked past the recorder."""
+    asked = questions(int(time.time() * 1000))
+    with server.connect() as connection:
+        connection.sendall(b''.join(request(*it) for it in asked))
+        return [told(body) for _, body in responses(connection, len(asked))]
+
+
+def replayed(file):
+    """The lines of the file, what each is answered, and what the machine then has."""
+    lines = [line + b'\n' for line in file.read_bytes().split(b'\n')[:-1]]
+    now = int(lines[-1].split(b' ')[0])
+    asked = [b'%d api %s %s\n' % (now, operation.encode(), body) for operation, body in questions(now)]
+    done = subprocess.run([ROOT / 'kds', 'replay'], input=b''.join(lines + asked), capture_output=True, check=False)
+    if done.returncode != 0:
+        return lines, None, f'the replay ended with {done.returncode}: {done.stderr.decode()}'
+    answers = [Answer(int(line[:3]), line[4:], False) for line in done.stdout.split(b'\n')[:-1]]
+    return lines, answers[:len(lines)], [told(answer.body) for answer in answers[len(lines):]]
+
+
+def tried(cases, recorder, clients=1):
+    """What is there after these cases, which are numbered."""
+    with contextlib.ExitStack() as stack:
+        bench = Bench(recorder, stack)
+        pool = stack.enter_context(ThreadPoolExecutor(clients))
+        got, direct = (dict(zip(cases, pool.map(lambda case: sent(port, case), cases.values()))) for port in (bench.port, bench.second.port))
+        ended = bench.ended()
+        return Outcome(got, direct, ended, asked_of(bench.server), *replayed(bench.file))
