@@ -15,8 +15,6 @@ MOST_LINE, MOST_FILE = 16_777_216, 1_073_741_824
 # The seconds for which what a client still sends is awaited, once its connection has ended. It would lose the last
 # response else.
 REST = 1
-# The seconds between two looks at the server. It ends a connection that is idle for 10.
-KEEP = 2
 
 
 def one_line(body):
@@ -38,7 +36,6 @@ class Recorder:
         self.whole = 0
         self.gone = threading.Event()
         self.why = ''
-        threading.Thread(target=self.keep, daemon=True).start()
 
     @contextlib.contextmanager
     def in_turn(self):
@@ -53,13 +50,6 @@ class Recorder:
                 self.gone.set()
             finally:
                 self.take_back()
-
-    def keep(self):
-        """Calls the server where nobody else does, so that the connection isn't idle, and its end is noticed."""
-        while not self.gone.wait(KEEP):
-            with self.in_turn():
-                if self.server.socket and not self.gone.is_set():
-                    self.server.begin()
 
     def hand_on(self, request):
         """The answer to a request. If it names an operation, it has its line then. None where the recording is over."""

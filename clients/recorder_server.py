@@ -1,5 +1,6 @@
 """The server behind the recorder, and what its answers tell: whether it is still the one of the recording, and whether
 somebody else calls it."""
+import contextlib
 import json
 import socket
 import time
@@ -10,11 +11,16 @@ HOST = '127.0.0.1'
 # The seconds for which the server may be silent. One whose places are all taken answers when one is free, and an idle
 # client has its place for 10.
 SILENCE = 30
+# The seconds after which an unused connection to the server is made anew. A server whose places are all taken ends one
+# that is idle for somewhat longer, and a request that meets its end may or may not have been done.
+UNUSED = 0.3
 # The seconds after which the server is asked once more which streams there are.
 LOOKED = 1
 # The operations that make streams, or take sequence numbers.
 FOLLOWED = (b'CreateStream', b'DeleteStream', b'SplitShard', b'MergeShards', b'UpdateShardCount', b'PutRecord',
             b'PutRecords')
+# the member that tells when a stream was made
+MADE = 'StreamCreationTimestamp'
 ANOTHER = 'it was started anew, or somebody went past the recorder'
 
 
@@ -33,20 +39,32 @@ def connected(port):
     return socket.create_connection((HOST, port), timeout=SILENCE)
 
 
-def names_in(answer):
-    """The names of the streams. There are at most 64 of them, so one page has all."""
-    return set(json.loads(answer.body)['StreamNames'])
-
-
-def streams_of(source, port):
-    """The names of the streams that a server has, which is asked on a new connection."""
+@contextlib.contextmanager
+def understood(port):
+    """What is done in it goes by answers of the program."""
     try:
-        source.sendall(asked(b'ListStreams'))
-        return names_in(answer_from(source))
+        yield
     except TimeoutError:
         raise Trouble(silent(port)) from None
     except (OSError, ValueError, TypeError, LookupError):
         raise Trouble(f'what listens at {HOST}:{port} did not answer as `kds serve` does') from None
+
+
+def streams_by(told):
+    """The streams that a server has, each with the second in which it was made. A server that was started anew has made
+    them later. `told` gives the server's answer to a question. There are at most 64 streams, so one page has all."""
+    names = told(b'ListStreams')['StreamNames']
+    return {name: told(b'DescribeStreamSummary', StreamName=name)['StreamDescriptionSummary'][MADE] for name in names}
+
+
+def streams_of(source, port):
+    """The streams of a server, which is asked on a new connection."""
+    def told(operation, **members):
+        source.sendall(asked(operation, **members))
+        return json.loads(answer_from(source).body)
+
+    with understood(port):
+        return streams_by(told)
 
 
 def silent(port):
@@ -59,41 +77,52 @@ def listed(names):
 
 def numbers_in(answer):
     """The sequence numbers that an accepted put got."""
-    told = json.loads(answer.body)
-    return [int(it['SequenceNumber']) for it in told.get('Records', [told]) if 'SequenceNumber' in it]
+    reply = json.loads(answer.body)
+    return [int(it['SequenceNumber']) for it in reply.get('Records', [reply]) if 'SequenceNumber' in it]
 
 
 class Server:
-    """The server, on one connection from the first request to the end. A server that is started anew doesn't have it.
-    It is replaced only where the server has said that it takes no more requests on it."""
+    """The server of a recording. On each new connection, and at least each second before a request, it is asked for its
+    streams: these are to be the streams that the lines made, and each is to be as old."""
 
     def __init__(self, port):
         self.port = port
         self.socket = None
-        self.looked = 0.0
+        self.used = self.looked = 0.0
         self.is_cut = False
-        # of each stream that there is by the answers, the number of its last record or of its last step of a resharding
+        # Of each stream that the lines made: when that was, and the number of its last record or step of a resharding.
+        self.made = {}
         self.last = {}
 
     def begin(self):
-        """Before a request. Raises Trouble where the server isn't the one of the recording, or has other streams."""
+        """Before a request. Raises Trouble where the server isn't the one of the recording."""
+        now = time.monotonic()
+        if now - self.used > UNUSED:
+            self.part()
         if not self.socket:
             self.connect()
-        elif time.monotonic() - self.looked > LOOKED:
-            self.look(names_in(self.answer(asked(b'ListStreams'))))
+        elif now - self.looked > LOOKED:
+            with understood(self.port):
+                self.compare(streams_by(self.told))
 
     def connect(self):
+        self.reach()
+        self.compare(streams_of(self.socket, self.port))
+
+    def reach(self):
         try:
             self.socket = connected(self.port)
         except OSError:
             raise Trouble(f'the server at {HOST}:{self.port} is gone') from None
-        self.look(streams_of(self.socket, self.port))
 
-    def look(self, names):
-        """Compares the streams that the server has with those that it made for the lines."""
-        if names != set(self.last):
-            raise Trouble(f'the server has {listed(names)}, and the lines make {listed(self.last)}: {ANOTHER}')
-        self.looked = time.monotonic()
+    def compare(self, streams):
+        """The streams that the server has are to be those that it made for the lines."""
+        if set(streams) != set(self.made):
+            raise Trouble(f'the server has {listed(streams)}, and the lines make {listed(self.made)}: {ANOTHER}')
+        anew = [name for name, made in streams.items() if made != self.made[name]]
+        if anew:
+            raise Trouble(f'the server has made {listed(anew)} once more: {ANOTHER}')
+        self.used = self.looked = time.monotonic()
 
     def part(self):
         if self.socket:
@@ -109,6 +138,8 @@ class Server:
 
     def answer(self, request):
         """The answer to the bytes of a request."""
+        if not self.socket:
+            self.reach()
         try:
             self.socket.sendall(request)
             answer = answer_from(self.socket)
@@ -117,9 +148,14 @@ class Server:
         except (OSError, ValueError):
             self.part()
             raise self.lost() from None
+        self.used = time.monotonic()
         if answer.closes:
             self.part()
         return answer
+
+    def told(self, operation, **members):
+        """What the server says to a question of the recorder's own."""
+        return json.loads(self.answer(asked(operation, **members)).body)
 
     def lost(self):
         """Why there was no answer."""
@@ -131,19 +167,18 @@ class Server:
         """Keeps which streams there are, and how far the numbers of each are. Raises Trouble where an answer doesn't
         fit."""
         if answer.status == 200 and name in FOLLOWED:
-            try:
+            with understood(self.port):
                 self.follow_stream(name, json.loads(body)['StreamName'], answer)
-            except (ValueError, TypeError, LookupError):
-                raise Trouble(f'what listens at {HOST}:{self.port} did not answer as `kds serve` does') from None
 
     def follow_stream(self, name, stream, answer):
         if (stream in self.last) == (name == b'CreateStream'):
             raise Trouble(f'the server has done {name.decode()} of {stream}, '
-                          f'and the lines make {listed(self.last)}: {ANOTHER}')
+                          f'and the lines make {listed(self.made)}: {ANOTHER}')
         if name == b'CreateStream':
-            self.last[stream] = 0
+            summary = self.told(b'DescribeStreamSummary', StreamName=stream)['StreamDescriptionSummary']
+            self.made[stream], self.last[stream] = summary[MADE], 0
         elif name == b'DeleteStream':
-            del self.last[stream]
+            del self.made[stream], self.last[stream]
         elif name in (b'SplitShard', b'MergeShards'):
             self.last[stream] += 1
         elif name == b'UpdateShardCount':
@@ -159,8 +194,8 @@ class Server:
         """How many numbers a resharding just took: each step is the last number of the shards that it closed."""
         ends, page = set(), {'StreamName': stream}
         while page:
-            told = json.loads(self.answer(asked(b'ListShards', **page)).body)
-            ranges = [shard['SequenceNumberRange'] for shard in told['Shards']]
+            listing = self.told(b'ListShards', **page)
+            ranges = [shard['SequenceNumberRange'] for shard in listing['Shards']]
             ends |= {int(it['EndingSequenceNumber']) for it in ranges if 'EndingSequenceNumber' in it}
-            page = {'NextToken': told['NextToken']} if 'NextToken' in told else None
+            page = {'NextToken': listing['NextToken']} if 'NextToken' in listing else None
         return len([end for end in ends if end > self.last[stream]])

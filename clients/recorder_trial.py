@@ -31,27 +31,34 @@ Outcome = collections.namedtuple('Outcome', ('got', 'direct', 'ended', 'done', '
 # ---- what clients send, and what they get
 
 def sent(port, case):
-    """Sends a case on a connection of its own, and gives the bytes that come back until the end of the connection. None where there is no end."""
-    with socket.create_connection(('127.0.0.1', port), timeout=WAIT) as connection:
+    """Sends a case on a connection of its own, and gives the bytes that come back until the end of the connection. None
+    where there is no connection, or no end."""
+    try:
+        connection = socket.create_connection(('127.0.0.1', port), timeout=WAIT)
+    except OSError:
+        return None
+    with connection:
         connection.setsockopt(socket.IPPROTO_TCP, socket.TCP_NODELAY, 1)
-        got = b''
-        try:
+        with contextlib.suppress(OSError):  # the other side may have refused, and take no more
             for piece in case.pieces:
                 connection.sendall(piece)
                 time.sleep(PAUSE if 1 < len(case.pieces) < 5 else 0)
             if case.goes:
-                return got
+                return b''
             connection.shutdown(socket.SHUT_WR)
-        except OSError:
-            pass  # the other side has refused, and takes no more
-        try:
-            while more := connection.recv(65_536):
-                got += more
-        except TimeoutError:
-            return None
-        except OSError:
-            pass
-        return got
+        return rest_of(connection)
+
+
+def rest_of(connection):
+    got = b''
+    try:
+        while more := connection.recv(65_536):
+            got += more
+    except TimeoutError:
+        return None
+    except OSError:
+        pass
+    return got
 
 
 def answers_in(data):
@@ -85,8 +92,9 @@ class Bench:
 
     def __init__(self, recorder, stack):
         self.folder = pathlib.Path(stack.enter_context(tempfile.TemporaryDirectory()))
-        self.file, self.port = self.folder / 'session.txt', free_port()
+        self.file = self.folder / 'session.txt'
         self.server, self.second = stack.enter_context(serving(members=8)), stack.enter_context(serving(members=16))
+        self.port = free_port()
         self.process = subprocess.Popen([recorder, str(self.port), str(self.server.port), self.file], stdin=subprocess.DEVNULL, stdout=subprocess.PIPE, stderr=subprocess.PIPE)
         stack.callback(self.process.stdout.close)
         stack.callback(self.process.stderr.close)

@@ -21,7 +21,7 @@ import recorder
 import recorder_http
 import recorder_server
 import suite
-from server import ROOT, free_port, request, responses, serving
+from server import IDLE, ROOT, free_port, request, responses, serving
 
 # what differs in a replay: tokens and moments
 LEFT_OUT = {'ShardIterator', 'NextShardIterator', 'NextToken', 'ApproximateArrivalTimestamp', 'StreamCreationTimestamp', 'MillisBehindLatest'}
@@ -149,7 +149,7 @@ class Beside(unittest.TestCase):
             self.assert_answered(second, request('ListStreams', b'{}'))
 
     def test_what_is_no_message(self):
-        """The server has the word on it, and no line stands for it."""
+        """It gets the server's word on it, and no line stands for it."""
         for odd, status in ((b'POST / HTTP/1.1\r\n\r\n', 411), (b'POST / HTTP/1.1\r\nX: ' + b'y' * 20_000, 431),
                             (b'POST / HTTP/1.1\r\nContent-Length: 99999999\r\n\r\n' + b'x' * 200_000, 413)):
             self.assert_answered(self.connect(), odd, status)
@@ -236,6 +236,7 @@ class Command(Program):
             self.assertRegex(path.read_bytes(), rb'\A[0-9]+ api ListStreams {}\n\Z')
 
 
+PUT = ('PutRecord', b'{"StreamName":"a","PartitionKey":"a","Data":""}')
 LISTED = b'HTTP/1.1 200 OK\r\nContent-Length: 44\r\n\r\n{"HasMoreStreams":false,"StreamNames":[]}   '
 
 
@@ -335,6 +336,113 @@ class Amiss(Program):
             self.assertIsNone(self.ask('PutRecord', b'{"StreamName":"a","PartitionKey":"a","Data":""}'))
             self.assert_refused(started, 'the server has the streams a, past, and the lines make the streams a')
         self.assert_replays([200, 200, 200, 400, 200])
+
+    def past(self, server, *requests):
+        """Requests that go to the server and not through the recorder."""
+        with server.connect() as connection:
+            connection.sendall(b''.join(request(*it) for it in requests))
+            self.assertEqual([status for status, _ in responses(connection, len(requests))], [200] * len(requests))
+
+    def test_a_server_that_is_started_anew_with_the_same_streams(self):
+        """They were made later, which is noticed on the next connection."""
+        port, made = free_port(), ('CreateStream', b'{"StreamName":"a","ShardCount":1}')
+        with serving(members=2, port=port):
+            started = self.recording(port)
+            self.assertEqual([self.ask(*made), self.ask(*PUT)], [200, 200])
+            time.sleep(1.1)
+        with serving(members=2, port=port) as server:
+            self.past(server, made, PUT)
+            self.assertIsNone(self.ask(*PUT))
+            self.assert_refused(started, 'the server has made the streams a once more: it was started anew')
+        self.assert_replays([200, 200])
+
+    def test_a_server_that_is_started_anew_between_two_requests(self):
+        """The connection has ended with it, even where the streams are as old."""
+        port, made = free_port(), ('CreateStream', b'{"StreamName":"a","ShardCount":1}')
+        with contextlib.ExitStack() as stack, serving(members=2, port=port) as server:
+            for name in ('UNUSED', 'LOOKED'):
+                stack.callback(setattr, recorder_server, name, getattr(recorder_server, name))
+                setattr(recorder_server, name, 60)
+            through, witness = stack.enter_context(recording(server, self.path))
+            self.port = through.port
+            self.assertEqual([self.ask(*made), self.ask(*PUT)], [200, 200])
+            server.stop()
+            with serving(members=2, port=port) as another:
+                self.past(another, made, PUT)
+                with another.connect() as connection:
+                    connection.sendall(request('DescribeStreamSummary', b'{"StreamName":"a"}'))
+                    told = json.loads(responses(connection, 1)[0][1])['StreamDescriptionSummary']
+                witness.server.made['a'] = told['StreamCreationTimestamp']
+                self.assertIsNone(self.ask(*PUT))
+                self.assertIn('ended the connection without an answer: it was started anew', witness.why)
+        self.assert_replays([200, 200])
+
+    def test_numbers_that_went_past_the_recorder(self):
+        """Whatever takes a sequence number past the recorder is noticed at the next put. An interrupt right behind it doesn't hide that."""
+        made, many = ('CreateStream', b'{"StreamName":"a","ShardCount":1}'), ('PutRecords', b'{"StreamName":"a","Records":[%s]}' % b','.join([b'{"PartitionKey":"a","Data":""}'] * 3))
+        split = ('SplitShard', b'{"StreamName":"a","ShardToSplit":"shardId-000000000000","NewStartingHashKey":"9"}')
+        scaled = ('UpdateShardCount', b'{"StreamName":"a","TargetShardCount":3,"ScalingType":"UNIFORM_SCALING"}')
+        for past, number in (([PUT], 6), ([many], 8), ([split], 6), ([scaled], 7), ([('DeleteStream', b'{"StreamName":"a"}'), made], None)):
+            for put in (PUT, many):
+                self.path, self.port = self.path.with_suffix(f'.{past[0][0]}-{put[0]}'), free_port()
+                with serving(members=2) as server:
+                    started = self.recording(server.port)
+                    self.assertEqual([self.ask(*made), self.ask(*PUT), self.ask(*many)], [200] * 3)
+                    self.past(server, *past)
+                    self.assertIsNone(self.ask(*put))
+                    started.send_signal(signal.SIGINT)
+                    said = f'a record of a the sequence number {number}, and by the lines it has 5: ' if number else ''
+                    self.assert_refused(started, said + 'it was started anew, or somebody went past the recorder; the file is whole up to there')
+                self.assert_replays([200] * 3)
+
+    def test_numbers_that_reshardings_take(self):
+        """Each step of a resharding takes a number, and the puts behind it are still the next ones."""
+        with serving(members=2) as server:
+            started, asked = self.recording(server.port), [('CreateStream', b'{"StreamName":"a","ShardCount":1}'), PUT]
+            for count in (7, 2, 2, 64, 5, 1):
+                asked += [('UpdateShardCount', b'{"StreamName":"a","TargetShardCount":%d,"ScalingType":"UNIFORM_SCALING"}' % count), PUT]
+            self.assertEqual([self.ask(*it) for it in asked], [200] * len(asked))
+            with server.connect() as connection:
+                connection.sendall(request('ListShards', b'{"StreamName":"a"}'))
+                last = json.loads(responses(connection, 1)[0][1])['Shards'][-1]['ShardId']
+            asked += [('SplitShard', b'{"StreamName":"a","ShardToSplit":"%s","NewStartingHashKey":"9"}' % last.encode()), PUT]
+            asked += [('MergeShards', b'{"StreamName":"a","ShardToMerge":"shardId-%012d","AdjacentShardToMerge":"shardId-%012d"}' % (int(last[8:]) + 1, int(last[8:]) + 2)), PUT]
+            self.assertEqual([self.ask(*it) for it in asked[-4:]], [200] * 4)
+            started.send_signal(signal.SIGINT)
+            self.assertEqual((*started.communicate(timeout=30), started.returncode), ('', '', 0))
+        self.assert_replays([200] * len(asked))
+
+    def test_a_pause_longer_than_the_idle_limit(self):
+        """The server ends idle connections, but not the recorder's."""
+        with serving(members=1) as server:
+            started = self.recording(server.port)
+            self.assertEqual(self.ask('CreateStream', b'{"StreamName":"a","ShardCount":1}'), 200)
+            time.sleep(IDLE + 2)
+            self.assertEqual(self.ask(*PUT), 200)
+            started.send_signal(signal.SIGTERM)
+            self.assertEqual((*started.communicate(timeout=30), started.returncode), ('', '', 0))
+        self.assert_replays([200, 200])
+
+    def test_lines_that_a_replay_can_not_take(self):
+        """The longest line that a replay takes is recorded, and a longer one is refused. Where the file would be too long, the recording is over."""
+        made = b'{"StreamName":"a","ShardCount":1,"x":"%s"}'
+        most = recorder.MOST_LINE - len(b'1796081511880 api CreateStream ') - len(made % b'')
+        with serving(members=2) as server:
+            started = self.recording(server.port)
+            self.assertEqual([self.ask('CreateStream', made % (b'x' * (most + more))) for more in (1, 0)], [413, 200])
+            started.send_signal(signal.SIGINT)
+            self.assertEqual((*started.communicate(timeout=60), started.returncode), ('', '', 0))
+        self.assert_replays([200])
+        self.path, given = self.path.with_suffix('.short'), recorder.MOST_FILE
+        recorder.MOST_FILE = 2 * len(b'1796081511880 api ListStreams {}\n')
+        try:
+            with serving(members=2) as server, recording(server, self.path) as (through, witness):
+                self.port = through.port
+                self.assertEqual([self.ask('ListStreams', b'{}') for _ in range(4)], [200, 200, None, None])
+                self.assertEqual(witness.why, f'{self.path} would be longer than a replay reads; the file is whole up to there')
+        finally:
+            recorder.MOST_FILE = given
+        self.assert_replays([200, 200])
 
     def test_a_full_disk(self):
         """The file may have 8,192 bytes: what was answered is in it, and the server has done no more."""
