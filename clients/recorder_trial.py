@@ -1,5 +1,5 @@
-"""Byte streams on their way through a recorder to a new server, and to a second new server without a recorder; and what is there at the end: what each
-client got, what the server has, and what the recorder's file replays to."""
+"""Byte streams on their way to a server through a recorder, and to a second server without one; and what there is at
+the end: what each client got, what the server has, and what the recorder's file replays to."""
 import base64
 import collections
 import contextlib
@@ -23,9 +23,12 @@ SHARDS = 2
 MOMENTS = {'ApproximateArrivalTimestamp', 'StreamCreationTimestamp', 'MillisBehindLatest', 'NextShardIterator'}
 
 Answer = collections.namedtuple('Answer', ('status', 'body', 'closes'))
-# By the number of a case, the bytes that it got through the recorder and those that it got without; how the recorder ended; what the server has;
-# the lines of the file, their answers, and what the replay has.
-Outcome = collections.namedtuple('Outcome', ('got', 'direct', 'ended', 'done', 'lines', 'answers', 'file'))
+
+
+class Outcome(collections.namedtuple('Outcome', ('got', 'direct', 'ended', 'done', 'lines', 'answers', 'file'))):
+    """What each case got through the recorder, and without one; the recorder's status and words; what the server has;
+    the lines of the file, their answers in the replay, and what the replay has. Without a replay the answers are None,
+    and `file` says why there is none."""
 
 
 # ---- what clients send, and what they get
@@ -85,26 +88,29 @@ def told(body, left_out=frozenset()):
     return without(json.loads(body)) if body else None
 
 
-# ---- a server, a recorder before it, and a second server without one
+# ---- the servers and the recorder
 
 class Bench:
-    """The recorder between clients and a new server, and beside them a second new server. Both servers have the same streams."""
+    """A recorder before a new server, and a second new server. Both servers have the same streams."""
 
     def __init__(self, recorder, stack):
-        self.folder = pathlib.Path(stack.enter_context(tempfile.TemporaryDirectory()))
-        self.file = self.folder / 'session.txt'
-        self.server, self.second = stack.enter_context(serving(members=8)), stack.enter_context(serving(members=16))
+        self.file = pathlib.Path(stack.enter_context(tempfile.TemporaryDirectory())) / 'session.txt'
+        self.server, self.second = (stack.enter_context(serving(members=16)) for _ in range(2))
         self.port = free_port()
-        self.process = subprocess.Popen([recorder, str(self.port), str(self.server.port), self.file], stdin=subprocess.DEVNULL, stdout=subprocess.PIPE, stderr=subprocess.PIPE)
-        stack.callback(self.process.stdout.close)
-        stack.callback(self.process.stderr.close)
+        words = [recorder, str(self.port), str(self.server.port), self.file]
+        self.process = stack.enter_context(subprocess.Popen(words, stdin=subprocess.DEVNULL, stdout=subprocess.PIPE,
+                                                            stderr=subprocess.PIPE))
         stack.callback(self.process.kill)
         if self.process.stdout.readline() != b'recording\n':
             raise SystemExit(f'{recorder} did not begin: {self.process.stderr.read()!r}')
         for port in (self.port, self.second.port):
-            for name in STREAMS:
-                body = json.dumps({'StreamName': name, 'ShardCount': SHARDS}).encode()
-                assert b' 200 ' in sent(port, Case('', [request('CreateStream', body)]))
+            self.make_streams(port)
+
+    @staticmethod
+    def make_streams(port):
+        bodies = [json.dumps({'StreamName': name, 'ShardCount': SHARDS}).encode() for name in STREAMS]
+        made = answers_in(sent(port, Case('', [request('CreateStream', body) for body in bodies])))
+        assert [answer.status for answer in made] == [200] * len(STREAMS)
 
     def ended(self):
         """Interrupts the recorder, and gives its status and words."""
@@ -114,14 +120,15 @@ class Bench:
 
 
 def questions(now):
-    """What is asked of a server and of a replay at the end: the operations and their bodies."""
-    tokens = [base64.b64encode(f'KI1:{stream + 1}:{shard}:1:{now}'.encode()).decode() for stream in range(len(STREAMS)) for shard in range(SHARDS)]
-    return [('ListStreams', b'{}'), *(('DescribeStream', json.dumps({'StreamName': name}).encode()) for name in STREAMS),
-            *(('GetRecords', json.dumps({'ShardIterator': token}).encode()) for token in tokens)]
+    """What a server and a replay are asked at the end: the operations and their bodies."""
+    tokens = [f'KI1:{stream + 1}:{shard}:1:{now}' for stream in range(len(STREAMS)) for shard in range(SHARDS)]
+    asked = [('ListStreams', {}), *(('DescribeStream', {'StreamName': name}) for name in STREAMS)]
+    asked += [('GetRecords', {'ShardIterator': base64.b64encode(token.encode()).decode()}) for token in tokens]
+    return [(operation, json.dumps(members).encode()) for operation, members in asked]
 
 
 def asked_of(server):
-    """What the server has, asked past the recorder."""
+    """What the server has. It is asked past the recorder."""
     asked = questions(int(time.time() * 1000))
     with server.connect() as connection:
         connection.sendall(b''.join(request(*it) for it in asked))
@@ -129,7 +136,7 @@ def asked_of(server):
 
 
 def replayed(file):
-    """The lines of the file, what each is answered, and what the machine then has."""
+    """The lines of the file, what each is answered in a replay, and what the replay has at the end."""
     lines = [line + b'\n' for line in file.read_bytes().split(b'\n')[:-1]]
     now = int(lines[-1].split(b' ')[0])
     asked = [b'%d api %s %s\n' % (now, operation.encode(), body) for operation, body in questions(now)]
@@ -141,10 +148,13 @@ def replayed(file):
 
 
 def tried(cases, recorder, clients=1):
-    """What is there after these cases, which are numbered."""
+    """What there is after these cases, which are numbered. So many clients send at the same time."""
     with contextlib.ExitStack() as stack:
         bench = Bench(recorder, stack)
-        pool = stack.enter_context(ThreadPoolExecutor(clients))
-        got, direct = (dict(zip(cases, pool.map(lambda case: sent(port, case), cases.values()))) for port in (bench.port, bench.second.port))
+        coming = []
+        for port in (bench.port, bench.second.port):
+            pool = stack.enter_context(ThreadPoolExecutor(clients))
+            coming.append(pool.map(lambda case, port=port: sent(port, case), cases.values()))
+        got, direct = (dict(zip(cases, its)) for its in coming)
         ended = bench.ended()
         return Outcome(got, direct, ended, asked_of(bench.server), *replayed(bench.file))
