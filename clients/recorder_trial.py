@@ -148,7 +148,7 @@ def replayed(file):
 
 
 def tried(cases, recorder, clients=1):
-    """What there is after these cases, which are numbered. So many clients send at the same time."""
+    """What there is after these cases, which are numbered. `clients` is how many of them are sent at a time."""
     with contextlib.ExitStack() as stack:
         bench = Bench(recorder, stack)
         coming = []

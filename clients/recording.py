@@ -158,6 +158,19 @@ class Beside(unittest.TestCase):
         self.assertEqual(last.recv(1), b'')
         self.assertEqual(self.lines(), [b'ListStreams {}'])
 
+    def test_the_last_request_of_a_connection(self):
+        """The server takes 1,000,000 requests on a connection, and so does the recorder."""
+        given, recorder.MOST_REQUESTS = recorder.MOST_REQUESTS, 2
+        self.addCleanup(setattr, recorder, 'MOST_REQUESTS', given)
+        self.assertEqual(given, 1_000_000)
+        client = self.connect()
+        client.sendall(request('ListStreams', b'{}') * 3)
+        got = b''
+        while more := client.recv(65_536):
+            got += more
+        self.assertEqual((got.count(b'HTTP/1.1 200 OK'), got.count(b'Connection: close'), got.rindex(b'HTTP/') < got.index(b'Connection: close')), (2, 1, True))
+        self.assertEqual(self.lines(), [b'ListStreams {}'] * 2)
+
     def test_heads_in_other_forms(self):
         """What the server does stands in the file: a tab parts a header as a space does. A line feed alone, by which the server would see two requests in one, comes to no server."""
         plain = request('CreateStream', b'{"StreamName":"a","ShardCount":1}')
