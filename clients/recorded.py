@@ -20,6 +20,7 @@ import pathlib
 import re
 import sys
 import unittest
+from concurrent.futures import ThreadPoolExecutor
 
 from recorder_bytes import STREAMS, Case, case_of, plain
 from recorder_trial import SHARDS, answers_in, told, tried
@@ -151,6 +152,14 @@ def headers(count):
     return change
 
 
+def long_target(message):
+    """A head at its limit, without a blank, of which all but the least is the target."""
+    message.fields.remove(message.of(b'Host'))
+    for field in message.fields:
+        field[2] = b''
+    message.of(TARGET)[3] += b'x' * (16_384 - len(message.head()))
+
+
 TARGET, KIND, LENGTH = b'X-Amz-Target', b'Content-Type', b'Content-Length'
 NAMED = {
     'a put': odd(lambda message: None, 200),
@@ -175,6 +184,7 @@ NAMED = {
     'a head of 17 kB': odd(lambda message: message.pad(17_000), 431),
     'a head of 16,385 bytes': odd(lambda message: message.pad(16_385), 431),
     'a head of 16,384 bytes': odd(lambda message: message.pad(16_384), 200),
+    'a head of 16,384 bytes, with a long target': odd(long_target, 400, 200, puts=2),
     '65 headers': odd(headers(65), 400),
     '64 headers': odd(headers(64), 200),
     'a Transfer-Encoding': odd(more(b'Transfer-Encoding', b'chunked'), 501),
@@ -198,6 +208,12 @@ def named_faults(name, recorder):
     statuses = [answer.status for answer in answers_in(outcome.got[1] or b'') or ()]
     wrong = [f'it got {statuses}, and not {wanted}'] if statuses != wanted else []
     return wrong + [sentence for _, sentence in faults_of(cases, outcome)]
+
+
+def all_named_faults(recorder):
+    """The same for each named case, of which some are tried at a time."""
+    with ThreadPoolExecutor(3) as pool:
+        yield from zip(NAMED, pool.map(lambda name: named_faults(name, recorder), NAMED))
 
 
 # ---- the cases of the generator
@@ -236,9 +252,9 @@ def lot_fault(cases, clients, recorder):
 
 class Recorded(unittest.TestCase):
     def test_named_cases(self):
-        for name in NAMED:
+        for name, faults in all_named_faults(RECORDER):
             with self.subTest(name):
-                self.assertEqual([], named_faults(name, RECORDER))
+                self.assertEqual([], faults)
 
     def test_cases_of_the_generator(self):
         for cases, clients in lots(SEED, COUNT):
@@ -258,8 +274,8 @@ def main():
         fault = lot_fault({words.only: case_of(words.seed, words.only)}, 1, recorder)
         tally.holds(not fault, f'seed {words.seed}, {fault}')
         return tally.end()
-    for name in NAMED:
-        tally.check(name, [], named_faults(name, recorder))
+    for name, faults in all_named_faults(recorder):
+        tally.check(name, [], faults)
     for cases, clients in lots(words.seed, words.count):
         fault = lot_fault(cases, clients, recorder)
         tally.holds(not fault, f'seed {words.seed}, {fault}')

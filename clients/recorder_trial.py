@@ -96,15 +96,23 @@ class Bench:
     def __init__(self, recorder, stack):
         self.file = pathlib.Path(stack.enter_context(tempfile.TemporaryDirectory())) / 'session.txt'
         self.server, self.second = (stack.enter_context(serving(members=16)) for _ in range(2))
-        self.port = free_port()
-        words = [recorder, str(self.port), str(self.server.port), self.file]
-        self.process = stack.enter_context(subprocess.Popen(words, stdin=subprocess.DEVNULL, stdout=subprocess.PIPE,
-                                                            stderr=subprocess.PIPE))
-        stack.callback(self.process.kill)
-        if self.process.stdout.readline() != b'recording\n':
-            raise SystemExit(f'{recorder} did not begin: {self.process.stderr.read()!r}')
+        self.process, self.port = self.begun(recorder, stack)
         for port in (self.port, self.second.port):
             self.make_streams(port)
+
+    def begun(self, recorder, stack):
+        """The recorder's process, and its port. Another client may take a free port first: then it is another one."""
+        for _ in range(5):
+            port, pipe = free_port(), subprocess.PIPE
+            words = [recorder, str(port), str(self.server.port), self.file]
+            process = stack.enter_context(subprocess.Popen(words, stdin=subprocess.DEVNULL, stdout=pipe, stderr=pipe))
+            stack.callback(process.kill)
+            if process.stdout.readline() == b'recording\n':
+                return process, port
+            said = process.stderr.read()
+            if b'Address already in use' not in said:
+                break
+        raise SystemExit(f'{recorder} did not begin: {said!r}')
 
     @staticmethod
     def make_streams(port):

@@ -281,11 +281,12 @@ class Amiss(Program):
     @contextlib.contextmanager
     def listener(self, answers):
         """A server that answers so many requests by an empty list of streams, and then nothing, and its port."""
-        left = [answers]
+        left, self.called = [answers], threading.Event()
 
         def serve(client):
             with contextlib.suppress(OSError):
                 while client.recv(65_536):
+                    self.called.set()
                     if left[0] > 0:
                         left[0] -= 1
                         client.sendall(LISTED)
@@ -475,8 +476,9 @@ class Amiss(Program):
         with self.listener(0) as target:
             self.assertEqual(self.in_process(target), (1, f'record: the server at 127.0.0.1:{target} has not answered for 1 seconds\n'))
             self.assertFalse(self.path.exists())
+            self.called.clear()
             started = self.start(self.port, target, self.path)
-            time.sleep(1)
+            self.assertTrue(self.called.wait(60))
             started.send_signal(signal.SIGINT)
             self.assert_refused(started, 'interrupted before the recording began')
         self.assertFalse(self.path.exists())
