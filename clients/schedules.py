@@ -4,6 +4,7 @@ import json
 import os
 import pathlib
 import random
+import re
 import shutil
 import subprocess
 import sys
@@ -81,6 +82,7 @@ class Schedules(unittest.TestCase):
         self.assertEqual((0, (ROOT / 'examples' / 'incident.txt').read_bytes(), ''), made(*names))
 
 
+CAUSES = 'is a line missing, or is the clock of a host wrong?\n'
 # A stream of two shards with one record each, and host-a that has both leases.
 START = """1000 stream orders a b
 1000 records a 1 to 49000000000000000000000000001
@@ -104,11 +106,21 @@ class Stories(unittest.TestCase):
         self.assertEqual((1, b'', f'schedule: the input: line 7: {why}\n'), made(text=(START + text + '\n').encode()))
 
     def test_the_incident_by_names(self):
-        names, told = ['incident-session.txt', 'incident-story.txt'], ['line 22: host-a checkpoint shardId-000000000000: refused Lost 3, host-b has the lease']
-        told += [f'line {line}: host-c open shardId-00000000000{shard}: refused ParentsOpen 1/0, shardId-000000000000' for line, shard in ((30, 2), (31, 3), (35, 2))]
-        said = ''.join(f'schedule: incident-story.txt: {line}\n' for line in told)
-        self.assertEqual((0, example('incident.txt'), said), made(*names, cwd=EXAMPLES))
+        names = ['incident-session.txt', 'incident-story.txt']
+        self.assertEqual((0, example('incident.txt'), ''), made(*names, cwd=EXAMPLES))
         self.whole('incident', *names)
+
+    def test_an_incident_without_its_outcomes(self):
+        # where the story doesn't say what the log says, the refusals are told, and the schedule is the same
+        told = ['line 22: host-a checkpoint shardId-000000000000: refused Lost 3, host-b has the lease']
+        told += [f'line {line}: host-c open shardId-00000000000{shard}: refused ParentsOpen 1/0, shardId-000000000000' for line, shard in ((30, 2), (31, 3), (35, 2))]
+        with tempfile.TemporaryDirectory() as folder:
+            (pathlib.Path(folder) / 'story.txt').write_bytes(re.sub(rb' (?:fails|at [58])(?=\n)', b'', example('incident-story.txt')))
+            status, out, said = made(EXAMPLES / 'incident-session.txt', 'story.txt', cwd=folder)
+        *lines, clock, unchecked = said.splitlines()
+        self.assertEqual((0, example('incident.txt'), [f'schedule: story.txt: {line}' for line in told]), (status, out, lines))
+        self.assertRegex(clock, r'^schedule: no wrong clock of one host makes all of it fit, of \d+ orders that were replayed: is a line missing, or the word fails at one that failed\?')
+        self.assertTrue(unchecked.startswith('schedule: nothing checks the clocks of host-a and host-b against each other: their lines of shardId-000000000000 have neither'))
 
     def whole(self, name, *files):
         """The four files that the viewer takes are those of the examples."""
@@ -160,25 +172,31 @@ class Stories(unittest.TestCase):
                    'schedule: a: 2 of the records that the log has stood in no records line, and were put where the log has them first\n')
         split = '1002 api SplitShard {"StreamName":"orders","ShardToSplit":"shardId-000000000000","NewStartingHashKey":"85070591730234615865843651857942052864"}'
         self.story('1002 split a c d\n1003 host-a process a 3', [split, '1003 raw 1 read 1 0 3', '1003 raw 1 give 1'],
-                   'schedule: the input: line 8: the log has 3 records, and here are 1: a closed shard takes no more, so a records line of it stands before its split or merge\n')
+                   'schedule: the input: line 8: host-a process a 3: the log has 3 records, and here are 1: a closed shard takes no more, so a records line of it stands before its split or '
+                   'merge\n')
         self.story('1002 host-a process a\n1003 host-a process a 0', ['1002 raw 1 read 1 0 1000', '1002 raw 1 give 1', '1003 raw 1 read 1 2 1000', '1003 raw 1 give 1'])
         self.story('1002 host-a process a to 7', ['1002 raw 1 read 1 0 1000', '1002 raw 1 give 1'],
-                   'schedule: the input: line 7: the log has 7, which is record 7 here, and the last record processed is 1\n')
+                   'schedule: the input: line 7: host-a process a to 7: the log has 7, which is record 7 here, and the last record processed is 1: ' + CAUSES)
         self.story('1002 host-a checkpoint a at 9', ['1002 raw 1 mark 1 1 9'], 'schedule: the input: line 7: host-a checkpoint a at 9: refused Beyond 0\n')
         self.story('1002 records b 1 to 9', ['1002 api PutRecords {"StreamName":"orders","Records":[{"Data":"","PartitionKey":"record","ExplicitHashKey":'
                                               '"170141183460469231731687303715884105728"}]}'],
-                   'schedule: the input: line 7: the log has 9, which is record 9 here, and the last record put is 3\n')
+                   'schedule: the input: line 7: records b 1 to 9: the log has 9, which is record 9 here, and the last record put is 3: ' + CAUSES)
         self.story('1002 host-b take b', ['1002 raw 2 take 1/1 0 w2'], 'schedule: the input: line 7: host-b take b: refused NoLease\n')
 
     def test_what_a_log_says_failed(self):
         read = ['1002 raw 1 read 1 0 1000', '1002 raw 1 give 1']
         self.story('1002 host-b take b fails', ['1002 raw 2 take 1/1 0 w2'])
         self.story('1002 host-a process a\n1003 host-a checkpoint a fails', [*read, '1003 raw 1 mark 1 1 1'],
-                   'schedule: the input: line 8: host-a checkpoint a fails: the log says that it failed, and here it is answered ok counter 2: is a line missing, or is the clock of a host wrong?\n')
+                   'schedule: the input: line 8: host-a checkpoint a fails: the log says that it failed, and here it is answered ok counter 2: ' + CAUSES)
         self.story('1002 host-a process a to 49000000000000000000000000001\n1003 host-a checkpoint a\n1004 host-b take a at 49000000000000000000000000001\n1004 host-b open a at 1',
                    [*read, '1003 raw 1 mark 1 1 1', '1004 raw 2 take 1/0 2 w2', '1004 raw 2 open 2'])
         self.story('1002 host-a process a to 49000000000000000000000000001\n1004 host-b take a\n1004 host-b open a at 49000000000000000000000000001', [*read, '1004 raw 2 take 1/0 1 w2', '1004 raw 2 open 2'],
-                   'schedule: the input: line 9: the log begins at 49000000000000000000000000001, and here the lease begins at TRIM_HORIZON: is a checkpoint line missing, or is the clock of a host wrong?\n')
+                   'schedule: the input: line 9: host-b open a at 49000000000000000000000000001: the log begins at 49000000000000000000000000001, and here the lease begins at TRIM_HORIZON: '
+                   'is the line host-a checkpoint a at 49000000000000000000000000001 missing before it, or is the clock of a host wrong?\n'
+                   'schedule: no wrong clock of one host makes all of it fit, of 3 orders that were replayed: is a line missing, or the word fails at one that failed?\n')
+        for at, here in (('SHARD_END', 'TRIM_HORIZON'), ('5', 'TRIM_HORIZON'), ('TRIM_HORIZON', '')):
+            self.story(f'1002 host-a take a at {at}', ['1002 raw 1 take 1/0 1 w1'],
+                       here and f'schedule: the input: line 7: host-a take a at {at}: the log begins at {at}, and here the lease begins at {here}: is a checkpoint line missing, or is the clock of a host wrong?\n')
         # what was told before a line that can't be is told
         self.assertEqual((1, b'', 'schedule: the input: line 7: host-b take b: refused NoLease\nschedule: the input: line 8: host-b has no tenure of b: its take, line 7, was refused NoLease\n'),
                          made(text=(START + '1002 host-b take b\n1003 host-b open b\n').encode()))
@@ -187,6 +205,8 @@ class Stories(unittest.TestCase):
     def test_a_line_that_cannot_be(self):
         for text, why in [
                 ('1002 host-b open a', 'host-b has no tenure of a: expected a line host-b take a before it, by the same process'),
+                ('1795961101 host-a renew a', '1795961101 looks like seconds: a moment is in milliseconds, as 1795961101000'),
+                ('1795961101000000000 host-a renew a', '1795961101000000000 looks like nanoseconds: a moment is in milliseconds, as 1795961101000'),
                 ('1002 host-a take c', 'there is no shard c at this line: expected one that a stream, split or merge line, or an api line, makes before it'),
                 ('1002 host-a take', 'expected HOST take SHARD'), ('1002 host-a take a b', 'expected HOST take SHARD'), ('1002 host-a hand a', 'expected HOST hand off SHARD'),
                 ('1002 host-a process a many', 'expected a number of records from 0 to 10000, and here is many'),
@@ -261,6 +281,112 @@ class Stories(unittest.TestCase):
                     words = [file.name, 'mid-life.journal'] if name == 'mid-life.names' else ['mid-life.names', file.name]
                     out = subprocess.run(['awk', '-f', script, *words], cwd=EXAMPLES, capture_output=True, check=True).stdout
                 self.assertEqual([], [byte for byte in out if byte < 32 and byte != 10 or byte > 126])
+
+
+# What the logs of three hosts say: a lease goes from a to d in a pause of a, which then delivers 40 records again. The words behind a | are those of a log that has
+# sequence numbers, and + is the outcome.
+INCIDENT = """1000 stream orders x y
+2000 a create x
+2010 a take x | at TRIM_HORIZON
+2020 a open x | at TRIM_HORIZON
+3000 c create y
+3010 c take y | at TRIM_HORIZON
+3020 c open y | at TRIM_HORIZON
+10000 a process x 35 | to 49000000000000000000000035
+10100 a checkpoint x | at 49000000000000000000000035
+20000 a process x 24 | to 49000000000000000000000059
+20100 a checkpoint x | at 49000000000000000000000059
+30000 a fetch x 40
+42000 d take x | at 49000000000000000000000059
+42050 d open x | at 49000000000000000000000059
+43000 d process x 40 | to 49000000000000000000000099
+43100 d checkpoint x | at 49000000000000000000000099
+51000 a process x 40 | to 49000000000000000000000099
+51100 a checkpoint x | at 49000000000000000000000099 + fails
+55000 d process x 11 | to 49000000000000000000000110
+55050 d checkpoint x | at 49000000000000000000000110
+62000 c process y 20 | to 49000000000000000000000220
+62100 c checkpoint y | at 49000000000000000000000220
+190000 c restarts
+195000 c take y | at 49000000000000000000000220
+195100 c open y | at 49000000000000000000000220
+200000 d process x 14 | to 49000000000000000000000124
+200100 d checkpoint x | at 49000000000000000000000124
+"""
+
+
+class Mistakes(unittest.TestCase):
+    """A story with one mistake of whoever wrote it down, or of a clock: an answer that is wrong by it isn't given without a word."""
+
+    def told(self, numbers, outcome, change=lambda line: line):
+        """How often records are delivered twice by a story with a mistake, and what is told of it."""
+        lines = [change(line) for line in INCIDENT.splitlines()]
+        lines = [re.sub(r' \| ([^+]*[^+\s])', r' \1' if numbers else '', line).replace(' + fails', ' fails' if outcome else '') for line in lines if line]
+        with tempfile.TemporaryDirectory() as folder:
+            text = '\n'.join(sorted(lines, key=lambda line: int(line.split(' ')[0])))
+            status, _, said = made('--to', folder, text=text.encode())
+            twice = None
+            if not status:
+                done = subprocess.run(['awk', '-f', EXAMPLES / 'delivered-twice.awk', 'names.txt', 'incident.journal'], cwd=folder, capture_output=True, text=True, check=True)
+                twice = int(done.stdout.splitlines()[-1])
+        return twice, '\n'.join(line for line in said.splitlines() if 'stood in no records line' not in line)
+
+    @staticmethod
+    def late(host, ms, until=10**9):
+        """The clock of a host is ahead until a moment."""
+        def change(line):
+            at, rest = line.split(' ', 1)
+            return f'{int(at) + ms} {rest}' if rest.startswith(f'{host} ') and int(at) < until else line
+        return change
+
+    @staticmethod
+    def without(start):
+        return lambda line: '' if line.startswith(start) else line
+
+    def test_the_right_story(self):
+        self.assertEqual((40, ''), self.told(True, True))
+        self.assertEqual((40, ''), self.told(False, True))
+
+    def test_a_clock_that_is_ahead(self):
+        for numbers in (True, False):
+            with self.subTest(numbers=numbers):
+                twice, said = self.told(numbers, True, self.late('d', 14_000, 180_000))
+                self.assertEqual(0, twice)
+                self.assertRegex(said, r'line \d+: a checkpoint x .*fails: the log says that it failed, and here it is answered ok counter \d')
+                # the lease was taken 11,900 ms or more after the last line of a before it, and at most 9,100 ms before the next: the clock is ahead by 14,000 ms
+                self.assertIn('schedule: all of it fits if the clock of d is ahead by ', said)
+                least, most = map(float, re.search(r'ahead by ([\d.]+) to ([\d.]+) s', said).groups())
+                self.assertTrue(least <= 14 <= most, said)
+
+    def test_a_clock_that_nothing_checks(self):
+        twice, said = self.told(False, False, self.late('d', 14_000, 180_000))
+        self.assertEqual(0, twice)
+        self.assertRegex(said, '^schedule: nothing checks the clocks of a and d against each other: their lines of x have neither a number')
+
+    def test_a_checkpoint_line_is_missing(self):
+        for numbers, phrase in ((True, r'line 12: d take x at 49000000000000000000000059: the log begins at 49000000000000000000000059, and here the lease begins at 49000000000000000000000035: '
+                                       r'is the line a checkpoint x at 49000000000000000000000059 missing before it'),
+                                (False, r'line 13: d open x: a had processed 24 records above record 35, where the lease begins here, .* is a line a checkpoint x missing before it')):
+            twice, said = self.told(numbers, True, self.without('20100'))
+            self.assertEqual(64, twice)
+            self.assertRegex(said, phrase)
+
+    def test_a_process_line_is_missing(self):
+        self.assertRegex(self.told(False, True, self.without('55000'))[1], 'line 19: d checkpoint x: nothing was processed since the checkpoint before it: is a process line missing')
+        self.assertRegex(self.told(True, True, self.without('55000'))[1], 'line 19: 49000000000000000000000110 would be record 99, ')
+
+    def test_a_take_line_is_missing(self):
+        for numbers in (True, False):
+            self.assertRegex(self.told(numbers, True, self.without('42000'))[1], r'line 13: d has no tenure of x: expected a line d take x before it')
+
+    def test_what_needs_no_word(self):
+        for change in (self.without('190000'), lambda line: re.sub(r'^(19[5-9]\d+) c', r'\1 c:two', line) if not line.startswith('190000') else ''):
+            self.assertEqual(40, self.told(True, True, change)[0])
+
+    def test_a_long_story(self):
+        more = ''.join(f'{300_000 + i} d renew x\n' for i in range(2000))
+        status, _, said = made(text=(re.sub(r' [|+] ', ' ', INCIDENT).replace('fails', '') + more).encode())
+        self.assertEqual((0, True), (status, 'schedule: whether the clock of a host is wrong was not tried: the story has more than 2000 lines' in said))
 
 
 class Dumps(unittest.TestCase):

@@ -17,11 +17,13 @@ MOST_PUT, MOST_RECORDS = 500, 100_000
 # The replay's own numbers are below 2^64. Those of the service have 56 digits.
 OWN = 2**64
 END = 'end'
-# Where a lease may begin that has no checkpoint at a record.
-FIRST = ('TRIM_HORIZON', 'LATEST', 'AT_TIMESTAMP')
+# Where a lease may begin that has no checkpoint at a record, and the checkpoint of one that was processed to its end.
+FIRST, SHARD_END = ('TRIM_HORIZON', 'LATEST', 'AT_TIMESTAMP'), 'SHARD_END'
+CAUSES = 'is a line missing, or is the clock of a host wrong?'
 NO_KIND = f'behind the moment stands no {", ".join(KINDS[:-1])} or {KINDS[-1]}'
 FORMS = {
-    'create': 'HOST create SHARD [latest]', 'take': 'HOST take SHARD [at NUMBER]', 'open': 'HOST open SHARD [at NUMBER]', 'fetch': 'HOST fetch SHARD [N]',
+    'create': 'HOST create SHARD [latest]', 'take': 'HOST take SHARD [at NUMBER | at TRIM_HORIZON | at SHARD_END]',
+    'open': 'HOST open SHARD [at NUMBER | at TRIM_HORIZON | at SHARD_END]', 'fetch': 'HOST fetch SHARD [N]',
     'process': 'HOST process SHARD [N] [to NUMBER]', 'checkpoint': 'HOST checkpoint SHARD [at NUMBER | at end]', 'renew': 'HOST renew SHARD',
     'release': 'HOST release SHARD', 'hand': 'HOST hand off SHARD', 'delete': 'HOST delete SHARD', 'restarts': 'HOST restarts',
     'stream': 'stream NAME SHARD ..', 'split': 'split SHARD LOW HIGH [at HASHKEY]', 'merge': 'merge SHARD SHARD CHILD', 'records': 'records SHARD N [to NUMBER]',
@@ -35,6 +37,10 @@ BY_SHARD = {'make': (1, 3), 'take': (1, 2), 'open': (1, 1), 'read': (1, 2), 'giv
 
 class Unreadable(Exception):
     """A line that can't be, with the reason."""
+
+
+class Misplaced(Unreadable):
+    """A line that can't be in this place; in another it might."""
 
 
 def shown(text):
@@ -59,15 +65,15 @@ def is_shard(verb, words):
 
 
 class Replay:
-    """`./kds replay`, asked line by line."""
+    """`./kds replay`, asked line by line; or that of a program which was seen to run."""
 
-    def __init__(self):
+    def __init__(self, program=None):
         # where the program has to be built first, that says so for itself
-        ready = subprocess.run([str(ROOT / 'kds'), 'replay'], stdin=subprocess.DEVNULL, stdout=subprocess.DEVNULL, check=False)
-        if ready.returncode:
+        ready = None if program else subprocess.run([str(ROOT / 'kds'), 'replay'], stdin=subprocess.DEVNULL, stdout=subprocess.DEVNULL, check=False)
+        if ready and ready.returncode:
             raise Unreadable(f"./kds replay can't run: status {ready.returncode}")
         self.errors = tempfile.TemporaryFile()
-        self.child = subprocess.Popen([str(ROOT / 'kds'), 'replay'], stdin=subprocess.PIPE, stdout=subprocess.PIPE, stderr=self.errors)
+        self.child = subprocess.Popen([program or str(ROOT / 'kds'), 'replay'], stdin=subprocess.PIPE, stdout=subprocess.PIPE, stderr=self.errors)
 
     def __enter__(self):
         return self
@@ -102,9 +108,9 @@ class Tenure:
 
     def __init__(self, no, key, worker, counter, start):
         self.no, self.key, self.worker, self.counter = no, key, worker, counter
-        self.start = int(start) if start.isdigit() else 0
+        self.start, self.ended = int(start) if start.isdigit() else 0, start == END
         self.reach = self.start + 1 if start.isdigit() else 0
-        self.waiting, self.delivered, self.opened = [], [], False
+        self.waiting, self.delivered, self.opened, self.tried, self.told, self.marked = [], [], False, False, False, None
 
 
 class Names:
@@ -135,7 +141,7 @@ class Names:
     def declare(self, stream, name, no):
         """A shard gets the name that the story has for it."""
         if (stream, name) in self.shards:
-            raise Unreadable(f'the shard {name} is there already: expected a new name')
+            raise Misplaced(f'the shard {name} is there already: expected a new name')
         key = f'{self.streams[stream]}/{no}'
         self.shards[stream, name] = self.used_as(key, name)
         self.own.add(stream)
@@ -156,7 +162,7 @@ class Names:
         if len(found) > 1:
             raise Unreadable(f'{name} is a shard of several streams: expected its stream too, as {next(iter(self.streams))}/{name}')
         if not found:
-            raise Unreadable(f'there is no shard {shown(word)} at this line: expected one that a stream, split or merge line, or an api line, makes before it')
+            raise Misplaced(f'there is no shard {shown(word)} at this line: expected one that a stream, split or merge line, or an api line, makes before it')
         return self.used_as(found[0], name)
 
     def stream_of(self, key):
@@ -167,12 +173,13 @@ class Names:
         kept = self.bound.setdefault(key, {})
         for other, at in kept.items():
             if other != number and (at == record or (other < number) != (at < record)):
-                raise Unreadable(f'{number} would be record {record}, and {other} is record {at}: expected numbers of a shard to rise with its records')
+                raise Misplaced(f'{number} would be record {record}, and {other} is record {at}: expected numbers of a shard to rise with its records')
         kept[number] = record
 
-    def table(self):
-        """The table of names, which viewer/journal.html and examples/*.awk take."""
-        lines = ['names 1'] + [f'worker w{no} {host}' for host, no in self.workers.items()] + [f'actor {no} {host}' for no, host in self.actors.items()]
+    def table(self, journal):
+        """The table of names, which viewer/journal.html and examples/*.awk take. Its second line ties it to its journal: how many entries that has, and its last clock."""
+        _, *entries, end = journal.decode().splitlines()
+        lines = ['names 1', f'journal {len(entries)} {end.split(" ")[1]}'] + [f'worker w{no} {host}' for host, no in self.workers.items()] + [f'actor {no} {host}' for no, host in self.actors.items()]
         lines += [f'shard {key} {name}' for key, name in sorted(self.used.items(), key=lambda it: tuple(map(int, it[0].split('/'))))]
         for key, kept in self.bound.items():
             lines += [f'record {key.split("/")[0]}/{record} {number}' for number, record in sorted(kept.items()) if number >= OWN]
@@ -180,12 +187,13 @@ class Names:
 
 
 class Story:
-    """Makes a schedule, line by line. `told` has what was refused and what doesn't agree with the log, each with its line."""
+    """Makes a schedule, line by line. `told` has what was refused and what doesn't agree with the log, each with its line. The log says of a line without
+    the word fails that it was done: `refusals` are the lines that are refused all the same, and `odds` those that are answered otherwise in any other way."""
 
     def __init__(self, replay, taken):
         self.replay, self.names = replay, Names(taken)
         self.lines, self.answers, self.told, self.holds, self.tenures, self.counters, self.refused_takes = [], [], [], {}, {}, {}, {}
-        self.at, self.where, self.text, self.fails = 0, '', '', False
+        self.at, self.where, self.text, self.fails, self.refusals, self.odds = 0, '', '', False, [], []
         # the records of each shard that lines of the story put, those that no line put, and the shards that take none any more
         self.there, self.added, self.closed = {}, {}, set()
 
@@ -195,9 +203,10 @@ class Story:
         self.lines.append(line)
         self.answers.append(answer)
         if answer.startswith('refused') and not self.fails:
+            self.refusals.append(self.where)
             self.tell(f'{self.said()}: {answer}{self.meaning(answer)}')
         elif self.fails and not answer.startswith('refused'):
-            self.tell(f'{self.said()}: the log says that it failed, and here it is answered {shown(answer)}: is a line missing, or is the clock of a host wrong?')
+            self.differs(f'the log says that it failed, and here it is answered {shown(answer)}: {CAUSES}')
         return answer
 
     def said(self):
@@ -206,6 +215,11 @@ class Story:
 
     def tell(self, what):
         self.told.append(f'{self.where}: {what}')
+
+    def differs(self, how):
+        """The replay answers a line otherwise than the log has it."""
+        self.odds.append(self.where)
+        self.tell(f'{self.said()}: {how}')
 
     def meaning(self, answer):
         """A refusal's value by its name."""
@@ -234,6 +248,8 @@ class Story:
         """What an accepted raw command changed."""
         verb, first, *more = command.split(' ') + ['', '']
         tenure = self.tenures.get(first)
+        if verb == 'open' and tenure:
+            tenure.tried = True
         if not answer.startswith('ok'):
             if verb == 'take':
                 self.refused_takes[by, first] = f'its take, {self.where.rsplit(": ", 1)[-1]}, was {answer}'
@@ -259,7 +275,7 @@ class Story:
         line = f'{self.at} api {operation} {json.dumps(body, separators=(",", ":"))}'
         answer = self.replay.ask(line)
         if not answer.startswith('200'):
-            raise Unreadable(f'{operation} is answered {shown(answer)}')
+            raise Misplaced(f'{operation} is answered {shown(answer)}')
         self.keep(line, answer)
         self.follow(operation, body)
         return json.loads(answer[4:] or '{}')
@@ -339,7 +355,7 @@ class Story:
             replies = self.api('PutRecords', {'StreamName': self.names.stream_of(key), 'Records': some})['Records']
             odd = next((it for it in replies if it.get('ShardId') != id_of(key)), None)
             if odd:
-                raise Unreadable(f'{name} takes no records any more: expected this line before its split or merge' if 'ShardId' in odd else f'a record is refused: {shown(str(odd))}')
+                raise Misplaced(f'{name} takes no records any more: expected this line before its split or merge' if 'ShardId' in odd else f'a record is refused: {shown(str(odd))}')
             self.there.setdefault(key, []).extend(int(it['SequenceNumber']) for it in replies)
 
     def put_missing(self, key, reach, count):
@@ -355,8 +371,14 @@ class Story:
         """The newest tenure of a lease that this process took."""
         if (by, key) not in self.holds:
             why = self.refused_takes.get((by, key), f'expected a line {host} take {self.names.used.get(key, key)} before it, by the same process')
-            raise Unreadable(f'{host} has no tenure of {self.names.used.get(key, key)}: {why}')
+            raise Misplaced(f'{host} has no tenure of {self.names.used.get(key, key)}: {why}')
         return self.holds[by, key]
+
+    def tried(self, host, tenure):
+        """Who fetches or processes has opened the shard, or has tried to."""
+        if not tenure.tried:
+            name = self.names.used.get(tenure.key, tenure.key)
+            raise Misplaced(f'{host} has not opened {name}: expected a line {host} open {name} before it')
 
     def command(self, by, host, verb, key, more):
         """A command on leases by its shard."""
@@ -378,6 +400,7 @@ class Story:
     def fetch(self, by, host, key, words):
         """A read of as many records as the log has."""
         count = counted(words[0], 1, MOST_READ) if words else 0
+        self.tried(host, self.held(by, host, key))
         if count and self.held(by, host, key).opened:
             self.put_missing(key, self.held(by, host, key).reach, count)
         return self.command(by, host, 'read', key, words)
@@ -395,51 +418,94 @@ class Story:
         here = it.waiting[0] if it.waiting else []
         given = self.command(by, host, 'give', key, []).startswith('ok')
         if given and count is not None and int(count) != len(here):
-            late = ': a closed shard takes no more, so a records line of it stands before its split or merge' if key in self.closed else ''
-            self.tell(f'the log has {count} records, and here are {len(here)}{late if len(here) < int(count) else ""}')
+            late = 'a closed shard takes no more, so a records line of it stands before its split or merge' if key in self.closed and len(here) < int(count) else CAUSES
+            self.differs(f'the log has {count} records, and here are {len(here)}: {late}')
         if given and words and here:
             self.number(key, int(words[1]), here[-1], 'the last record processed')
         elif given and words:
-            self.tell('nothing was delivered here, so the number stands for no record')
+            self.differs(f'nothing was delivered here, so the number stands for no record: {CAUSES}')
 
     def number(self, key, number, record, what):
         """A number of the log stands for a record, or is checked if it is known."""
-        known = self.names.bound.get(key, {}).get(number, number if number < OWN else None)
+        known = self.record_of(key, number)
         if known is None:
             self.names.bind(key, number, record)
         elif known != record:
-            self.tell(f'the log has {number}, which is record {known} here, and {what} is {record}')
+            self.differs(f'the log has {number}, which is record {known} here, and {what} is {record}: {CAUSES}')
 
     def begins(self, by, host, word, key, words):
         """A take or an open. The log may have the checkpoint at which the lease begins: here it is the same, or a line is wrong."""
-        if words and (len(words) != 2 or words[0] != 'at' or words[1] not in FIRST and not NUMBER.fullmatch(words[1])):
+        at = words[1] if len(words) == 2 and words[0] == 'at' else None
+        if words and (at is None or at not in (*FIRST, SHARD_END, END) and not NUMBER.fullmatch(at)):
             self.expected(word)
         answer = self.command(by, host, word, key, [])
-        if not words or not answer.startswith('ok'):
+        if not answer.startswith('ok'):
             return answer
-        start = self.held(by, host, key).start
-        record = 0 if words[1] in FIRST else self.names.bound.get(key, {}).get(int(words[1]), int(words[1]) if int(words[1]) < OWN else None)
-        if record != start:
-            here = next((str(number) for number, at in self.names.bound.get(key, {}).items() if at == start), f'record {start}' if start else FIRST[0])
-            self.tell(f'the log begins at {words[1]}, and here the lease begins at {here}: is a checkpoint line missing, or is the clock of a host wrong?')
+        it = self.held(by, host, key)
+        if at is None:
+            if word == 'open' and not it.told:
+                self.unmarked(host, key, it)
+            return answer
+        it.told = True
+        if at in (SHARD_END, END):
+            fits = it.ended
+        else:
+            record = 0 if at in FIRST else self.record_of(key, int(at))
+            fits = not it.ended and record == it.start
+        if not fits:
+            here = SHARD_END if it.ended else next((str(number) for number, one in self.names.bound.get(key, {}).items() if one == it.start), f'record {it.start}' if it.start else FIRST[0])
+            self.differs(f'the log begins at {at}, and here the lease begins at {here}: {self.missing(key, at, it)}')
         return answer
 
+    def record_of(self, key, number):
+        """The record that a number of the log stands for, if that is known."""
+        return self.names.bound.get(key, {}).get(number, number if number < OWN else None)
+
+    def before(self, tenure):
+        """The tenure of the same lease before one."""
+        return max((it for it in self.tenures.values() if it.key == tenure.key and int(it.no) < int(tenure.no)), key=lambda it: int(it.no), default=None)
+
+    def unmarked(self, host, key, tenure):
+        """A lease begins below records that the tenure before was delivered, and no number of the log says so."""
+        before = self.before(tenure)
+        above = sum(it > tenure.start for it in before.delivered) if before and not tenure.ended else 0
+        if above:
+            name, at = self.names.used.get(key, key), f'record {tenure.start}' if tenure.start else FIRST[0]
+            self.tell(f'{self.said()}: {self.names.host_of(before.worker)} had processed {above} records above {at}, where the lease begins here, and nothing says where it begins in the log: '
+                      f'is a line {self.names.host_of(before.worker)} checkpoint {name} missing before it? If the log has where it begins, add at NUMBER')
+
+    def missing(self, key, at, tenure):
+        """Why a lease may begin elsewhere. Where the log has a record that the tenure before was delivered, that one's checkpoint line is what lacks."""
+        record, before = self.record_of(key, int(at)) if at.isdigit() else None, self.before(tenure)
+        if before and record is not None and record > tenure.start and record in before.delivered:
+            return f'is the line {self.names.host_of(before.worker)} checkpoint {self.names.used.get(key, key)} at {at} missing before it, or is the clock of a host wrong?'
+        return 'is a checkpoint line missing, or is the clock of a host wrong?'
+
     def checkpoint(self, by, host, key, words):
-        if words and (len(words) != 2 or words[0] != 'at' or words[1] not in (END, 'SHARD_END') and not NUMBER.fullmatch(words[1])):
+        if words and (len(words) != 2 or words[0] != 'at' or words[1] not in (END, SHARD_END) and not NUMBER.fullmatch(words[1])):
             self.expected('checkpoint')
         it = self.held(by, host, key)
         if not words:
-            return self.command(by, host, 'mark', key, [])
-        if words[1] in (END, 'SHARD_END'):
+            return self.at_the_last(by, host, key, it)
+        if words[1] in (END, SHARD_END):
             return self.command(by, host, 'mark', key, [END])
         number = int(words[1])
-        record = self.names.bound.get(key, {}).get(number, number if number < OWN else None)
+        record = self.record_of(key, number)
         if record is None:
             if not it.delivered:
-                raise Unreadable(f'no record has the number {number}: expected it behind to, in a records or process line of this shard before')
+                raise Misplaced(f'no record has the number {number}: expected it behind to, in a records or process line of this shard before')
             record = last_of(it)
             self.names.bind(key, number, record)
         return self.command(by, host, 'mark', key, [str(record)])
+
+    def at_the_last(self, by, host, key, tenure):
+        """A checkpoint at the last record that was processed: above the one before, or a process line lacks."""
+        last = last_of(tenure)
+        answer = self.command(by, host, 'mark', key, [])
+        if answer.startswith('ok') and last == tenure.marked:
+            self.tell(f'{self.said()}: nothing was processed since the checkpoint before it: is a process line missing?')
+        tenure.marked = last
+        return answer
 
     def hand_off(self, by, host, key, _):
         """As the library does: what the processor has is given, its end is the checkpoint, and the row is freed."""
@@ -543,16 +609,27 @@ def counted(word, least, most):
     return int(word)
 
 
-def schedule_of(lines):
-    """The schedule, its answers, its names and what was told, of lines with their moment, their place and the rest."""
+class Stopped(Unreadable):
+    """A line can't be. The story up to it has what was told before."""
+
+    def __init__(self, story, where, why):
+        super().__init__('\nschedule: '.join([*story.told, f'{where}: {why}']))
+        self.story, self.where, self.is_misplaced = story, where, isinstance(why, Misplaced)
+
+
+def schedule_of(lines, program=None, strict=None):
+    """The schedule, its answers, its names and what was told, of lines with their moment, their place and the rest. With `strict`, which is asked at each line,
+    the first line that the replay answers otherwise than the log has it ends it."""
     taken = {int(words[1]) for words in (rest.split() for _, _, rest in lines) if len(words) > 1 and words[0] == 'raw' and words[1].isdigit() and len(words[1]) < 4}
-    with Replay() as replay:
+    with Replay(program) as replay:
         story = Story(replay, taken)
         for at, where, rest in lines:
             try:
                 story.line(at, where, rest)
             except Unreadable as why:
-                raise Unreadable('\nschedule: '.join([*story.told, f'{where}: {why}'])) from why
+                raise Stopped(story, where, why) from why
+            if strict and not strict(story):
+                raise Stopped(story, where, 'it is answered otherwise')
     for key, count in story.added.items():
         story.told.append(f'{story.names.used[key]}: {count} of the records that the log has stood in no records line, and were put where the log has them first')
     return story
