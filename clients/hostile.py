@@ -1,5 +1,8 @@
-"""Files that somebody made to run script in viewer/journal.html or to send something away: each word of each kind of line of a journal, its
-answers and its schedule is HTML once. None is to do anything but to be shown."""
+"""Files that somebody made to run script in viewer/journal.html or to send something away, to stop the page or to write its sentences: each word of each kind of
+line of a journal, its answers and its schedule is HTML once, a word that every object of a script has, and signs that turn text or move a cursor; and small
+files that could take long. None is to do anything but to be shown, each in its time."""
+import json
+import random
 import re
 import socket
 import threading
@@ -8,6 +11,11 @@ import threading
 WORD = '\'/spoilt="1"/<img/src="{away}"/onerror="window.pwned=1">&lt;b&gt;&'
 COMMANDS = ('survey', 'rows', 'make 1/0', 'make 1/0 latest', 'make 1/0 time 5', 'take 1/0 0 w1', 'renew 1 1', 'free 1 1', 'open 1', 'read 1 1 10', 'give 1', 'mark 1 1 1',
             'mark 1 1 end', 'cut 1/0 0')
+# Words that an object has before anybody gives it one, and signs: of the direction of writing, of a terminal, of a line's end.
+OWN_WORDS = ('constructor', '__proto__')
+SIGNS = 'a\u202eb\x1b[2J\x07\x0b\u2067\x85\x7f'
+# The milliseconds that a page may take for one file, on a busy machine: to read it, draw it twice, fold it and look for a record in it.
+LIMIT = 5_000
 REFUSALS = ('NoLease', 'Lost 2', 'Moved 3', 'ParentsOpen 1/0', 'Unheard')
 
 
@@ -61,13 +69,83 @@ def spoilt(text, word):
 def cases(away, stories):
     """Names and texts. A story is a journal, its answers and its schedule, or the journal and its answers alone."""
     word = WORD.format(away=away)
+    yield from of_word(word, stories)
+    yield from refused(word, *next(iter(stories.values())))
+    for other in (*OWN_WORDS, SIGNS):
+        yield from of_word(other, dict(list(stories.items())[:1]))
+        yield from refused(other, *next(iter(stories.values())))
+    yield from muddled(random.Random(11), *next(iter(stories.values())))
+
+
+def of_word(word, stories):
+    """Each text of each story once for each of its places, with the word there."""
     for name, (journal, *others) in stories.items():
         for what, text in spoilt(journal, word):
             yield f'{name}, journal, {what}', [text, *others]
         for at, kind in enumerate(('answers', 'schedule')[:len(others)]):
             for what, text in spoilt(others[at], word):
                 yield f'{name}, {kind}, {what}', [journal, *others[:at], text, *others[at + 1:]]
-    yield from refused(word, *next(iter(stories.values())))
+
+
+def muddled(chance, *texts):
+    """Texts whose lines and bytes were mixed by chance."""
+    odd = ['\0', '\ufffd', '\u2028', '\r', ' ', '-1', '9' * 400, '1e9', 'NaN', 'end', '{', '[' * 2000, '" = "', '; handed', 'é', '\ud7ff']
+    for i in range(200):
+        found = []
+        for text in texts:
+            lines = text.splitlines()
+            for _ in range(chance.randrange(1, 5)):
+                at, kind = chance.randrange(len(lines)), chance.random()
+                if kind < 0.3:
+                    lines[at] = lines[chance.randrange(len(lines))]
+                elif kind < 0.4:
+                    del lines[at]
+                else:
+                    words = lines[at].split(' ')
+                    words[chance.randrange(len(words))] = chance.choice(odd)
+                    lines[at] = ' '.join(words)
+            found.append('\n'.join(lines) + '\n')
+        yield f'muddled {i}', found
+
+
+# ---- files that could take long
+
+def journal_of(lines, clock=9000):
+    return '\n'.join(['journal 2', *lines, f'end {clock}']) + '\n'
+
+
+def heavy():
+    """Names and texts of small files, each with something that is many: what costs the square of it, or more than it, stops a page."""
+    one = ['1000 0 made 1 s 1', '1000 1 lease 1/0', '1000 1 taken 1/0 1 1 w1', '1000 1 opened 1']
+    puts = [f'1000 0 put 1 0 {i} 5 2 3' for i in range(1, 20_001)]
+    yield 'streams of 500 shards', [journal_of(f'1000 0 made {i} s{i} 500' for i in range(1, 20_001))]
+    yield 'streams of 500 shards that are deleted', [journal_of(it for i in range(1, 10_001) for it in (f'1000 0 made {i} s 500', f'1000 0 gone {i}'))]
+    yield 'streams that are deleted, at one moment each', [journal_of((it for i in range(1, 20_001) for it in (f'{i} 0 made {i} s 1', f'{i} 0 gone {i}')), 20_000)]
+    yield 'one shard that is split often', [journal_of([one[0], *(f'1000 0 split 1 0 5 1 {2 * i + 1} {2 * i + 2}' for i in range(20_000))])]
+    yield 'splits of each child', [journal_of([one[0], *(f'1000 0 split 1 {i} 5 1 {2 * i + 1} {2 * i + 2}' for i in range(20_000))])]
+    yield 'rows, and records below them', [journal_of([one[0], *puts, *(it for i in range(10_000) for it in (f'2000 1 lease 1/0 {"latest" if i % 2 else "time 1500"}', '2000 1 cut 1/0 0'))])]
+    takes = [f'{2000 + i} {i % 900 + 1} taken 1/0 {i + 2} {i + 2} w{i % 900 + 1}' for i in range(10_000)]
+    yield 'tenures that all go on behind their end', [journal_of([*one, *takes, *(f'20000 {i % 900 + 1} read {i + 2} 10 more' for i in range(10_000))], 30_000)]
+    yield 'tenures by many workers', [journal_of([*one, *(f'{2000 + i} 1 taken 1/0 {i + 2} {i + 2} w{i + 1}' for i in range(10_000))], 30_000)]
+    numbers = [[str(i) for i in range(1, 20_001) if i % 2 == part] for part in (1, 0)]
+    reads = [f'2000 1 read 1 10000 more {" ".join(it)}' for it in (*numbers, [str(i) for i in range(1, 20_001)])]
+    yield 'deliveries in very many runs', [journal_of([*one, *puts, *reads, '3000 1 given 1', '4000 1 given 1', '5000 1 given 1'])]
+    yield 'a checkpoint at the end, often', [journal_of([*one, *(f'{2000 + i} 1 marked 1 2 end' for i in range(20_000))], 30_000)]
+    yield 'renewals', [journal_of([*one, *(f'{2000 + i} 1 renewed 1 {i + 2}' for i in range(20_000))], 30_000)]
+    yield 'numbers of many digits', [journal_of([*one, *(f'{"9" * 300} 0 put 1 0 {"9" * 300} 5 2 3' for _ in range(500))])]
+    yield 'a line of digits', [journal_of([*one, '9' * 500_000, '1000 0 ' + 'a' * 500_000, '1000 1 read 1 5 more' + ' 1' * 200_000 + 'x'])]
+    yield 'lines that are none', ['journal 2\n' + 'nonsense\n' * 100_000]
+    small = journal_of([*one, '1000 0 put 1 0 1 5 2 3'])
+    head = '200\nok\nok tenure 1 counter 1 start TRIM_HORIZON\nok\n200 {"SequenceNumber":"1","ShardId":"shardId-000000000000"}\n'
+    yield 'refusals', [small, head + 'refused Lost 1\n' * 30_000]
+    for name, text in {
+            'signs of an answer': ' = ' * 120_000 + 'x', 'parts of a hand-off': 'make 1/0 = ok; ' * 50_000 + 'handed', 'shards that are wanted': '200 {"CurrentShardCount":1,"StreamName":"s","TargetShardCount":10000000}',
+            'types': '400 ' + '{"__type":"' * 50_000, 'a deep body': '200 {"SequenceNumber":' + '[' * 200_000, 'records without a shard': '200 {"FailedRecordCount":0,"Records":[{"SequenceNumber":"1"}]}',
+            'a record that is none': '200 {"SequenceNumber":"1"}', 'reads': 'ok reach 9 more' + ' 1' * 100_000 + 'x'}.items():
+        yield name, [small, head + text + '\n']
+        yield f'{name}, and more of it', [small, head + (text + '\n') * 20]
+    yield 'names of very many records', [journal_of([one[0], *puts]), 'names 1\n' + ''.join(f'record 1/{i} {i + 10**55}\n' for i in range(1, 20_001)) + 'worker w1 ' + 'h' * 200 + '\n']
+    yield 'bodies', [small, head, ''.join(f'1000 api PutRecord {json.dumps("x" * 50_000)}\n' for _ in range(5))]
 
 
 def refused(word, journal, answers, schedule):
@@ -110,6 +188,10 @@ table caption thead tbody tr th td a script'.split(' ')), found = [];
             for (const { name: attribute } of it.attributes) if (/^on|^spoilt$/.test(attribute)) found.push([name, it.tagName, attribute]);
         }
         if (window.pwned) { found.push([name, 'ran']); window.pwned = undefined; }
+        const text = document.body.textContent;
+        if (/native code|\[object Object\]/.test(text)) found.push([name, 'a word of the script']);
+        const sign = /[\\u202a-\\u202e\\u2066-\\u2069\\u0080-\\u009f\\0-\\x08\\x0b-\\x1f\\x7f]/.exec(text);
+        if (sign) found.push([name, 'a sign that is obeyed', sign[0].charCodeAt(0)]);
     };
     for (const [i, [name, texts]] of cases.entries()) {
         state.files = {}; state.joined = false;
@@ -123,4 +205,16 @@ table caption thead tbody tr th td a script'.split(' ')), found = [];
     }
     look('the last');
     return found;
+})"""
+
+# What a page takes for a file that could take long, in milliseconds: to read it, to draw it by both axes, to fold and unfold it, and to look for a record.
+TIMED = """((texts) => {
+    const begin = performance.now();
+    state.files = {}; state.joined = false;
+    arrive(texts.map((text) => ({ text, name: 'heavy' })));
+    if (state.model) {
+        draw(); axis('entry'); draw(); axis('clock'); foldAll(); foldAll(); draw();
+        document.querySelector('#search').value = 'record 9'; search(1); go(1);
+    }
+    return performance.now() - begin;
 })"""

@@ -56,7 +56,7 @@ class Story:
 
     def trim(self, n, only=None):
         """From this entry on, what came at the moment told or before is gone."""
-        for stream in [only] if only else self.hours:
+        for stream in [only] if only else set(self.hours) - set(self.gone):
             before = self.cuts[stream][-1][1] if self.cuts[stream] else -math.inf
             self.cuts[stream].append((n, max(before, self.clocks[n - 1] - self.hours[stream] * HOUR)))
 
@@ -119,7 +119,9 @@ class Story:
 
     def on_given(self, n, words):
         it = self.on_renewed(n, words)
-        it['given'].append((n, it['wait'].popleft()))
+        # an empty batch isn't handed to the processor, so it is no delivery
+        if numbers := it['wait'].popleft():
+            it['given'].append((n, numbers))
 
     def on_marked(self, n, words):
         key = self.on_renewed(n, words)['key']
@@ -191,21 +193,18 @@ class Drawing:
         self.line('put', shard, shard, story.born[shard], story.over_at(shard), 0, [(n, i) for i, (n, _) in enumerate(puts, 1)])
         clocks = [story.clocks[n - 1] for n, _ in puts]
         trims = [(n, sum(clock <= at for clock in clocks[:bisect.bisect_right([it for it, _ in puts], n)])) for n, at in story.cuts[shard.split('/')[0]]]
-        self.line('trimmed', shard, shard, story.born[shard], None, 0, trims if trims and trims[-1][1] else [])
+        self.line('trimmed', shard, shard, story.born[shard], story.gone.get(shard.split('/')[0]), 0, trims if trims and trims[-1][1] else [])
         marks = [(n, self.rank(shard, to)) for n, to in story.marks[shard]]
         if marks:
             self.line('checkpoint', shard, shard, marks[0][0], None, marks[0][1], marks)
 
     def tenure(self, no, it):
-        shard, end, last = it['key'], it['end'], 0
+        shard, end = it['key'], it['end']
         base = lambda batches: next((self.rank(shard, numbers[0] - 1) for _, numbers in batches if numbers), 0)
         reads = [(n, self.rank(shard, numbers[-1])) for n, numbers in it['reads'] if numbers]
         timely, late = [], []
         for n, numbers in it['given']:
-            last = numbers[-1] if numbers else last
-            # an empty batch isn't handed to the processor, so behind the end it is no late delivery
-            if last and (numbers or not end or n <= end):
-                (late if end and n > end else timely).append((n, self.rank(shard, last)))
+            (late if end and n > end else timely).append((n, self.rank(shard, numbers[-1])))
         if reads:
             self.line('read', no, shard, reads[0][0], end and max(end, it['last']), base(it['reads']), reads)
         if timely:
