@@ -20,12 +20,14 @@ function tenure(t) { return "tenure " t " (" named(who[t]) ")" }
 function tell(   many) {
     if (!run) return
     many = run == 1 ? "record " record(of, first) : run " records, " record(of, first) " to " record(of, last)
-    print date(at) " " named(key[now]) ": " many ": " tenure(before) " at " date(when) ", again " tenure(now)
+    told[++lines] = date(at) " " named(key[now]) ": " many ": " tenure(before) " at " date(when) ", again " tenure(now)
     run = 0
 }
-# Another file has no answer: what isn't a journal, or names that come too late.
-$1 == "names" && entries { late = 1 }
-$1 ~ /^[0-9]+$/ && $2 ~ /^[0-9]+$/ && $3 ~ /^[a-z]+$/ || $1 == "end" && NF == 2 { entries++ }
+# Another file has no answer: what isn't a journal, names that come too late, or names of another journal, which their second line tells.
+$1 == "names" && read_any { late = 1 }
+$1 == "journal" && NF == 3 { named_entries = $2; named_end = $3 }
+$1 ~ /^[0-9]+$/ && $2 ~ /^[0-9]+$/ && $3 ~ /^(made|gone|put|split|merged|kept|enforced|lease|taken|renewed|freed|opened|read|given|marked|cut)$/ { entries++; read_any = 1 }
+$1 == "end" && NF == 2 { clock = $2; read_any = 1 }
 # What a terminal would take for a command is no word of a file.
 /[^ -~]/ { gsub(/[^ -~]/, "?") }
 $1 == "worker" || $1 == "shard" { name[$2] = $3 }
@@ -47,9 +49,12 @@ $3 == "given"  {
     tell()
 }
 END {
-    if (!entries || late) {
-        print "delivered-twice.awk: " (late ? "names.txt stands before the journal" : "no journal was read: give incident.journal, or what ./kds replay --journal writes") > "/dev/stderr"
+    why = late ? "names.txt stands before the journal" : !read_any ? "no journal was read: give incident.journal, or what ./kds replay --journal writes" : \
+        named_end != "" && (named_entries != entries + 0 || named_end != clock) ? "the names are of another journal, of " named_entries " entries, and this one has " entries + 0 : ""
+    if (why) {
+        print "delivered-twice.awk: " why > "/dev/stderr"
         exit 2
     }
+    for (i = 1; i <= lines; i++) print told[i]
     print twice + 0
 }

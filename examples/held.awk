@@ -15,9 +15,11 @@ function named(word) { return word in name ? name[word] : word }
 function record(of, n) { return (of, n) in number ? n " (" number[of, n] ")" : n }
 # A tenure ends once: what it does after that is told by its last delivery.
 function over(t, at, why) { if (t != "" && !(t in end)) { end[t] = at; how[t] = why } }
-# Another file has no answer: what isn't a journal, or names that come too late.
-$1 == "names" && entries { late = 1 }
-$1 ~ /^[0-9]+$/ && $2 ~ /^[0-9]+$/ && $3 ~ /^[a-z]+$/ || $1 == "end" && NF == 2 { entries++ }
+# Another file has no answer: what isn't a journal, names that come too late, or names of another journal, which their second line tells.
+$1 == "names" && read_any { late = 1 }
+$1 == "journal" && NF == 3 { named_entries = $2; named_end = $3 }
+$1 ~ /^[0-9]+$/ && $2 ~ /^[0-9]+$/ && $3 ~ /^(made|gone|put|split|merged|kept|enforced|lease|taken|renewed|freed|opened|read|given|marked|cut)$/ { entries++; read_any = 1 }
+$1 == "end" && NF == 2 { clock = $2; read_any = 1 }
 # What a terminal would take for a command is no word of a file.
 /[^ -~]/ { gsub(/[^ -~]/, "?") }
 $1 == "worker" || $1 == "shard" { name[$2] = $3 }
@@ -30,10 +32,11 @@ $3 == "opened" { opened[$4] = $1 }
 $3 == "read"   { size[$4, ++read[$4]] = NF - 6 }
 $3 == "given"  { if (size[$4, ++given[$4]]) last[$4] = $1 }
 $3 == "marked" { mark[$4] = $6 == "end" ? "SHARD_END" : record(stream[$4], $6) }
-$1 == "end"    { clock = $2 }
 END {
-    if (!entries || late) {
-        print "held.awk: " (late ? "names.txt stands before the journal" : "no journal was read: give incident.journal, or what ./kds replay --journal writes") > "/dev/stderr"
+    why = late ? "names.txt stands before the journal" : !read_any ? "no journal was read: give incident.journal, or what ./kds replay --journal writes" : \
+        named_end != "" && (named_entries != entries + 0 || named_end != clock) ? "the names are of another journal, of " named_entries " entries, and this one has " entries + 0 : ""
+    if (why) {
+        print "held.awk: " why > "/dev/stderr"
         exit 2
     }
     for (i = 1; i <= n; i++) {
