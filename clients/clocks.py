@@ -8,8 +8,9 @@ import time
 import story
 from story import FORMS, OF_STREAMS, ROOT, Unreadable
 
-# The seconds that the search takes at most, the lines of a story for which it is tried, and the orders of one host's lines that are looked at.
-PATIENCE, MOST_LINES, MOST_ORDERS = 2, 2_000, 500
+# The seconds that the search takes at most, of the processor and on a clock, the lines of a story for which it is tried, and the orders of one host's lines
+# that are looked at.
+PATIENCE, LONGEST, MOST_LINES, MOST_ORDERS = 2, 20, 2_000, 500
 # How far behind the last line with which it could change places a host's lines are moved, and what is left of a gap at its ends, in milliseconds.
 BEYOND = 1_000
 MOST_PAIRS = 3
@@ -119,11 +120,12 @@ class Search:
     """Replays of the story in other orders, until the time is over."""
 
     def __init__(self, lines, most_refused):
-        self.lines, self.most_refused, self.end, self.tried, self.program = lines, most_refused, time.monotonic() + PATIENCE, 0, program()
+        self.lines, self.most_refused, self.tried, self.program = lines, most_refused, 0, program()
+        self.end, self.last = time.process_time() + PATIENCE, time.monotonic() + LONGEST
 
     @property
     def is_over(self):
-        return time.monotonic() > self.end
+        return time.process_time() > self.end or time.monotonic() > self.last
 
     def fits(self, host, shift):
         """Whether all of the story is answered as the log has it."""
@@ -197,7 +199,7 @@ def wrong_clock(lines, out, stopped):
         return [says(host, *bounds, lines) for host, bounds in list(found.items())[:MOST_PAIRS]]
     if not search.tried or len({it.host for it in lines if it.host and near & set(it.shards)}) < 2:
         return []
-    rest = f'; the search ended after {PATIENCE} s, so not all orders were tried' if search.is_over else ''
+    rest = '; the time of the search was over, so not all orders were tried' if search.is_over else ''
     return [f'no wrong clock of one host makes all of it fit, of {search.tried} {"order that was" if search.tried == 1 else "orders that were"} replayed: is a line missing, or the word fails at one that failed?{rest}']
 
 

@@ -270,17 +270,28 @@ class Stories(unittest.TestCase):
 
     @unittest.skipUnless(shutil.which('awk'), 'there is no awk')
     def test_files_of_a_stranger_on_a_terminal(self):
+        # a table of names without the line that ties it to its journal, so that a journal with other lines is read too
+        names, tie, rest = example('mid-life.names').split(b'\n', 2)
+        self.assertEqual(b'journal 45 1795961320350', tie)
+        texts = {'names': names + b'\n' + rest, 'journal': example('mid-life.journal')}
         for script in ('held.awk', 'delivered-twice.awk'):
             plain = [subprocess.run(['awk', '-f', script, *names, 'mid-life.journal'], cwd=EXAMPLES, capture_output=True, check=True).stdout for names in ([], ['mid-life.names'])]
             self.assertEqual([(True, False), (False, True)], [(b'w1' in text, b'host-a' in text) for text in plain])
-            for name in ('mid-life.names', 'mid-life.journal'):
-                odd = example(name).replace(b'host', b'\x1b[31m').replace(b' w2', b' w\x1b2').replace(b'1/0', b'1/\x07').replace(b'1795961', b'\x1b795961')
-                with tempfile.NamedTemporaryFile() as file:
-                    file.write(odd)
-                    file.flush()
-                    words = [file.name, 'mid-life.journal'] if name == 'mid-life.names' else ['mid-life.names', file.name]
-                    out = subprocess.run(['awk', '-f', script, *words], cwd=EXAMPLES, capture_output=True, check=True).stdout
+            for name in texts:
+                odd = texts[name].replace(b'host', b'\x1b[31m').replace(b' w2', b' w\x1b2').replace(b'1/0', b'1/\x07').replace(b'1795961', b'\x1b795961')
+                with tempfile.TemporaryDirectory() as folder:
+                    for file, text in (texts | {name: odd}).items():
+                        (pathlib.Path(folder) / file).write_bytes(text)
+                    out = subprocess.run(['awk', '-f', EXAMPLES / script, 'names', 'journal'], cwd=folder, capture_output=True, check=True).stdout
                 self.assertEqual([], [byte for byte in out if byte < 32 and byte != 10 or byte > 126])
+
+    @unittest.skipUnless(shutil.which('awk'), 'there is no awk')
+    def test_files_that_are_no_journal(self):
+        for script in ('held.awk', 'delivered-twice.awk'):
+            for files in (['../README.md'], ['incident.out'], ['incident.txt'], ['/dev/null'], ['../docs/journal.png'], ['incident.names'], ['incident.names', 'mid-life.journal'], ['incident.journal', 'incident.names']):
+                with self.subTest(script=script, files=files):
+                    done = subprocess.run(['awk', '-f', script, *files], cwd=EXAMPLES, capture_output=True, check=False)
+                    self.assertEqual((2, b'', 1, True), (done.returncode, done.stdout, done.stderr.count(b'\n'), done.stderr.startswith(f'{script}: '.encode())), done.stderr)
 
 
 # What the logs of three hosts say: a lease goes from a to d in a pause of a, which then delivers 40 records again. The words behind a | are those of a log that has
@@ -403,6 +414,40 @@ class Dumps(unittest.TestCase):
             self.assertEqual((0, '', b'\ns1 now waits for s0\n'), (status, said, out[-21:]))
             self.assertTrue(made('two', 'one', program=DUMP, cwd=folder)[1].startswith(b'All counters fell: are the two dumps in the wrong order?'))
 
+    def dumped(self, text, *words):
+        with tempfile.TemporaryDirectory() as folder:
+            pathlib.Path(folder, 'table').write_text(text)
+            status, out, said = made(*words, 'table', program=DUMP, cwd=folder)
+        return status, out.decode(), said
+
+    def test_two_dumps_of_which_some_rows_stayed(self):
+        rows = lambda *counters: '\n'.join(json.dumps({'leaseKey': f's{i}', 'checkpoint': '5', 'leaseOwner': 'h', 'leaseCounter': str(it)}) for i, it in enumerate(counters))
+        for one, other, turned in (((5, 7), (4, 7), True), ((5, 7), (5, 7), False), ((5, 7), (4, 8), False), ((5, 7), (9, 9), False)):
+            with tempfile.TemporaryDirectory() as folder:
+                for name, counters in (('one', one), ('two', other)):
+                    pathlib.Path(folder, name).write_text(rows(*counters))
+                self.assertEqual(turned, made('one', 'two', program=DUMP, cwd=folder)[1].startswith(b'All counters fell'))
+
+    def test_a_table_that_is_cut_off(self):
+        items = [json.loads(line)['Item'] for line in example('lease-table-1404.json').splitlines()]
+        for mark in ('NextToken', 'LastEvaluatedKey'):
+            text = json.dumps({'Items': items, 'Count': 4, mark: 'x'})
+            said = f'The dump has a {mark}, so the table has more rows than these: scan it without --max-items and --no-paginate.'
+            self.assertEqual((0, f'{said}\n\n' + example('lease-table-1404.out').decode(), ''), self.dumped(text))
+            status, out, warned = self.dumped(text, '--story', 'payments', '--at', '5')
+            self.assertEqual((0, f'# {said}', f'dump: table: {said}\n'), (status, out.splitlines()[1], warned))
+
+    def test_several_streams(self):
+        keys = ['123456789012:orders:7:shardId-000000000000', '123456789012:bills:8:shardId-000000000000', '123456789012:bills:8:shardId-000000000001']
+        text = '\n'.join(json.dumps({'leaseKey': key, 'checkpoint': '77777777777777777777777', 'leaseOwner': 'h'}) for key in keys)
+        status, out, said = self.dumped(text, '--story', 'bills', '--at', '5')
+        self.assertEqual((0, '5 stream bills shardId-000000000000 shardId-000000000001', ''), (status, out.splitlines()[1], said))
+        self.assertEqual((0, ''), made(text=out.encode())[::2])
+        self.assertEqual((1, '', 'dump: the dump has leases of several streams, 123456789012:bills:8, 123456789012:orders:7: expected one of the name payments, as --story STREAM takes it\n'),
+                         self.dumped(text, '--story', 'payments', '--at', '5'))
+        again = text + '\n' + json.dumps({'leaseKey': '123456789012:bills:9:shardId-000000000000', 'checkpoint': '5'})
+        self.assertIn('expected no more than one of the name bills', self.dumped(again, '--story', 'bills', '--at', '5')[2])
+
     def test_the_same_from_each_form(self):
         lines = [json.loads(line)['Item'] for line in example('lease-table-1404.json').splitlines()]
         simple = [{name: next(iter(value.values())) for name, value in item.items()} for item in lines]
@@ -437,6 +482,16 @@ class Dumps(unittest.TestCase):
         self.assertIn('split s0 s0-low s0-high', self.beginning([{'leaseKey': 's0', **ended}]))
         self.assertEqual('stream orders s2', self.beginning([child])[0])
         self.assertIn('split s0 s2 other-of-s2', self.beginning([{'leaseKey': 's0', 'checkpoint': 'SHARD_END'}, child]))
+        # children that were begun before their parent's end, one of them, both, and one of a merge
+        open_parent = {'leaseKey': 's0', 'checkpoint': '49668412027348205713498711', 'leaseOwner': 'h', 'childShardIds': ['s2', 's3']}
+        other = {'leaseKey': 's3', 'parentShardId': ['s0'], **first}
+        lines = self.beginning([open_parent, child, other])
+        self.assertEqual(['stream orders s0 s2', 'h checkpoint s0 at 49668412027348205713498711', 'split s0 s3 other-of-s3', 'h checkpoint s2 at 49668412027348205713498722'],
+                         [it for it in lines if it.split()[0] in ('stream', 'split') or 'at' in it.split()])
+        self.assertEqual('stream orders s0 s2 s3', self.beginning([open_parent, child, {**other, 'checkpoint': '49668412027348205713498733'}])[0])
+        self.assertEqual('stream orders s0 s2', self.beginning([open_parent, {**child, **ended}])[0])
+        lines = self.beginning([open_parent, {'leaseKey': 's1', **ended}, {**child, 'parentShardId': ['s0', 's1']}])
+        self.assertEqual(['stream orders s0 s1 s2', 'split s1 s1-low s1-high'], [it for it in lines if it.split()[0] in ('stream', 'split', 'merge')])
         one = 'ip-1:4c1f0d2e-8a11-4b0e-9a70-2f6f5c7f1b01'
         for owners, hosts in (([one], ['ip-1']), ([one, one[:-1] + '2'], [one, one[:-1] + '2']), ([one, 'ip-1'], [one, 'ip-1']), (['host:7'], ['host:7'])):
             lines = self.beginning([{'leaseKey': f's{i}', 'checkpoint': '77777777777777777777777', 'leaseOwner': it} for i, it in enumerate(owners)])
@@ -460,7 +515,7 @@ class Dumps(unittest.TestCase):
 
     def test_words(self):
         self.assertEqual(1, made('no such file', program=DUMP)[0])
-        for words in ([], ['--zone', 'a'], ['a', 'b', 'c'], ['--story', 's', 'a'], ['--at', '5', 'a'], ['--story'], ['--story', 'a b', '--at', '5', 'a'], ['--story', 'a', '--at', 'noon', 'a']):
+        for words in ([], ['--zone', 'a'], ['a', 'b', 'c'], ['--story', 's', '--at', '2026-11-29T14:04:00', 'a'], ['--story', 's', 'a'], ['--at', '5', 'a'], ['--story'], ['--story', 'a b', '--at', '5', 'a'], ['--story', 'a', '--at', 'noon', 'a']):
             with self.subTest(words=words):
                 status, out, said = made(*words, program=DUMP)
                 self.assertEqual((2, b'', 1), (status, out, said.count('\n')))

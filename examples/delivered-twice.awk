@@ -23,13 +23,13 @@ function tell(   many) {
     told[++lines] = date(at) " " named(key[now]) ": " many ": " tenure(before) " at " date(when) ", again " tenure(now)
     run = 0
 }
+# What a terminal would take for a command is no word of a file.
+/[^ -~]/ { gsub(/[^ -~]/, "?") }
 # Another file has no answer: what isn't a journal, names that come too late, or names of another journal, which their second line tells.
 $1 == "names" && read_any { late = 1 }
 $1 == "journal" && NF == 3 { named_entries = $2; named_end = $3 }
 $1 ~ /^[0-9]+$/ && $2 ~ /^[0-9]+$/ && $3 ~ /^(made|gone|put|split|merged|kept|enforced|lease|taken|renewed|freed|opened|read|given|marked|cut)$/ { entries++; read_any = 1 }
 $1 == "end" && NF == 2 { clock = $2; read_any = 1 }
-# What a terminal would take for a command is no word of a file.
-/[^ -~]/ { gsub(/[^ -~]/, "?") }
 $1 == "worker" || $1 == "shard" { name[$2] = $3 }
 $1 == "record" { split($2, part, "/"); number[part[1], part[2]] = $3 }
 $3 == "taken"  { split($4, part, "/"); stream[$5] = part[1]; key[$5] = $4; who[$5] = $7 }
