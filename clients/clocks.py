@@ -11,8 +11,8 @@ from story import FORMS, OF_STREAMS, ROOT, Unreadable
 # The seconds that the search takes at most, of the processor and on a clock, the lines of a story for which it is tried, and the orders of one host's lines
 # that are looked at.
 PATIENCE, LONGEST, MOST_LINES, MOST_ORDERS = 2, 20, 2_000, 500
-# How far behind the last line with which it could change places a host's lines are moved, and what is left of a gap at its ends, in milliseconds.
-BEYOND = 1_000
+# How far beyond the last line with which they could change places a host's lines are moved, in milliseconds, and how many sentences of a kind are said.
+BEYOND, NEVER = 1_000, float('inf')
 MOST_PAIRS = 3
 
 
@@ -103,11 +103,16 @@ def orders(lines, host, near):
     if not of_near:
         return []
     # a line that stands at the other's own moment stands behind it or before it by its place in the text, as it does now
-    below, above = max((it for it in of_near if it <= 0), default=-float('inf')), min((it for it in of_near if it >= 0), default=float('inf'))
+    below, above = max((it for it in of_near if it <= 0), default=-NEVER), min((it for it in of_near if it >= 0), default=NEVER)
     bounds = sorted(all_of)
-    cells = [(bounds[0] - 2 * BEYOND, bounds[0]), *zip(bounds, bounds[1:]), (bounds[-1], bounds[-1] + 2 * BEYOND)]
+    cells = [(-NEVER, bounds[0]), *zip(bounds, bounds[1:]), (bounds[-1], NEVER)]
     kept = [(low, high) for low, high in cells if high - low > 1 and (high <= below or low >= above)]
     return [(host, low, high) for low, high in sorted(kept, key=lambda it: min(map(abs, it)))[:MOST_ORDERS]]
+
+
+def between(low, high):
+    """A shift within these bounds, one of which may be missing."""
+    return int(high - BEYOND if low == -NEVER else low + BEYOND if high == NEVER else (low + high) // 2)
 
 
 def moved(lines, host, shift):
@@ -139,10 +144,10 @@ class Search:
     def widened(self, host, low, high, cells):
         """The bounds of a shift that fits, with the orders beside it that fit too."""
         for one, other in sorted(cells):
-            if one == high and not self.is_over and self.fits(host, (one + other) // 2):
+            if one == high and not self.is_over and self.fits(host, between(one, other)):
                 high = other
         for one, other in sorted(cells, reverse=True):
-            if other == low and not self.is_over and self.fits(host, (one + other) // 2):
+            if other == low and not self.is_over and self.fits(host, between(one, other)):
                 low = one
         return low, high
 
@@ -153,7 +158,7 @@ class Search:
         for host, low, high in sorted(cells, key=lambda it: min(abs(it[1]), abs(it[2]))):
             if self.is_over:
                 break
-            if host not in fit and self.fits(host, (low + high) // 2):
+            if host not in fit and self.fits(host, between(low, high)):
                 fit[host] = self.widened(host, low, high, [it[1:] for it in cells if it[0] == host])
         return fit
 
@@ -162,12 +167,11 @@ def seconds(ms):
     return f'{ms / 1000:.3f}'.rstrip('0').rstrip('.')
 
 
-def says(host, low, high, lines):
+def says(host, low, high):
     """A clock that is wrong by so much, in words: lines that have to move back are those of a clock that is ahead."""
     ahead = high <= 0
     least, most = (-high, -low) if ahead else (low, high)
-    edge = max(abs(it.clock - other.clock) for it in lines if it.host == host for other in lines)
-    by = f'by more than {seconds(least)} s' if most > edge else f'by {seconds(least)} to {seconds(most)} s'
+    by = f'by more than {seconds(least)} s' if most == NEVER else f'by {seconds(least)} to {seconds(most)} s'
     return f'all of it fits if the clock of {story.shown(host)} is {"ahead" if ahead else "behind"} {by}: its times would be that much {"earlier" if ahead else "later"}'
 
 
@@ -196,7 +200,7 @@ def wrong_clock(lines, out, stopped):
     search = Search(lines, len(out.refusals) if out.odds or stopped else 0)
     found = search.found(hosts, near)
     if found:
-        return [says(host, *bounds, lines) for host, bounds in list(found.items())[:MOST_PAIRS]]
+        return [says(host, *bounds) for host, bounds in list(found.items())[:MOST_PAIRS]]
     if not search.tried or len({it.host for it in lines if it.host and near & set(it.shards)}) < 2:
         return []
     rest = '; the time of the search was over, so not all orders were tried' if search.is_over else ''
