@@ -1,5 +1,6 @@
 """Whether the clock of a host may be wrong, where a story (story.py) is answered otherwise than its log says: the lines of one host are moved, all lines are
-sorted and replayed anew, and it is told by how much that clock would have to be wrong so that all of it fits. And which hosts' clocks nothing checks."""
+sorted and replayed anew, and it is told by how much that clock would have to be wrong so that all of it fits, and whether a checkpoint line lacks too. And which hosts' clocks nothing checks."""
+import contextlib
 import itertools
 import re
 import subprocess
@@ -133,23 +134,36 @@ class Search:
         return time.process_time() > self.end or time.monotonic() > self.last
 
     def fits(self, host, shift):
-        """Whether all of the story is answered as the log has it."""
+        """Whether all of the story is answered as the log has it: None where it isn't, and else the checkpoint line that it needs for that, or no words."""
         self.tried += 1
+        lines = moved(self.lines, host, shift)
         try:
-            story.schedule_of(moved(self.lines, host, shift), self.program, lambda it: not it.odds and len(it.refusals) <= self.most_refused and not self.is_over)
+            self.replay(lines)
+        except story.Stopped as why:
+            if not why.story.lacking:
+                return None
+            whose, line, where = why.story.lacking[0]
+            place = next((i for i, it in enumerate(lines) if it[1] == where), 0)
+            with contextlib.suppress(Unreadable):
+                self.replay([*lines[:place], (lines[place][0], where, f'{whose} {line}'), *lines[place:]])
+                return f'{whose} {line}'
+            return None
         except Unreadable:
-            return False
-        return True
+            return None
+        return ''
 
-    def widened(self, host, low, high, cells):
-        """The bounds of a shift that fits, with the orders beside it that fit too."""
+    def replay(self, lines):
+        story.schedule_of(lines, self.program, lambda it: not it.odds and len(it.refusals) <= self.most_refused and not self.is_over)
+
+    def widened(self, host, low, high, cells, line):
+        """The bounds of a shift that fits, with the orders beside it that fit too, by the same line."""
         for one, other in sorted(cells):
-            if one == high and not self.is_over and self.fits(host, between(one, other)):
+            if one == high and not self.is_over and self.fits(host, between(one, other)) == line:
                 high = other
         for one, other in sorted(cells, reverse=True):
-            if other == low and not self.is_over and self.fits(host, between(one, other)):
+            if other == low and not self.is_over and self.fits(host, between(one, other)) == line:
                 low = one
-        return low, high
+        return low, high, line
 
     def found(self, hosts, near):
         """For each host the smallest shift that fits, as bounds. Small shifts are looked at first, whose clock it may be."""
@@ -158,21 +172,29 @@ class Search:
         for host, low, high in sorted(cells, key=lambda it: min(abs(it[1]), abs(it[2]))):
             if self.is_over:
                 break
-            if host not in fit and self.fits(host, between(low, high)):
-                fit[host] = self.widened(host, low, high, [it[1:] for it in cells if it[0] == host])
-        return fit
+            line = None if host in fit else self.fits(host, between(low, high))
+            if line is not None:
+                fit[host] = self.widened(host, low, high, [it[1:] for it in cells if it[0] == host], line)
+        # a clock alone explains more than one with a line that lacks
+        return {host: it for host, it in fit.items() if not it[2]} or fit
+
+
+def plain(line):
+    """A line of a story, whole, for a terminal."""
+    return re.sub(r'[^ -~]', '?', line)
 
 
 def seconds(ms):
     return f'{ms / 1000:.3f}'.rstrip('0').rstrip('.')
 
 
-def says(host, low, high):
+def says(host, low, high, line):
     """A clock that is wrong by so much, in words: lines that have to move back are those of a clock that is ahead."""
     ahead = high <= 0
     least, most = (-high, -low) if ahead else (low, high)
     by = f'by more than {seconds(least)} s' if most == NEVER else f'by {seconds(least)} to {seconds(most)} s'
-    return f'all of it fits if the clock of {story.shown(host)} is {"ahead" if ahead else "behind"} {by}: its times would be that much {"earlier" if ahead else "later"}'
+    return f'all of it fits if the clock of {story.shown(host)} is {"ahead" if ahead else "behind"} {by}: its times would be that much {"earlier" if ahead else "later"}' + (
+        f', and if the line {plain(line)} is missing' if line else '')
 
 
 def has_taken(lines, line):
@@ -198,6 +220,9 @@ def wrong_clock(lines, out, stopped):
         return []  # nothing in the story makes the shard
     # where more is wrong than refusals, some of these may be what the log has too and their lines don't say; else they are all that there is to explain
     search = Search(lines, len(out.refusals) if out.odds or stopped else 0)
+    line = search.fits(None, 0) if out.lacking else None
+    if line:
+        return [f'all of it fits with the line {plain(line)}, which may be missing: no clock has to be wrong']
     found = search.found(hosts, near)
     if found:
         return [says(host, *bounds) for host, bounds in list(found.items())[:MOST_PAIRS]]

@@ -193,7 +193,7 @@ class Stories(unittest.TestCase):
         self.story('1002 host-a process a to 49000000000000000000000000001\n1004 host-b take a\n1004 host-b open a at 49000000000000000000000000001', [*read, '1004 raw 2 take 1/0 1 w2', '1004 raw 2 open 2'],
                    'schedule: the input: line 9: host-b open a at 49000000000000000000000000001: the log begins at 49000000000000000000000000001, and here the lease begins at TRIM_HORIZON: '
                    'is the line host-a checkpoint a at 49000000000000000000000000001 missing before it, or is the clock of a host wrong?\n'
-                   'schedule: no wrong clock of one host makes all of it fit, of 3 orders that were replayed: is a line missing, or the word fails at one that failed?\n')
+                   'schedule: all of it fits with the line host-a checkpoint a at 49000000000000000000000000001, which may be missing: no clock has to be wrong\n')
         for at, here in (('SHARD_END', 'TRIM_HORIZON'), ('5', 'TRIM_HORIZON'), ('TRIM_HORIZON', '')):
             self.story(f'1002 host-a take a at {at}', ['1002 raw 1 take 1/0 1 w1'],
                        here and f'schedule: the input: line 7: host-a take a at {at}: the log begins at {at}, and here the lease begins at {here}: is a checkpoint line missing, or is the clock of a host wrong?\n')
@@ -381,6 +381,14 @@ class Mistakes(unittest.TestCase):
             twice, said = self.told(numbers, True, self.without('20100'))
             self.assertEqual(64, twice)
             self.assertRegex(said, phrase)
+            line = 'schedule: all of it fits with the line a checkpoint x at 49000000000000000000000059, which may be missing: no clock has to be wrong'
+            self.assertEqual(numbers, line in said)
+
+    def test_a_line_is_missing_and_a_clock_is_ahead(self):
+        twice, said = self.told(True, True, lambda line: '' if line.startswith('20100') else self.late('d', 14_000, 180_000)(line))
+        self.assertEqual(0, twice)
+        self.assertRegex(said, r'schedule: all of it fits if the clock of d is ahead by [\d.]+ to [\d.]+ s: its times would be that much earlier, and if the line '
+                               r'a checkpoint x at 49000000000000000000000059 is missing')
 
     def test_a_process_line_is_missing(self):
         self.assertRegex(self.told(False, True, self.without('55000'))[1], 'line 19: d checkpoint x: nothing was processed since the checkpoint before it: is a process line missing')

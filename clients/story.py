@@ -110,7 +110,7 @@ class Tenure:
         self.no, self.key, self.worker, self.counter = no, key, worker, counter
         self.start, self.ended = int(start) if start.isdigit() else 0, start == END
         self.reach = self.start + 1 if start.isdigit() else 0
-        self.waiting, self.delivered, self.opened, self.tried, self.told, self.marked = [], [], False, False, False, None
+        self.waiting, self.delivered, self.opened, self.tried, self.told, self.marked, self.where = [], [], False, False, False, None, ''
 
 
 class Names:
@@ -194,6 +194,8 @@ class Story:
         self.replay, self.names = replay, Names(taken)
         self.lines, self.answers, self.told, self.holds, self.tenures, self.counters, self.refused_takes = [], [], [], {}, {}, {}, {}
         self.at, self.where, self.text, self.fails, self.refusals, self.odds = 0, '', '', False, [], []
+        # checkpoint lines that lack, where it is known which: the host, the rest of the line, and the line before which it stands
+        self.lacking = []
         # the records of each shard that lines of the story put, those that no line put, and the shards that take none any more
         self.there, self.added, self.closed = {}, {}, set()
 
@@ -259,6 +261,7 @@ class Story:
             _, _, no, _, counter, _, start = answer.split(' ')
             self.counters[first] = counter
             self.tenures[no] = self.holds[by, first] = Tenure(no, first, more[1], counter, start)
+            self.tenures[no].where = self.where
         elif verb == 'read':
             _, _, reach, _, *numbers = answer.split(' ')
             tenure.reach = int(reach)
@@ -478,7 +481,9 @@ class Story:
         """Why a lease may begin elsewhere. Where the log has a record that the tenure before was delivered, that one's checkpoint line is what lacks."""
         record, before = self.record_of(key, int(at)) if at.isdigit() else None, self.before(tenure)
         if before and record is not None and record > tenure.start and record in before.delivered:
-            return f'is the line {self.names.host_of(before.worker)} checkpoint {self.names.used.get(key, key)} at {at} missing before it, or is the clock of a host wrong?'
+            line = f'checkpoint {self.names.used.get(key, key)} at {at}'
+            self.lacking.append((self.names.host_of(before.worker), line, tenure.where))
+            return f'is the line {self.names.host_of(before.worker)} {line} missing before it, or is the clock of a host wrong?'
         return 'is a checkpoint line missing, or is the clock of a host wrong?'
 
     def checkpoint(self, by, host, key, words):
