@@ -69,10 +69,13 @@ def plain(line):
 
 def unchecked(lines):
     """The hosts between which a lease went, where no line of its shard would be answered otherwise by a wrong clock."""
-    found = {}
-    for shard in dict.fromkeys(shard for it in lines if it.host for shard in it.shards):
+    found, of = {}, {}
+    for it in lines:
         # who creates a row needn't be who has the lease, and a take before it would be refused
-        here = [it for it in lines if it.host and shard in it.shards and it.words[1] != 'create']
+        if it.host and it.words[1] != 'create':
+            for shard in it.shards:
+                of.setdefault(shard, []).append(it)
+    for shard, here in of.items():
         hosts = list(dict.fromkeys(it.host for it in here))
         if len(hosts) > 1 and not any(it.ties for it in here):
             found.setdefault(tuple(hosts), []).append(shard)
