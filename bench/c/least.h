@@ -26,34 +26,32 @@ static const uint32_t md5_sines[64] = {
     0xd9d4d039, 0xe6db99e5, 0x1fa27cf8, 0xc4ac5665, 0xf4292244, 0x432aff97, 0xab9423a7, 0xfc93a039, 0x655b59c3, 0x8f0ccc92, 0xffeff47d,
     0x85845dd1, 0x6fa87e4f, 0xfe2ce6e0, 0xa3014314, 0x4e0811a1, 0xf7537e82, 0xbd3af235, 0x2ad7d2bb, 0xeb86d391};
 
-static const unsigned char md5_turns[16] = {7, 12, 17, 22, 5, 9, 14, 20, 4, 11, 16, 23, 6, 10, 15, 21};
+/* A round of 16 steps, written out: the places of the sines, of the words and the turns are constants then. */
+#define MD5_STEP(a, b, c, d, mix, i, from, turn) \
+    a += (mix) + md5_sines[i] + word[(from) & 15]; \
+    a = b + ((a << (turn)) | (a >> (32 - (turn))));
+#define MD5_FOUR(MIX, i, from, by, t0, t1, t2, t3) \
+    MD5_STEP(a, b, c, d, MIX(b, c, d), i, from, t0) \
+    MD5_STEP(d, a, b, c, MIX(a, b, c), i + 1, from + by, t1) \
+    MD5_STEP(c, d, a, b, MIX(d, a, b), i + 2, from + 2 * by, t2) \
+    MD5_STEP(b, c, d, a, MIX(c, d, a), i + 3, from + 3 * by, t3)
+#define MD5_ROUND(MIX, i, from, by, t0, t1, t2, t3) \
+    MD5_FOUR(MIX, i, from, by, t0, t1, t2, t3) \
+    MD5_FOUR(MIX, i + 4, from + 4 * by, by, t0, t1, t2, t3) \
+    MD5_FOUR(MIX, i + 8, from + 8 * by, by, t0, t1, t2, t3) \
+    MD5_FOUR(MIX, i + 12, from + 12 * by, by, t0, t1, t2, t3)
+#define MD5_F(b, c, d) (d ^ (b & (c ^ d)))
+#define MD5_G(b, c, d) (c ^ (d & (b ^ c)))
+#define MD5_H(b, c, d) (b ^ c ^ d)
+#define MD5_I(b, c, d) (c ^ (b | ~d))
 
 static void md5_block(uint32_t state[4], const unsigned char *block) {
     uint32_t word[16], a = state[0], b = state[1], c = state[2], d = state[3];
     memcpy(word, block, 64);
-    for (int i = 0; i < 64; i++) {
-        uint32_t mix;
-        int from;
-        if (i < 16) {
-            mix = (b & c) | (~b & d);
-            from = i;
-        } else if (i < 32) {
-            mix = (d & b) | (~d & c);
-            from = (5 * i + 1) & 15;
-        } else if (i < 48) {
-            mix = b ^ c ^ d;
-            from = (3 * i + 5) & 15;
-        } else {
-            mix = c ^ (b | ~d);
-            from = (7 * i) & 15;
-        }
-        uint32_t sum = a + mix + md5_sines[i] + word[from];
-        int turn = md5_turns[(i >> 4) * 4 + (i & 3)];
-        a = d;
-        d = c;
-        c = b;
-        b += (sum << turn) | (sum >> (32 - turn));
-    }
+    MD5_ROUND(MD5_F, 0, 0, 1, 7, 12, 17, 22)
+    MD5_ROUND(MD5_G, 16, 1, 5, 5, 9, 14, 20)
+    MD5_ROUND(MD5_H, 32, 5, 3, 4, 11, 16, 23)
+    MD5_ROUND(MD5_I, 48, 0, 7, 6, 10, 15, 21)
     state[0] += a;
     state[1] += b;
     state[2] += c;
@@ -91,7 +89,16 @@ static void base64_begin(void) {
 static long decode(struct text from, unsigned char *to) {
     if (from.len % 4) return -1;
     unsigned char *end = to;
-    for (size_t i = 0; i < from.len; i += 4) {
+    size_t i = 0;
+    for (; i + 4 < from.len; i += 4) { /* all groups but the last, which alone may be padded */
+        const unsigned char *four = (const unsigned char *)from.at + i;
+        int32_t bits = base64_values[four[0]] * (1 << 18) | base64_values[four[1]] * (1 << 12) | base64_values[four[2]] * (1 << 6) | base64_values[four[3]];
+        if (bits < 0) return -1;
+        *end++ = (unsigned char)(bits >> 16);
+        *end++ = (unsigned char)(bits >> 8);
+        *end++ = (unsigned char)bits;
+    }
+    for (; i < from.len; i += 4) {
         int v[4], pad = 0;
         for (int j = 0; j < 4; j++) {
             char c = from.at[i + j];
