@@ -202,6 +202,10 @@ while IFS=: read -r name _; do
     mkdir -p "$fake/crates/$name/"{src,must-fail}
 done < <(grep -v '^#' crates.txt)
 echo one > "$fake/crates/kds_cli/src/main.rt"
+mkdir -p "$fake/crates/kds_cli/"{specs,proofs/main/main}
+for name in kds_cli/{specs/One.antt,proofs/main/main/Answers.antt,args,stdin,stdout} kds_base/src/lib.rt; do
+    echo one > "$fake/crates/$name"
+done
 cat > "$fakes/program" << 'END'
 #!/usr/bin/env bash
 case $1 in
@@ -423,6 +427,55 @@ fake 0 ran 0 '' build ./kds -c 'echo ran'
 fake 0 "$version the proved program, crates/kds_cli/out/kds_cli" 0 '' build ./kds --version
 fake 0 '' 0 $'kds: proved: crates/kds_cli/out/kds_cli\n' build ./dev build
 fake 0 "$fake/crates/kds_cli/out/kds_cli" 0 '' build help/checked
+
+# It is known by the sum of its sources, whatever their times are.
+knows() { # NAME yes|no
+    begin build
+    run ./kds --version > "$work/out" 2> "$work/err"
+    [ "$(grep -c "^runs the proved program, crates/kds_cli/out/kds_cli$" "$work/out")" -eq "$([ "$2" = yes ] && echo 1 || echo 0)" ] && [ ! -s "$work/err" ] && nothing_left
+    tell $? "whether $1 is proved: $2" "$(cat "$work/out" "$work/err")"
+}
+# One byte of a file is another, and its time is as before; then it is the same again.
+changed() { # FILE
+    cp -p "$fake/$1" "$work/was"
+    { head -c -1 "$work/was"; echo; } > "$fake/$1"
+    ! cmp -s "$work/was" "$fake/$1" || printf x > "$fake/$1"
+    touch -r "$work/was" "$fake/$1"
+    knows "a copy with another $1" no
+    cat "$work/was" > "$fake/$1"
+    knows "a copy with the same $1 again" yes
+}
+whole=$fake fake=$fakes/fresh
+mkdir "$fake" && cp -r "$whole/." "$fake" && rm -r "$fake/out"
+knows 'a fresh checkout with the program of another' yes
+fake 0 '' 0 $'kds: proved: crates/kds_cli/out/kds_cli\n' build ./dev build
+for time in 1980-01-01 2099-01-01; do
+    find "$fake" -exec touch -d "$time" {} +
+    knows "a copy with all its files of $time" yes
+    fake 0 '' 0 $'kds: proved: crates/kds_cli/out/kds_cli\n' build ./dev build
+done
+knows 'a copy' yes
+sleep 3 # times that are two seconds old are kept
+knows 'a copy' yes
+tell "$(here=$fake; source help/programs; same_times; echo $?)" 'the times that are kept' 'they are not those of the copy'
+for name in HANDLES crates/kds_cli/{src/main.rt,specs/One.antt,proofs/main/main/Answers.antt,args,stdin,stdout,out/kds_cli} crates/kds_base/src/lib.rt; do
+    changed "$name"
+done
+sed -i 's/^kds_base:/& itoa/' "$fake/crates.txt"
+knows 'a copy with another crates.txt' no
+cp "$whole/crates.txt" "$fake"
+for name in src/new.rt specs/new.antt proofs/main/new.antt; do
+    touch "$fake/crates/kds_cli/$name"
+    knows "a copy with a new $name" no
+    rm "$fake/crates/kds_cli/$name"
+done
+mv "$fake/crates/kds_cli/src/"{main,other}.rt
+knows 'a copy whose source has another name' no
+mv "$fake/crates/kds_cli/src/"{other,main}.rt
+knows 'a copy again' yes
+rm "$fake/crates/kds_cli/out/kds_cli.sum"
+knows 'a program without its sum' no
+fake=$whole
 echo four > "$source"
 twice ./dev build
 echo five > "$source"
