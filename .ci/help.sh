@@ -246,6 +246,13 @@ case $1 in
         echo 'run=ended status=0 proved=no' >&2 ;;
     ci)
         echo ci >> "$FAKES/calls"
+        if [ "$PWD" = "$FAKES/fresh" ]; then # the gate itself, in its place
+            ! does hang-ci || hang
+            ! does refuse || exit 1
+            [ $# -eq 1 ] || exit 0
+            rm -rf crates/*/out && mkdir crates/kds_cli/out && cp "$FAKES/program" crates/kds_cli/out/kds_cli
+            exit
+        fi
         [ -d .git ] && [ -d crates/kds_base/src ] && [ ! -e crates/kds_base/must-fail ] && [ ! -e crates/test_runs ] && ! grep -q test_ crates.txt || exit 3
         ! does hang-ci || { echo 'rt: kds_base proved'; hang; }
         ! does full-ci || full rt
@@ -475,6 +482,24 @@ mv "$fake/crates/kds_cli/src/"{other,main}.rt
 knows 'a copy again' yes
 rm "$fake/crates/kds_cli/out/kds_cli.sum"
 knows 'a program without its sum' no
+# The gate makes the program in its place. Of some crates it makes none.
+fake 0 '' 1 '' build ./dev gate kds_base
+knows 'a program without its sum, behind a gate of one crate' no
+fake 1 '' 1 '' refuse ./dev gate
+knows 'a program without its sum, behind a gate that fails' no
+fake 0 '' 1 '' build ./dev gate
+knows 'what a gate made' yes
+begin hang-ci
+(cd "$fake" && PATH=$path exec ./dev gate) > "$work/out" 2> "$work/err" &
+for _ in {1..300}; do
+    [ ! -s "$fakes/processes" ] || break
+    sleep 0.1
+done
+kill -TERM $!
+wait $!
+[ $? -eq 143 ] && read -ra processes < "$fakes/processes" && ! kill -0 "${processes[0]}" 2> /dev/null
+tell $? 'a gate that is ended' "$(cat "$work/out" "$work/err")"
+kill "${processes[1]}" 2> /dev/null
 fake=$whole
 echo four > "$source"
 twice ./dev build
