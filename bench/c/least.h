@@ -16,6 +16,13 @@ struct text {
     size_t len;
 };
 
+/* The functions that bench/ceiling counts are functions of their own there. */
+#ifdef APART
+#define PART __attribute__((noinline))
+#else
+#define PART
+#endif
+
 /* ---- MD5 (RFC 1321) */
 
 static const uint32_t md5_sines[64] = {
@@ -59,79 +66,87 @@ static void md5_block(uint32_t state[4], const unsigned char *block) {
 }
 
 /* The digest of a key, its first byte the highest. */
-static u128 hash_of(struct text key) {
+static PART u128 hash_of(struct text key) {
     uint32_t state[4] = {0x67452301, 0xefcdab89, 0x98badcfe, 0x10325476};
-    unsigned char last[128] = {0}, digest[16];
-    size_t whole = key.len / 64 * 64, rest = key.len - whole, padded = rest < 56 ? 64 : 128;
+    size_t whole = key.len & ~(size_t)63, rest = key.len - whole;
     for (size_t i = 0; i < whole; i += 64) md5_block(state, (const unsigned char *)key.at + i);
+    unsigned char last[64] = {0};
     memcpy(last, key.at + whole, rest);
     last[rest] = 0x80;
-    uint64_t bits = (uint64_t)key.len * 8;
-    memcpy(last + padded - 8, &bits, 8);
-    for (size_t i = 0; i < padded; i += 64) md5_block(state, last + i);
-    memcpy(digest, state, 16);
-    u128 hash = 0;
-    for (int i = 0; i < 16; i++) hash = hash << 8 | digest[i];
-    return hash;
+    if (rest >= 56) {
+        md5_block(state, last);
+        memset(last, 0, 64);
+    }
+    uint64_t bits = (uint64_t)key.len * 8, half[2];
+    memcpy(last + 56, &bits, 8);
+    md5_block(state, last);
+    memcpy(half, state, 16);
+    return (u128)__builtin_bswap64(half[0]) << 64 | __builtin_bswap64(half[1]);
 }
 
 /* ---- base64 (RFC 4648) */
 
 static const char base64_digits[] = "ABCDEFGHIJKLMNOPQRSTUVWXYZabcdefghijklmnopqrstuvwxyz0123456789+/";
 static signed char base64_values[256];
+static uint32_t base64_bits[4][256];  /* what a digit gives at each of four places; its highest bit is set if the byte is no digit */
+static char base64_pairs[4096][2];    /* the two digits of 12 bits */
 
 static void base64_begin(void) {
     memset(base64_values, -1, sizeof base64_values);
     for (int i = 0; i < 64; i++) base64_values[(unsigned char)base64_digits[i]] = (signed char)i;
+    for (int place = 0; place < 4; place++)
+        for (int c = 0; c < 256; c++) base64_bits[place][c] = base64_values[c] < 0 ? 1u << 31 : (uint32_t)base64_values[c] << (18 - 6 * place);
+    for (int i = 0; i < 4096; i++) {
+        base64_pairs[i][0] = base64_digits[i >> 6];
+        base64_pairs[i][1] = base64_digits[i & 63];
+    }
 }
 
-/* Decodes, and gives the number of bytes, or -1 where the text is none. */
-static long decode(struct text from, unsigned char *to) {
+/* Decodes, and gives the number of bytes, or -1 if the text isn't base64. It may write a byte behind them. */
+static PART long decode(struct text from, unsigned char *to) {
     if (from.len % 4) return -1;
+    if (!from.len) return 0;
+    const unsigned char *at = (const unsigned char *)from.at, *last = at + from.len - 4;
     unsigned char *end = to;
-    size_t i = 0;
-    for (; i + 4 < from.len; i += 4) { /* all groups but the last, which alone may be padded */
-        const unsigned char *four = (const unsigned char *)from.at + i;
-        int32_t bits = base64_values[four[0]] * (1 << 18) | base64_values[four[1]] * (1 << 12) | base64_values[four[2]] * (1 << 6) | base64_values[four[3]];
-        if (bits < 0) return -1;
-        *end++ = (unsigned char)(bits >> 16);
-        *end++ = (unsigned char)(bits >> 8);
-        *end++ = (unsigned char)bits;
+    uint32_t seen = 0;
+    for (; at < last; at += 4, end += 3) { /* all groups but the last, the only one that may be padded */
+        uint32_t bits = base64_bits[0][at[0]] | base64_bits[1][at[1]] | base64_bits[2][at[2]] | base64_bits[3][at[3]];
+        uint32_t bytes = __builtin_bswap32(bits << 8);
+        seen |= bits;
+        memcpy(end, &bytes, 4);
     }
-    for (; i < from.len; i += 4) {
-        int v[4], pad = 0;
-        for (int j = 0; j < 4; j++) {
-            char c = from.at[i + j];
-            if (c == '=' && i + 4 == from.len && j >= 2) {
-                v[j] = 0;
-                pad++;
-            } else if (pad || (v[j] = base64_values[(unsigned char)c]) < 0) {
-                return -1;
-            }
-        }
-        uint32_t bits = (uint32_t)v[0] << 18 | (uint32_t)v[1] << 12 | (uint32_t)v[2] << 6 | (uint32_t)v[3];
-        *end++ = (unsigned char)(bits >> 16);
-        if (pad < 2) *end++ = (unsigned char)(bits >> 8);
-        if (pad < 1) *end++ = (unsigned char)bits;
-    }
+    int pad = at[3] != '=' ? 0 : at[2] != '=' ? 1 : 2;
+    uint32_t bits = base64_bits[0][at[0]] | base64_bits[1][at[1]] | (pad < 2 ? base64_bits[2][at[2]] : 0) | (pad < 1 ? base64_bits[3][at[3]] : 0);
+    if ((seen | bits) >> 31) return -1;
+    *end++ = (unsigned char)(bits >> 16);
+    if (pad < 2) *end++ = (unsigned char)(bits >> 8);
+    if (pad < 1) *end++ = (unsigned char)bits;
     return end - to;
 }
 
-static char *encode(const unsigned char *from, size_t len, char *to) {
-    size_t i = 0;
-    for (; i + 3 <= len; i += 3) {
-        uint32_t bits = (uint32_t)from[i] << 16 | (uint32_t)from[i + 1] << 8 | from[i + 2];
-        *to++ = base64_digits[bits >> 18];
-        *to++ = base64_digits[bits >> 12 & 63];
-        *to++ = base64_digits[bits >> 6 & 63];
-        *to++ = base64_digits[bits & 63];
+static PART char *encode(const unsigned char *from, size_t len, char *to) {
+    const unsigned char *end = from + len;
+    for (; end - from >= 8; from += 6, to += 8) { /* six bytes of the eight that are read */
+        uint64_t bits;
+        memcpy(&bits, from, 8);
+        bits = __builtin_bswap64(bits);
+        memcpy(to, base64_pairs[bits >> 52], 2);
+        memcpy(to + 2, base64_pairs[bits >> 40 & 4095], 2);
+        memcpy(to + 4, base64_pairs[bits >> 28 & 4095], 2);
+        memcpy(to + 6, base64_pairs[bits >> 16 & 4095], 2);
     }
-    if (i < len) {
-        uint32_t bits = (uint32_t)from[i] << 16 | (i + 1 < len ? (uint32_t)from[i + 1] << 8 : 0);
-        *to++ = base64_digits[bits >> 18];
-        *to++ = base64_digits[bits >> 12 & 63];
-        *to++ = i + 1 < len ? base64_digits[bits >> 6 & 63] : '=';
-        *to++ = '=';
+    for (; end - from >= 3; from += 3, to += 4) {
+        uint32_t bits = (uint32_t)from[0] << 16 | (uint32_t)from[1] << 8 | from[2];
+        memcpy(to, base64_pairs[bits >> 12], 2);
+        memcpy(to + 2, base64_pairs[bits & 4095], 2);
+    }
+    long rest = end - from;
+    if (rest) {
+        uint32_t bits = (uint32_t)from[0] << 16 | (rest > 1 ? (uint32_t)from[1] << 8 : 0);
+        memcpy(to, base64_pairs[bits >> 12], 2);
+        to[2] = rest > 1 ? base64_digits[bits >> 6 & 63] : '=';
+        to[3] = '=';
+        to += 4;
     }
     return to;
 }
@@ -154,15 +169,42 @@ static int member(const char **from, const char *end, const char *name, size_t n
 
 /* ---- numbers */
 
+#define TEN(tens) tens "0" tens "1" tens "2" tens "3" tens "4" tens "5" tens "6" tens "7" tens "8" tens "9"
+static const char hundred[] = TEN("0") TEN("1") TEN("2") TEN("3") TEN("4") TEN("5") TEN("6") TEN("7") TEN("8") TEN("9");
+static const uint64_t powers[20] = {
+    1u, 10u, 100u, 1000u, 10000u, 100000u, 1000000u, 10000000u, 100000000u, 1000000000u, 10000000000u, 100000000000u, 1000000000000u,
+    10000000000000u, 100000000000000u, 1000000000000000u, 10000000000000000u, 100000000000000000u, 1000000000000000000u, 10000000000000000000u};
+
+/* A number of at most this length, with zeros in front. */
+static char *print_padded(char *to, uint64_t n, int len) {
+    char *end = to + len, *at = end;
+    memset(to, '0', (size_t)len);
+    for (; n >= 10; n /= 100) memcpy(at -= 2, hundred + n % 100 * 2, 2);
+    if (n) at[-1] = (char)('0' + n);
+    return end;
+}
+
 static char *print_number(char *to, uint64_t n) {
-    char digits[20];
-    int count = 0;
-    do {
-        digits[count++] = (char)('0' + n % 10);
-        n /= 10;
-    } while (n);
-    while (count) *to++ = digits[--count];
-    return to;
+    int bits = 64 - __builtin_clzll(n | 1), len = bits * 1233 >> 12;
+    len += len == 0 || n >= powers[len];
+    char *end = to + len, *at = end;
+    for (; n >= 100; n /= 100) memcpy(at -= 2, hundred + n % 100 * 2, 2);
+    if (n >= 10) memcpy(at - 2, hundred + n * 2, 2);
+    else at[-1] = (char)('0' + n);
+    return end;
+}
+
+static PART char *print_wide(char *to, u128 n) {
+    const uint64_t block = powers[19];
+    if (n < block) return print_number(to, (uint64_t)n);
+    u128 high = n / block;
+    if (high < block) {
+        to = print_number(to, (uint64_t)high);
+    } else {
+        to = print_number(to, (uint64_t)(high / block));
+        to = print_padded(to, (uint64_t)(high % block), 19);
+    }
+    return print_padded(to, (uint64_t)(n - high * block), 19);
 }
 
 static char *print_text(char *to, const char *text, size_t len) {
@@ -193,7 +235,7 @@ static void *take(size_t bytes) {
     return room;
 }
 
-static void add_record(struct log *log, struct record record) {
+static PART void add_record(struct log *log, struct record record) {
     if (log->count == log->room) {
         log->room = log->room ? log->room * 2 : 1024;
         log->records = realloc(log->records, log->room * sizeof *log->records);
@@ -203,7 +245,7 @@ static void add_record(struct log *log, struct record record) {
 }
 
 /* A record as GetRecords shows it. */
-static char *print_record(char *to, const struct record *r) {
+static PART char *print_record(char *to, const struct record *r) {
     to = PRINT(to, "{\"ApproximateArrivalTimestamp\":");
     to = print_number(to, r->arrival / 1000);
     to = PRINT(to, ",\"Data\":\"");
@@ -217,8 +259,9 @@ static char *print_record(char *to, const struct record *r) {
 
 /* Which of n uniform shards a hash lies in. */
 static unsigned home_of(u128 hash, unsigned n) {
+    if (n == 1) return 0;
     u128 width = (~(u128)0 - (n - 1)) / n + 1;
-    unsigned shard = n == 1 ? 0 : (unsigned)(hash / width);
+    unsigned shard = (unsigned)(hash / width);
     return shard < n ? shard : n - 1;
 }
 #endif

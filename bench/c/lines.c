@@ -76,7 +76,7 @@ static struct stream *stream_of(struct text name) {
     return by_name[slot_of(name)];
 }
 
-static void add_open(struct stream *s, size_t shard) {
+static PART void add_open(struct stream *s, size_t shard) {
     if (s->open_count == s->open_room) {
         s->open_room = s->open_room ? s->open_room * 2 : 16;
         s->open = realloc(s->open, s->open_room * sizeof *s->open);
@@ -123,13 +123,17 @@ static size_t home(struct stream *s, u128 hash) {
 
 #define DAY 86400000u
 
-/* The place of the first record at or above a position that isn't trimmed. */
-static size_t first_of(struct shard *x, uint64_t position) {
+static void trim(struct shard *x) {
     while (x->trimmed < x->log.count && clock_ >= DAY && x->log.records[x->trimmed].arrival <= clock_ - DAY) {
         free(x->log.records[x->trimmed].bytes);
         x->log.records[x->trimmed].bytes = NULL;
         x->trimmed++;
     }
+}
+
+/* The place of the first record at or above a position that isn't trimmed. */
+static PART size_t first_of(struct shard *x, uint64_t position) {
+    trim(x);
     size_t low = x->trimmed, high = x->log.count;
     while (low < high) {
         size_t middle = (low + high) / 2;
@@ -140,14 +144,11 @@ static size_t first_of(struct shard *x, uint64_t position) {
 }
 
 static void print_id(size_t shard) {
-    char digits[21];
-    char *end = print_number(digits, shard);
     to = PRINT(to, "shardId-");
-    for (long i = end - digits; i < 12; i++) *to++ = '0';
-    to = print_text(to, digits, (size_t)(end - digits));
+    to = shard < powers[12] ? print_padded(to, shard, 12) : print_number(to, shard);
 }
 
-static void print_place(size_t shard, uint64_t seq) {
+static PART void print_place(size_t shard, uint64_t seq) {
     to = PRINT(to, "{\"SequenceNumber\":\"");
     to = print_number(to, seq);
     to = PRINT(to, "\",\"ShardId\":\"");
@@ -165,7 +166,7 @@ static void count_put(size_t shard, size_t bytes) {
     w->bytes += bytes;
 }
 
-static void store(struct stream *s, struct text key, struct text data, u128 *explicit_, size_t *shard, uint64_t *seq) {
+static PART void store(struct stream *s, struct text key, struct text data, u128 *explicit_, size_t *shard, uint64_t *seq) {
     struct record r = {.arrival = clock_, .key_len = key.len};
     r.bytes = take(key.len + data.len / 4 * 3 + 3);
     memcpy(r.bytes, key.at, key.len);
@@ -175,21 +176,25 @@ static void store(struct stream *s, struct text key, struct text data, u128 *exp
     *shard = home(s, explicit_ ? *explicit_ : hash_of(key));
     *seq = r.seq = s->next++;
     struct shard *x = &s->shards[*shard];
-    first_of(x, 0);
+    trim(x);
     add_record(&x->log, r);
     count_put(*shard, key.len + r.payload_len);
 }
 
 /* ---- requests */
 
-static void fault_(const char *name, const char *message) {
-    to += sprintf(to, "400 {\"__type\":\"%s\",\"message\":\"%s\"}\n", name, message);
+static PART void fault_(const char *name, const char *message) {
+    to = PRINT(to, "400 {\"__type\":\"");
+    to = print_text(to, name, strlen(name));
+    to = PRINT(to, "\",\"message\":\"");
+    to = print_text(to, message, strlen(message));
+    to = PRINT(to, "\"}\n");
 }
 
 #define RECORD_BYTES 10485760u
 
 /* A record's members, and the first that is missing or not valid. */
-static int checked(struct found *f, u128 *hash, const char **what) {
+static PART int checked(struct found *f, u128 *hash, const char **what) {
     if (f->key.kind == NONE) { *what = "PartitionKey is missing"; return 0; }
     if (f->key.kind != STRING || !is_key(f->key.text)) { *what = "PartitionKey is not valid"; return 0; }
     if (f->data.kind == NONE) { *what = "Data is missing"; return 0; }
@@ -255,18 +260,11 @@ static void put_many(const char *body, const char *end) {
     to = PRINT(to, "]}\n");
 }
 
-static void print_range(struct shard *x) {
-    char digits[40];
-    u128 ends[2] = {x->end, x->start};
-    const char *names[2] = {"\"HashKeyRange\":{\"EndingHashKey\":\"", "\",\"StartingHashKey\":\""};
-    for (int i = 0; i < 2; i++) {
-        int count = 0;
-        u128 n = ends[i];
-        do digits[count++] = (char)('0' + (int)(n % 10));
-        while (n /= 10);
-        to = print_text(to, names[i], strlen(names[i]));
-        while (count) *to++ = digits[--count];
-    }
+static PART void print_range(struct shard *x) {
+    to = PRINT(to, "\"HashKeyRange\":{\"EndingHashKey\":\"");
+    to = print_wide(to, x->end);
+    to = PRINT(to, "\",\"StartingHashKey\":\"");
+    to = print_wide(to, x->start);
     to = PRINT(to, "\"}");
 }
 
@@ -329,7 +327,7 @@ static void get(const char *body, const char *end) {
 }
 
 /* A shard as a listing shows it. */
-static void print_shard(struct stream *s, size_t i) {
+static PART void print_shard(struct stream *s, size_t i) {
     struct shard *x = &s->shards[i];
     *to++ = '{';
     if (x->adjacent >= 0) {

@@ -9,13 +9,20 @@
 
 /* Reads a number below 2^64, and gives the place behind it, or NULL. */
 static const char *digits(const char *at, const char *end, uint64_t *n) {
-    if (at == end || *at < '0' || *at > '9') return NULL;
-    *n = (uint64_t)(*at++ - '0');
-    if (!*n) return at == end || *at < '0' || *at > '9' ? at : NULL;
-    while (at < end && *at >= '0' && *at <= '9') {
-        uint64_t digit = (uint64_t)(*at++ - '0');
-        if (__builtin_mul_overflow(*n, 10, n) || __builtin_add_overflow(*n, digit, n)) return NULL;
+    unsigned digit;
+    if (at == end || (digit = (unsigned char)*at - '0') > 9) return NULL;
+    uint64_t sum = digit;
+    at++;
+    if (!sum) {
+        *n = 0;
+        return at == end || (unsigned)((unsigned char)*at - '0') > 9 ? at : NULL;
     }
+    const char *sure = end - at > 18 ? at + 18 : end; /* 19 digits never overflow */
+    for (; at < sure && (digit = (unsigned char)*at - '0') < 10; at++) sum = sum * 10 + digit;
+    if (at == sure)
+        for (; at < end && (digit = (unsigned char)*at - '0') < 10; at++)
+            if (__builtin_mul_overflow(sum, 10, &sum) || __builtin_add_overflow(sum, digit, &sum)) return NULL;
+    *n = sum;
     return at;
 }
 
@@ -24,14 +31,44 @@ static int whole(struct text t, uint64_t *n) {
     return digits(t.at, t.at + t.len, n) == t.at + t.len;
 }
 
-/* A number below 2^128. */
-static int wide(struct text t, u128 *n) {
+/* Eight digits at once. */
+static int eight(const char *at, uint64_t *n) {
+    uint64_t v;
+    memcpy(&v, at, 8);
+    if (((v & 0xf0f0f0f0f0f0f0f0) | ((v + 0x0606060606060606) & 0xf0f0f0f0f0f0f0f0) >> 4) != 0x3333333333333333) return 0;
+    v = (v & 0x0f0f0f0f0f0f0f0f) * 2561 >> 8;
+    v = (v & 0x00ff00ff00ff00ff) * 6553601 >> 16;
+    *n = (v & 0x0000ffff0000ffff) * 42949672960001 >> 32;
+    return 1;
+}
+
+/* At most 19 digits. */
+static int block(const char *at, size_t len, uint64_t *n) {
+    uint64_t sum = 0, part;
+    for (; len >= 8; len -= 8, at += 8) {
+        if (!eight(at, &part)) return 0;
+        sum = sum * 100000000 + part;
+    }
+    for (; len; len--, at++) {
+        unsigned digit = (unsigned char)*at - '0';
+        if (digit > 9) return 0;
+        sum = sum * 10 + digit;
+    }
+    *n = sum;
+    return 1;
+}
+
+/* A number below 2^128: of 39 digits the first 20 decide, and then the sum, whether it is. */
+static PART int wide(struct text t, u128 *n) {
+    uint64_t part;
     if (!t.len || t.len > 39 || (t.len > 1 && *t.at == '0')) return 0;
-    *n = 0;
-    for (size_t i = 0; i < t.len; i++) {
-        if (t.at[i] < '0' || t.at[i] > '9') return 0;
-        u128 digit = (unsigned)(t.at[i] - '0');
-        if (__builtin_mul_overflow(*n, 10, n) || __builtin_add_overflow(*n, digit, n)) return 0;
+    size_t first = (t.len - 1) % 19 + 1;
+    if (!block(t.at, first, &part)) return 0;
+    *n = part;
+    for (size_t at = first; at < t.len; at += 19) {
+        if (!block(t.at + at, 19, &part) || *n > ~(u128)0 / powers[19]) return 0;
+        *n *= powers[19];
+        if (__builtin_add_overflow(*n, part, n)) return 0;
     }
     return 1;
 }
@@ -260,7 +297,7 @@ static void take_member(void *to_, struct text name, struct value v) {
 }
 
 /* The members of a body, if it is a JSON object in UTF-8. Of members with one name the last counts. */
-static int read_body(const char *body, const char *end, struct found *f) {
+static PART int read_body(const char *body, const char *end, struct found *f) {
     *f = (struct found){0};
     unescaped_len = 0;
     if (unescaped_room < (size_t)(end - body)) {
