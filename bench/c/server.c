@@ -37,9 +37,10 @@ static uint64_t now_ms(void) {
     return (uint64_t)t.tv_sec * 1000 + (uint64_t)t.tv_nsec / 1000000;
 }
 
+/* Bytes up to `len`, of which those before `from` don't count. */
 struct buffer {
     char *at;
-    size_t len, room;
+    size_t from, len, room;
 };
 
 static char *more(struct buffer *b, size_t bytes) {
@@ -51,21 +52,37 @@ static char *more(struct buffer *b, size_t bytes) {
     return b->at + b->len;
 }
 
-static void respond(struct buffer *out, const char *body, size_t len) {
-    char *to = more(out, len + 200);
-    char *end = PRINT(to, "HTTP/1.1 200 OK\r\nContent-Type: application/x-amz-json-1.1\r\nContent-Length: ");
-    end = print_number(end, len);
-    end = PRINT(end, "\r\n\r\n");
-    end = print_text(end, body, len);
-    out->len += (size_t)(end - to);
+#define HEAD 128
+
+/* A body is written where it is sent from, behind room for its head. */
+static char *begin_body(struct buffer *out, size_t most) {
+    return more(out, HEAD + most) + HEAD;
+}
+
+/* Writes the head right before the body; if a response stands before it, both move up to that. */
+static void end_body(struct buffer *out, const char *end) {
+    char head[HEAD], *front = out->at + out->len, *body = front + HEAD, *behind;
+    behind = PRINT(head, "HTTP/1.1 200 OK\r\nContent-Type: application/x-amz-json-1.1\r\nContent-Length: ");
+    behind = print_number(behind, (uint64_t)(end - body));
+    behind = PRINT(behind, "\r\n\r\n");
+    size_t head_len = (size_t)(behind - head), body_len = (size_t)(end - body);
+    if (out->from == out->len) {
+        memcpy(body - head_len, head, head_len);
+        out->from += HEAD - head_len;
+        out->len += HEAD + body_len;
+    } else {
+        memcpy(front, head, head_len);
+        memmove(front + head_len, body, body_len);
+        out->len += head_len + body_len;
+    }
 }
 
 static char *place(char *to, uint64_t seq, unsigned shard) {
     to = PRINT(to, "{\"SequenceNumber\":\"");
     to = print_number(to, seq);
     to = PRINT(to, "\",\"ShardId\":\"shardId-");
-    for (int i = 11; i >= 0; i--, shard /= 10) to[i] = (char)('0' + shard % 10);
-    return PRINT(to + 12, "\"}");
+    to = print_padded(to, shard, 12);
+    return PRINT(to, "\"}");
 }
 
 /* ---- the store; all of it under the lock */
@@ -121,7 +138,7 @@ static void create(const char *at, const char *end, struct buffer *out) {
     if (stream_count == 64 || stream_of(f.stream.text)) exit(1);
     streams[stream_count++] = (struct stream){{name, f.stream.text.len}, (unsigned)count, 1, calloc(count, sizeof(struct shard))};
     pthread_mutex_unlock(&lock);
-    respond(out, "", 0);
+    end_body(out, begin_body(out, 0));
 }
 
 static void put(const char *at, const char *end, struct buffer *out) {
@@ -136,8 +153,7 @@ static void put(const char *at, const char *end, struct buffer *out) {
     unsigned shard = home_of(hash, s->count);
     store(s, shard, &r);
     pthread_mutex_unlock(&lock);
-    char body[100];
-    respond(out, body, (size_t)(place(body, r.seq, shard) - body));
+    end_body(out, place(begin_body(out, 100), r.seq, shard));
 }
 
 static void put_many(const char *at, const char *end, struct buffer *out) {
@@ -171,14 +187,13 @@ static void put_many(const char *at, const char *end, struct buffer *out) {
         store(s, shards[i], &many[i]);
     }
     pthread_mutex_unlock(&lock);
-    char *body = take(count * 100 + 100), *to = PRINT(body, "{\"FailedRecordCount\":0,\"Records\":[");
+    char *to = begin_body(out, count * 100 + 100);
+    to = PRINT(to, "{\"FailedRecordCount\":0,\"Records\":[");
     for (size_t i = 0; i < count; i++) {
         if (i) *to++ = ',';
         to = place(to, many[i].seq, shards[i]);
     }
-    to = PRINT(to, "]}");
-    respond(out, body, (size_t)(to - body));
-    free(body);
+    end_body(out, PRINT(to, "]}"));
 }
 
 /* A batch from the position that the token names. */
@@ -204,7 +219,8 @@ static void get(const char *at, const char *end, struct buffer *out) {
     pthread_mutex_unlock(&lock);
     size_t room = 300;
     for (size_t i = 0; i < count; i++) room += batch[i].key_len + batch[i].payload_len / 3 * 4 + 150;
-    char *body = take(room), *to = PRINT(body, "{\"MillisBehindLatest\":");
+    char *to = begin_body(out, room);
+    to = PRINT(to, "{\"MillisBehindLatest\":");
     to = print_number(to, behind);
     to = PRINT(to, ",\"NextShardIterator\":\"");
     char next[128], *e = PRINT(next, "KI1:");
@@ -219,9 +235,7 @@ static void get(const char *at, const char *end, struct buffer *out) {
         if (i) *to++ = ',';
         to = print_record(to, &batch[i]);
     }
-    to = PRINT(to, "]}");
-    respond(out, body, (size_t)(to - body));
-    free(body);
+    end_body(out, PRINT(to, "]}"));
     free(batch);
 }
 
@@ -298,10 +312,11 @@ static void answer_barely(const char *head, const char *body, size_t len, struct
     if (!target) exit(1);
     int many = !memcmp(target + 17, "PutRecords", 10);
     if (!many && memcmp(target + 17, "PutRecord", 9)) {
-        respond(out, "", 0);
+        end_body(out, begin_body(out, 0));
         return;
     }
-    char *room = take(many ? 60000 : 200), *to = many ? PRINT(room, "{\"FailedRecordCount\":0,\"Records\":[") : room;
+    char *to = begin_body(out, many ? 60000 : 200);
+    if (many) to = PRINT(to, "{\"FailedRecordCount\":0,\"Records\":[");
     for (int i = 0; MEMBER(&body, end, "\"Data\":\"", &data); i++) {
         struct record r = {.bytes = take(data.len), .payload_len = data.len * 3 / 4};
         memcpy(r.bytes, data.at, r.payload_len);
@@ -312,26 +327,24 @@ static void answer_barely(const char *head, const char *body, size_t len, struct
         if (i) *to++ = ',';
         to = place(to, r.seq, 0);
     }
-    if (many) to = PRINT(to, "]}");
-    respond(out, room, (size_t)(to - room));
-    free(room);
+    end_body(out, many ? PRINT(to, "]}") : to);
 }
 
 /* ---- connections */
 
 static int send_all(int socket, struct buffer *out) {
-    size_t sent = 0;
-    while (sent < out->len) {
-        ssize_t n = send(socket, out->at + sent, out->len - sent, MSG_NOSIGNAL);
+    while (out->from < out->len) {
+        ssize_t n = send(socket, out->at + out->from, out->len - out->from, MSG_NOSIGNAL);
         if (n <= 0) return 0;
-        sent += (size_t)n;
+        out->from += (size_t)n;
     }
-    out->len = 0;
+    out->from = out->len = 0;
     return 1;
 }
 
-/* Answers the request at the front, if it is whole, and gives how many bytes it has. */
-static size_t answer_front(const char *head, size_t unread, struct buffer *out) {
+/* Answers the request at the front, if it is whole, and gives how many bytes it has. One that isn't needs so many, as soon as its head is whole. */
+static size_t answer_front(const char *head, size_t unread, size_t *needs, struct buffer *out) {
+    if (unread < *needs) return 0;
     const char *end = unread ? memmem(head, unread, "\r\n\r\n", 4) : NULL;
     struct head h = {0};
     if (!end) return 0;
@@ -342,7 +355,8 @@ static size_t answer_front(const char *head, size_t unread, struct buffer *out) 
         exit(1);
     }
     size_t whole = (size_t)(end + 4 - head) + h.length;
-    if (whole > unread) return 0;
+    *needs = whole > unread ? whole : 0;
+    if (*needs) return 0;
     if (bare) answer_barely(head, end + 4, h.length, out);
     else answer(&h, end + 4, out);
     return whole;
@@ -351,12 +365,13 @@ static size_t answer_front(const char *head, size_t unread, struct buffer *out) 
 static void *serve(void *given) {
     int socket = (int)(intptr_t)given;
     struct buffer in = {0}, out = {0};
-    size_t used = 0;
+    size_t used = 0, needs = 0;
     for (;;) {
-        size_t done = answer_front(in.at + used, in.len - used, &out);
+        size_t done = answer_front(in.at + used, in.len - used, &needs, &out);
         used += done;
-        if (done && out.len < 65536) continue;
-        if (out.len && !send_all(socket, &out)) break;
+        if (done && out.len - out.from < 65536) continue;
+        if (out.from < out.len && !send_all(socket, &out)) break;
+        if (done) continue;
         memmove(in.at, in.at + used, in.len - used);
         in.len -= used;
         used = 0;
