@@ -565,10 +565,16 @@ done << 'END'
 bench/audit 0
 bench/audit -1
 bench/audit 1000 2000
+bench/ceiling --c
+bench/ceiling --c nosuch
+bench/ceiling puts nosuch
 bench/fuzz --inputs -1
 bench/fuzz --inputs 0
 bench/fuzz --seed
 bench/fuzz --seconds 1.5x
+bench/peers 0
+bench/peers 1 2
+bench/picture --check more
 bench/profile --names nosuch
 bench/refused 0
 bench/refused 1 2
