@@ -1,0 +1,59 @@
+"""The words that `clients/differences` takes."""
+import argparse
+import urllib.parse
+
+from differing.faults import is_here
+from differing.streams import MOST, PREFIX
+
+MOST_TOLD = (
+    f'makes some 12 streams there, one or two at a time, whose names begin with {PREFIX}, puts some 100 records of '
+    f'12 MB in all, and deletes the streams. At most {MOST} shards are open at once'
+)
+
+
+def words(text):
+    """The options. `text` is what --help says."""
+    parser = argparse.ArgumentParser(
+        prog='clients/differences', description=text, formatter_class=argparse.RawDescriptionHelpFormatter
+    )
+    parser.add_argument('--endpoint')
+    parser.add_argument('--region', default='us-east-1')
+    parser.add_argument('--pace', type=float)
+    parser.add_argument('--only', default='')
+    for flag in ('--yes', '--beyond', '--slow', '--table', '--list'):
+        parser.add_argument(flag, action='store_true')
+    return parser.parse_args()
+
+
+def chosen(scenes, some):
+    """The scenes with the cases that are run."""
+
+    def fits(one):
+        return some.lower() in ' '.join((one.scene, one.name, *(one.row or ()))).lower()
+
+    pairs = [(scene, [one for one in scene.cases if fits(one)]) for scene in scenes]
+    return [(scene, cases) for scene, cases in pairs if cases]
+
+
+def fault_of(given, pairs):
+    """Why nothing can be run by these words."""
+    if not pairs:
+        return f'no case has {given.only!r}'
+    if given.endpoint is None:
+        return None
+    try:
+        url = urllib.parse.urlsplit(given.endpoint)
+        fits = (
+            url.scheme in ('http', 'https')
+            and url.hostname
+            and (url.port is None or url.port)
+            and url.path in ('', '/')
+            and not url.query
+        )
+    except ValueError:
+        fits = False
+    if not fits:
+        return 'an endpoint is http://HOST:PORT or https://HOST'
+    if not is_here(url.hostname) and not given.yes:
+        return f'{url.hostname} is not this machine. With --yes this {MOST_TOLD}'
+    return None

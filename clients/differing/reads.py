@@ -1,0 +1,131 @@
+"""Iterators, and what they read."""
+import base64
+import contextlib
+import time
+
+from differing.case import OWN, SLOW, Scene
+from differing.steps import ZERO
+
+
+def make(stage):
+    stage.begin(1)
+    stage.put('a', b'first')
+    stage.kept.token, stage.kept.since = stage.iterator(), time.monotonic()
+
+
+scene = Scene('reads', make)
+
+
+@scene.same(
+    'an iterator that is used twice',
+    'the same record',
+    place='GetShardIterator.ShardIterator',
+    reading='a place to read from',
+)
+def twice(stage):
+    return (
+        'the same record'
+        if stage.read(stage.kept.token, 1, 1)[0] == stage.read(stage.kept.token, 1, 1)[0]
+        else 'another record'
+    )
+
+
+@scene.same(
+    'records that each kind of iterator reads, from the second of three on',
+    '3 2 1 0 3 0',
+    place='GetShardIterator.ShardIteratorType',
+    reading='the oldest, at a number, after a number, only new ones, at a time, at a time to come',
+)
+def kinds(stage):
+    time.sleep(1.1)
+    begin = int(time.time())
+    time.sleep(1.1)
+    puts = [stage.put('i')['SequenceNumber'] for _ in range(3)]
+    asked = (
+        ('TRIM_HORIZON', {}, 50),
+        ('AT_SEQUENCE_NUMBER', {'StartingSequenceNumber': puts[1]}, 2),
+        ('AFTER_SEQUENCE_NUMBER', {'StartingSequenceNumber': puts[1]}, 1),
+        ('LATEST', {}, 0),
+        ('AT_TIMESTAMP', {'Timestamp': begin}, 3),
+        ('AT_TIMESTAMP', {'Timestamp': int(time.time()) + 100}, 0),
+    )
+    read = [
+        {record['SequenceNumber'] for record in stage.read(stage.iterator(ZERO, kind, **more), least)[0]}
+        for kind, more, least in asked
+    ]
+    return ' '.join(str(len(each & set(puts))) for each in read)
+
+
+@scene.same(
+    'what LATEST reads of a record that is put after it',
+    'that record',
+    place='GetShardIterator.ShardIteratorType',
+    reading='LATEST reads only what comes',
+)
+def latest(stage):
+    at = stage.iterator(ZERO, 'LATEST')
+    number = stage.put('l')['SequenceNumber']
+    given = [record['SequenceNumber'] for record in stage.read(at, 1)[0]]
+    return 'that record' if given == [number] else f'{len(given)} records'
+
+
+@scene.case(
+    'MillisBehindLatest if one record follows',
+    (OWN, 'MillisBehindLatest'),
+    kds='the age of the next record',
+    place='GetRecords.MillisBehindLatest',
+    reading='how far the reply is behind the end of the shard',
+)
+def behind(stage):
+    first = stage.put('m')['SequenceNumber']
+    time.sleep(1)
+    stage.put('m')
+    time.sleep(3)
+    given = stage.read(stage.from_number(first), 1, 1)[1]['MillisBehindLatest']
+    ages = (
+        (1, '0'),
+        (2000, 'the time between the two records'),
+        (3700, 'the age of the next record'),
+        (6000, 'the age of the record that is returned'),
+    )
+    return next((name for least, name in ages if given < least), f'{given} ms')
+
+
+@scene.case(
+    'what a shard iterator is',
+    (OWN, 'Tokens'),
+    kds='base64 of KI1:..',
+    place='GetShardIterator.ShardIterator',
+    reading='a text that stands for a place',
+)
+def token(stage):
+    with contextlib.suppress(ValueError):
+        text = base64.b64decode(stage.kept.token, validate=True)
+        return 'base64 of KI1:..' if text.startswith(b'KI1:') else f'base64 of {len(text)} bytes'
+    return f'{len(stage.kept.token)} characters'
+
+
+scene.call(
+    'an iterator with one more character',
+    (OWN, 'Tokens'),
+    'GetRecords',
+    {'ShardIterator': lambda stage: stage.kept.token + '='},
+    kds='InvalidArgumentException',
+)
+scene.call(
+    'AAAA as an iterator', (OWN, 'Tokens'), 'GetRecords', {'ShardIterator': 'AAAA'}, kds='InvalidArgumentException'
+)
+
+
+@scene.case(
+    'an iterator after 301 seconds',
+    (OWN, 'Tokens'),
+    kds='ExpiredIteratorException',
+    says='ExpiredIteratorException',
+    place='GetShardIterator.ShardIterator',
+    reading='valid for five minutes',
+    takes=SLOW,
+)
+def expired(stage):
+    time.sleep(max(0, stage.kept.since + 301 - time.monotonic()))
+    return stage.outcome('GetRecords', ShardIterator=stage.kept.token)
