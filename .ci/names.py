@@ -302,6 +302,16 @@ def check_steps(tally, page):
         tally.holds(any(line.startswith(step) for line in examples), f'{page.relative_to(ROOT)}: no example has the line {step}')
 
 
+def check_differences(tally):
+    """Each row of docs/differences.md has a case that `clients/differences` runs, or a reason why not."""
+    sys.path.insert(0, str(ROOT / 'clients'))
+    from differing import catalogue, page
+    faults = list(page.faults(catalogue.scenes()))
+    for fault in faults:
+        tally.holds(False, fault)
+    tally.holds(not faults, 'docs/differences.md and its cases')
+
+
 def check_decisions(tally, page):
     """The table of subjects names each decision once, and other pages cite decisions that are there."""
     text = page.read_text()
@@ -600,6 +610,7 @@ def main():
     check_steps(tally, ROOT / 'docs' / 'workers.md')
     check_operations(tally)
     check_recipes(tally, ROOT / 'CONTRIBUTING.md')
+    check_differences(tally)
     check_decisions(tally, ROOT / 'docs' / 'DECISIONS.md')
     check_counts(tally, write)
     check_policy(tally, ROOT / 'viewer' / 'journal.html', write)

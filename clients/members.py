@@ -1,5 +1,6 @@
 """The members of requests and replies: those of botocore's model, those that docs/formats.md says are read or answered, and those that
 docs/differences.md lists as ignored, refused or missing. Each member of the model of an operation that is served is one of these, and only one.
+The operations of the model that aren't served are those that docs/differences.md names.
 Nothing is asked of a server here; that a reply has the members of docs/formats.md is tested by suite.py and by the stored outputs."""
 import pathlib
 import re
@@ -92,6 +93,14 @@ class Members(unittest.TestCase):
         for operation in self.served:
             self.assertEqual(set(), self.of(operation, 0) & names(self.requests[operation]), operation)
             self.assertEqual(set(), self.of(operation, 2) & names(self.replies[operation]), operation)
+
+    def test_each_operation_that_is_not_served_is_named(self):
+        """An older botocore knows fewer of those that the page names."""
+        item = re.search(r'^- \*\*Operations\.\*\*.*?:(.*?)(?=^- |\Z)', section('differences.md', 'Left out'), re.S | re.M)
+        listed, left = names(item[1]), set(self.model.operation_names) - set(self.served)
+        self.assertEqual(set(), left - listed)
+        if 'UpdateStreamWarmThroughput' in left:
+            self.assertEqual(set(), listed - left)
 
     def test_the_page_lists_served_operations_alone(self):
         self.assertEqual(set(), set(self.listed) - set(self.served) - {EACH})

@@ -2,6 +2,7 @@
 import contextlib
 import os
 import pathlib
+import re
 import select
 import signal
 import socket
@@ -27,6 +28,18 @@ def free_port():
     with socket.socket() as probe:
         probe.bind(('127.0.0.1', 0))
         return probe.getsockname()[1]
+
+
+def versions(name):
+    """The programs of this name on the path: the version that each says, and the first place with it."""
+    found = {}
+    for folder in os.environ['PATH'].split(':'):
+        place = os.path.join(folder, name)
+        done = subprocess.run([place, '--version'], capture_output=True, text=True, check=False) if os.access(place, os.X_OK) else None
+        told = done and re.search(r'\d+(?:\.\d+)+', done.stdout + done.stderr)
+        if told:
+            found.setdefault(told[0], place)
+    return found
 
 
 def heed_interrupts():

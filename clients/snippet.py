@@ -1,4 +1,4 @@
-"""The blocks of README.md and docs/clients.md that people copy, run as they stand there except for the port: the first block of README and its boto3 program,
+"""The blocks of README.md and docs/clients.md that people copy, run as they stand there except for the port: the first block of README, with each AWS CLI, and its boto3 program,
 the script for CI with and without `bash -e`, the fixture of pytest, and the Python that sends a file of requests and turns a stream's limits on."""
 import importlib.util
 import json
@@ -14,7 +14,7 @@ import time
 import unittest
 import urllib.request
 
-from server import JSON, ROOT, free_port, serving, take_checked
+from server import JSON, ROOT, free_port, serving, take_checked, versions
 
 PORT = '4567'
 PYTEST = '''#!/usr/bin/env bash
@@ -109,13 +109,19 @@ class Blocks(unittest.TestCase):
 
     @unittest.skipIf(shutil.which('aws') is None, 'there is no AWS CLI on this machine')
     def test_the_first_block_of_readme(self):
+        """With each AWS CLI of this machine: version 1, and that of a distribution."""
+        for version, aws in versions('aws').items():
+            with self.subTest(version=version):
+                self.run_first_block(f'{pathlib.Path(aws).parent}:{os.environ["PATH"]}')
+
+    def run_first_block(self, path):
         port, text = free_port(), block('README.md', '$ ./kds serve')
         commands, shown = [], []
         for line in text.replace(PORT, str(port)).splitlines():
             (commands if line.startswith('$ ') else shown).append(line.removeprefix('$ '))
         ready = f'until (exec 3<> /dev/tcp/127.0.0.1/{port}) 2> /dev/null; do sleep 0.05; done'
         script = '\n'.join([commands[0], ready, *commands[1:], 'kill %1; wait %1'])
-        done = subprocess.run(['bash', '-c', script], cwd=ROOT, capture_output=True, text=True, timeout=60, check=False)
+        done = subprocess.run(['bash', '-c', script], cwd=ROOT, env=os.environ | {'PATH': path}, capture_output=True, text=True, timeout=60, check=False)
         self.assertEqual((143, shown), (done.returncode, done.stdout.splitlines()), done.stderr)
 
     @unittest.skipIf(importlib.util.find_spec('boto3') is None, 'there is no boto3 on this machine')

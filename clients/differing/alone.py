@@ -6,7 +6,6 @@ import contextlib
 import json
 import os
 import pathlib
-import re
 import shutil
 import subprocess
 import sys
@@ -16,7 +15,7 @@ HERE = pathlib.Path(__file__).resolve().parent
 sys.path.insert(0, str(HERE.parent))
 from differing.behind import standing  # noqa: E402
 from differing.stand import Stand  # noqa: E402
-from server import serving  # noqa: E402
+from server import serving, versions  # noqa: E402
 
 # An address that no machine has (RFC 5737): in the namespace it is the loopback's, and by its form it is elsewhere.
 ELSEWHERE = '192.0.2.1'
@@ -49,27 +48,20 @@ def why_not():
     )
 
 
-def places(name):
-    """Each program of this name on the path."""
-    found = [pathlib.Path(folder) / name for folder in os.environ['PATH'].split(':')]
-    return list(dict.fromkeys(str(path) for path in found if os.access(path, os.X_OK)))
-
-
-def version(words):
-    """The first number with dots that a program says of itself."""
+def boto3_of(python):
+    """The version of boto3 that a Python has, if it has one."""
+    words = [python, '-c', 'import boto3; print(boto3.__version__)']
     done = subprocess.run(words, capture_output=True, text=True, check=False)
-    found = re.search(r'\d+(?:\.\d+)+', done.stdout + done.stderr)
-    return found[0] if done.returncode == 0 and found else None
+    return done.stdout.strip() if done.returncode == 0 else None
 
 
 def clients():
     """The clients on this machine: a name, its version, and the words that list the streams without an endpoint and
     with one."""
-    for aws in places('aws'):
-        if told := version([aws, '--version']):
-            yield 'AWS CLI', told, [aws, 'kinesis', 'list-streams'], ['--endpoint-url']
+    for told, aws in versions('aws').items():
+        yield 'AWS CLI', told, [aws, 'kinesis', 'list-streams'], ['--endpoint-url']
     for python in dict.fromkeys((sys.executable, '/usr/bin/python3')):
-        if os.access(python, os.X_OK) and (told := version([python, '-c', 'import boto3; print(boto3.__version__)'])):
+        if os.access(python, os.X_OK) and (told := boto3_of(python)):
             yield 'boto3', told, [python, '-c', BOTO3], []
 
 

@@ -109,6 +109,9 @@ class Endpoint:
         except (OSError, http.client.HTTPException) as error:
             self.drop()
             raise Refused(operation, 'no answer', f'{type(error).__name__} {error}') from error
+        except BaseException:  # a signal: the reply may come later, and is none of the next call
+            self.drop()
+            raise
         if reply.will_close:
             self.drop()
         return told

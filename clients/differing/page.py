@@ -38,26 +38,26 @@ UNSEEN = {
 }
 
 
-def rows(text):
-    """The rows of the page: what a list item has in bold at its head, and the first cells of tables, each with its
-    section."""
-    found, section, head = [], None, False
-    for line in text.splitlines():
-        title, item = re.match(r'^## (.*)$', line), re.match(r'^- \*\*(.*?)\*\*', line)
-        cells = line.startswith('| ')
-        if title:
-            section = title[1]
-        elif section in (LEFT, MEMBERS, DIFFERENT, OWN) and (item or line.startswith('- ')):
-            found.append((section, item[1].rstrip('.:').replace('`', '') if item else line[2:40]))
-        elif section in (LEFT, MEMBERS, DIFFERENT, OWN) and cells and head:
-            found.append((section, line[2:].split(' | ')[0].replace('`', '')))
-        head = line.startswith('|')
-    return found
+def placed(text):
+    """The rows of the page, each with its line: what a list item has in bold at its head, and the first cells of
+    tables, each with its section."""
+    section, within = None, False
+    for at, line in enumerate(text.splitlines()):
+        title, item = re.match(r'^## (.*)$', line), re.match(r'^- (?:\*\*(.*?)\*\*)?', line)
+        section = title[1] if title else section
+        name = None
+        if item:
+            name = (item[1] or line[2:40]).rstrip('.:')
+        elif line.startswith('| ') and within:
+            name = line[2:].split(' | ')[0]
+        if name and section in (LEFT, MEMBERS, DIFFERENT, OWN):
+            yield at, (section, name.replace('`', ''))
+        within = line.startswith('|')
 
 
 def faults(scenes, text=None):
     """What the page or the cases lack."""
-    there = rows(PAGE.read_text() if text is None else text)
+    there = [row for _, row in placed(PAGE.read_text() if text is None else text)]
     cases = {one.row for scene in scenes for one in scene.cases if one.row}
     yield from (
         f'docs/differences.md has a row twice: {": ".join(row)}'

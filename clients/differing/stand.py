@@ -77,8 +77,9 @@ def completed(operation, told, state):
 class Stand(Front):
     headers = {'x-amzn-RequestId': '3c9b5f0e-6a51-4a34-8f1e-000000000000'}
 
-    def __init__(self, behind, address='127.0.0.1', calls=20):
-        """`calls` is how many calls of one operation a second has; what is above that is refused."""
+    def __init__(self, behind, address='127.0.0.1', calls=None):
+        """`calls` is how many calls of each operation it takes in a second. Without it only DescribeStreamSummary has
+        a limit: that of the reference."""
         super().__init__(behind, address)
         self.states, self.last, self.calls = {}, {}, calls
         # how many calls were refused for their number, and the most shards that were open at once
@@ -94,11 +95,13 @@ class Stand(Front):
         return 'ACTIVE'
 
     def is_busy(self, operation):
+        most = self.calls or (20 if operation == 'DescribeStreamSummary' else 10**6)
         now = time.monotonic()
         recent = [at for at in self.last.get(operation, []) if at > now - 1]
-        self.last[operation] = recent + [now] * (len(recent) < self.calls)
-        self.refused += len(recent) >= self.calls
-        return len(recent) >= self.calls
+        full = len(recent) >= most
+        self.last[operation] = recent if full else [*recent, now]
+        self.refused += full
+        return full
 
     def count(self):
         _, told = self.forward('ListStreams', {})
