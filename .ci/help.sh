@@ -157,6 +157,69 @@ if [ -e /dev/full ]; then
     [ $? -eq 5 ] && [ "$(head -n 1 "$work/err")" = 'write fault' ] && grep -q 'disk is full' "$work/err"
     tell $? 'a full disk' "$(cat "$work/err")"
 fi
+# The scripts by another way than their place: a symlink, a relative one with CDPATH, sh, more words behind help, and KDS in this folder.
+ln -s "$PWD/kds" "$PWD/dev" "$work"
+answers "kds $(cat VERSION)" "$work/kds" --version
+answers './dev build' "$work/dev" --help
+answers "kds $(cat VERSION)" env -C .. CDPATH="$(dirname "$PWD")" "${PWD##*/}/kds" --version
+answers './dev build' env -C .. CDPATH="$(dirname "$PWD")" "${PWD##*/}/dev" --help
+answers "kds $(cat VERSION)" sh ./kds --version
+for words in '--help replay' '-h x' 'help nosuch'; do
+    # shellcheck disable=SC2086
+    answers './kds serve PORT MEMBERS' ./kds $words
+done
+cp "$KDS" "$work/quick"
+answers 'runs quick, which KDS names' env -C "$work" KDS=quick "$PWD/kds" --version
+
+# Where no temporary file can be made or written the program's own line and status stay, and no hint follows.
+bare() { # STATUS OUTPUT ERRORS FILE WORD..
+    local status=$1 output=$2 errors=$3 file=$4
+    shift 4
+    timeout 60 "$@" < "$file" > "$work/out" 2> "$work/err"
+    local given=$?
+    [ "$given" -eq "$status" ] && [ "$(tail -n 1 "$work/out")" = "$output" ] && [ "$(cat "$work/err")" = "$errors" ]
+    tell $? "$*" "status $given, $(tail -n 1 "$work/out"), $(cat "$work/err")"
+}
+printf '1000 step\r\n' > "$work/schedule"
+printf '%s\n' 'mount -t tmpfs -o size=16k none "$1" && { head -c 100000 /dev/zero > "$1/much" 2> /dev/null; TMPDIR=$1 exec "${@:2}"; }' > "$work/tmpfs"
+mkdir "$work/full"
+rooms=("env TMPDIR=$work/nosuch")
+if unshare -rm mount -t tmpfs none "$work/full" 2> /dev/null; then
+    rooms+=("unshare -rm bash $work/tmpfs $work/full")
+else
+    echo 'skipped: this user can mount no disk to fill'
+fi
+bare 0 'ok 1 1/0 w2 3 1 1' '' examples/leases.txt env -C "$work" KDS=quick "$PWD/kds" replay
+for room in "${rooms[@]}"; do
+    # shellcheck disable=SC2086 # words
+    bare 0 'sound 37' '' examples/workers.journal $room ./kds audit
+    # shellcheck disable=SC2086
+    bare 1 'entry 33 Lost' '' examples/stale-mark.journal $room ./kds audit
+    # shellcheck disable=SC2086
+    bare 3 '' 'line 1: not a schedule line' "$work/schedule" $room ./kds replay
+done
+
+# What a server meets before it listens. It replaces the script, so the hint comes first.
+before() { # STATUS OWN-LINE HINT WORD..
+    local status=$1 own=$2 part=$3
+    shift 3
+    timeout 60 "$@" 2> "$work/err"
+    local given=$?
+    [ "$given" -eq "$status" ] && [ "$(tail -n 1 "$work/err")" = "$own" ] && [[ "$(head -n 1 "$work/err")" == "kds: "*"$part"* ]]
+    tell $? "$*" "status $given, $(cat "$work/err")"
+}
+before 5 'write fault' 'closed or full' ./kds serve 4593 2 >&-
+[ ! -e /dev/full ] || before 5 'write fault' 'closed or full' ./kds serve 4593 2 > /dev/full
+[ "${#rooms[@]}" -eq 1 ] || before 5 'write fault' 'closed or full' ${rooms[1]} bash -c "./kds serve 4593 2 > $work/full/out"
+plain=()
+[ "$(id -u)" -ne 0 ] || plain=(setpriv --reuid=65534 --regid=65534 --clear-groups)
+read -r first 2> /dev/null < /proc/sys/net/ipv4/ip_unprivileged_port_start || first=1024
+if [ "$first" -gt 1 ] && "${plain[@]}" test -x ./kds -a -x "$KDS" 2> /dev/null; then
+    before 8 'door fault' 'port 1 needs rights' "${plain[@]}" ./kds serve 1 2 > /dev/null
+else
+    echo 'skipped: no other user can run the program here'
+fi
+
 mkfifo "$work/said"
 ./kds serve 4591 2 > "$work/said" &
 read -r -t 60 listening < "$work/said"
@@ -233,6 +296,7 @@ case $1 in
     doc) echo "$kit/START-HERE.md" ;;
     try)
         echo try >> "$FAKES/calls"
+        ! does fill || head -c 100000000 /dev/zero > "$FILL" 2> /dev/null
         ! does hang-try || hang
         ! does refuse || { printf 'error: no such name\nrun=none proved=no\n' >&2; exit 1; }
         ! does change || { echo other > src/main.rt; echo build > "$FAKES/does"; }
@@ -253,6 +317,7 @@ case $1 in
             rm -rf crates/*/out && mkdir crates/kds_cli/out && cp "$FAKES/program" crates/kds_cli/out/kds_cli
             exit
         fi
+        ! does fill || head -c 100000000 /dev/zero > "$FILL" 2> /dev/null
         [ -d .git ] && [ -d crates/kds_base/src ] && [ ! -e crates/kds_base/must-fail ] && [ ! -e crates/test_runs ] && ! grep -q test_ crates.txt || exit 3
         ! does hang-ci || { echo 'rt: kds_base proved'; hang; }
         ! does full-ci || full rt
@@ -346,6 +411,28 @@ twice() { # WORD..
     tell $? "a fake $*, twice at once" "status $given, $other, $(cat "$work/err" "$work/err2")"
 }
 
+# One that is killed at a step that hangs: the next one doesn't wait for what it left, which is ended here.
+killed() { # DOES WORD..
+    local times left
+    begin "$1"
+    shift
+    (cd "$fake" && TMPDIR=$fakes/tmp PATH=$path exec "$@") > "$work/out" 2> "$work/err" &
+    for times in {1..300}; do
+        [ ! -s "$fakes/processes" ] || break
+        sleep 0.1
+    done
+    kill -KILL $!
+    wait $! 2> /dev/null
+    read -ra left < "$fakes/processes"
+    begin build
+    (cd "$fake" && TMPDIR=$fakes/tmp PATH=$path timeout 60 "$@") > "$work/out" 2> "$work/err"
+    local given=$?
+    [ "$given" -eq 0 ] && kill -0 "${left[@]}" && [ "$(wc -l < "$fakes/calls")" -eq 1 ] && ! grep -q 'waiting for that' "$work/err"
+    tell $? "a fake $*, after one that was killed" "status $given, $(cat "$work/err"), left: ${left[*]}"
+    kill "${left[@]}"
+    rm -rf "${fakes:?}/tmp/"*
+}
+
 # One that is ended while it waits for another.
 waiting() { # LOCK WORD..
     local times held
@@ -368,18 +455,18 @@ waiting() { # LOCK WORD..
     tell $? "a fake $*, ended while it waits" "status $given, $(cat "$work/err")"
 }
 
-# One where a folder lies on a disk that is full.
-full() { # FOLDER ERRORS WORD..
-    local at=$1 errors=$2
-    shift 2
+# One where a folder lies on a disk that is full, or that is filled by what `rt` does; and how often `rt` was called.
+full() { # CALLS DOES FOLDER ERRORS WORD..
+    local calls=$1 does=$2 at=$3 errors=$4
+    shift 4
     mkdir -p "$at"
-    begin build
+    begin "$does"
     # shellcheck disable=SC2016 # the inner shell's words
-    unshare -rm bash -c 'mount -t tmpfs -o size=16k none "$0" && { head -c 100000 /dev/zero > "$0/much" 2> /dev/null; cd "$1" && TMPDIR=$2 PATH=$3 exec "${@:4}"; }' \
-        "$at" "$fake" "$fakes/tmp" "$path" "$@" > "$work/out" 2> "$work/err"
+    unshare -rm bash -c 'mount -t tmpfs -o size=16m none "$0" && { [ "$5" != build ] || head -c 100000000 /dev/zero > "$0/much" 2> /dev/null; cd "$1" && FILL=$0/much TMPDIR=$2 PATH=$3 exec "${@:6}"; }' \
+        "$at" "$fake" "$fakes/tmp" "$path" '' "$does" "$@" > "$work/out" 2> "$work/err"
     local given=$?
     # shellcheck disable=SC2053
-    [ "$given" -eq 2 ] && [[ $(grep '^kds: ' "$work/err") == *$errors ]] && nothing_left
+    [ "$given" -eq 2 ] && [[ $(grep '^kds: ' "$work/err") == *$errors ]] && [ "$(wc -l < "$fakes/calls")" -eq "$calls" ] && nothing_left
     tell $? "a fake $*, a full disk" "status $given, $(cat "$work/err")"
 }
 
@@ -406,6 +493,8 @@ for step in try clang link; do
     stopped TERM "hang-$step" ./kds -c 'echo ran'
 done
 stopped INT hang-try ./dev try -c 'echo ran'
+killed hang-try ./kds -c 'echo ran'
+echo two and more > "$source"
 fake 0 ran 1 "$then" build ./kds -c 'echo ran'
 echo three > "$source"
 fake 0 ran 2 "$then"$'kds: a source changed meanwhile\n'"${then#"$first"}" change ./kds -c 'echo ran'
@@ -532,10 +621,12 @@ fake 2 '' 0 "$first"'kds: *out can'\''t be written'$'\n' build ./kds replay
 fake 2 '' 0 'kds: *out can'\''t be written'$'\n' build ./dev build
 rm "$fake/out"
 if unshare -rm mount -t tmpfs none "$fakes/tmp" 2> /dev/null; then
-    full "$fakes/tmp" 'not built: the disk is full' ./kds replay
-    full "$fake/out" 'not kept: the disk is full' ./kds replay
-    full "$fakes/tmp" 'the sources were not copied: the disk is full' ./dev build
-    full "$fake/crates/kds_cli/out" 'proved, and not put in its place: the disk is full' ./dev build
+    full 0 build "$fakes/tmp" "not begun: the disk of $fakes/tmp/* is full" ./kds replay
+    full 0 build "$fake/out" "not begun: the disk of $fake/out is full" ./kds replay
+    full 0 build "$fakes/tmp" "not begun: the disk of $fakes/tmp/* is full" ./dev build
+    full 1 fill "$fakes/tmp" 'not built: the disk is full' ./kds replay
+    full 1 fill "$fake/out" 'not kept: the disk is full' ./kds replay
+    full 1 build "$fake/crates/kds_cli/out" 'proved, and not put in its place: the disk is full' ./dev build
 else
     echo 'skipped: this user can mount no disk to fill'
 fi

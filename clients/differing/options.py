@@ -1,5 +1,6 @@
 """The words that `clients/differences` takes."""
 import argparse
+import sys
 import urllib.parse
 
 from differing.faults import is_here
@@ -11,9 +12,15 @@ MOST_TOLD = (
 )
 
 
+class Words(argparse.ArgumentParser):
+    def error(self, message):
+        print(f'usage: {self.prog} [--endpoint URL] ..; --help says more: {message}', file=sys.stderr)
+        sys.exit(2)
+
+
 def words(text):
     """The options. `text` is what --help says."""
-    parser = argparse.ArgumentParser(
+    parser = Words(
         prog='clients/differences', description=text, formatter_class=argparse.RawDescriptionHelpFormatter
     )
     parser.add_argument('--endpoint')
