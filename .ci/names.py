@@ -62,6 +62,8 @@ SHARED = {
 }
 # the most lines of a function, its contract included, each clause counted as one
 LINES = 44
+# the most words of README above what is proved
+WORDS = 1500
 # the kinds of change whose files CONTRIBUTING.md lists, each in a section of its own with the search that finds them
 KINDS = ['A command', 'An entry of the journal', 'A state of a stream', 'A refusal', 'A changed refusal', 'A reply with a body',
          'A command that only reads', 'Add a kind of schedule line']
@@ -185,6 +187,13 @@ def check_listed(tally):
     readme = (ROOT / 'README.md').read_text()
     for page in PAGES[1:]:
         tally.holds(str(page.relative_to(ROOT)) in readme, f'README.md: it names no {page.relative_to(ROOT)}')
+
+
+def check_words(tally, page):
+    """Who comes to README reads it whole."""
+    above = page.read_text().partition('\n## What is proved\n')[0]
+    count = sum(re.search(r'\w', word) is not None for word in above.split())
+    tally.holds(count <= WORDS, f'{page.relative_to(ROOT)}: {count:,} words above "What is proved", and {WORDS:,} are allowed')
 
 
 def check_examples(tally, page):
@@ -603,6 +612,7 @@ def main():
         check_names(tally, page, known)
         check_outputs(tally, page)
     check_listed(tally)
+    check_words(tally, ROOT / 'README.md')
     check_calling(tally, ROOT / 'docs/calling.md')
     check_examples(tally, ROOT / 'examples/README.md')
     check_sections(tally)
