@@ -159,7 +159,9 @@ class Runs(unittest.TestCase):
             with standing(Stand(self.server.port)) as stand, self.subTest(sign=sign.name, seconds=seconds):
                 words = [SCRIPT, '--endpoint', stand.endpoint]
                 with subprocess.Popen(words, stdout=subprocess.DEVNULL, stderr=subprocess.PIPE, text=True) as process:
-                    stem = re.search(r'streams (\S+)-\.\.', process.stderr.readline())[1]
+                    stem = next(
+                        found[1] for line in process.stderr if (found := re.search(r'streams (\S+)-\.\.', line))
+                    )
                     time.sleep(seconds)
                     process.send_signal(sign)
                     said = process.communicate(timeout=60)[1]

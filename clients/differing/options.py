@@ -21,7 +21,10 @@ class Words(argparse.ArgumentParser):
 def words(text):
     """The options. `text` is what --help says."""
     parser = Words(
-        prog='clients/differences', description=text, formatter_class=argparse.RawDescriptionHelpFormatter
+        prog='clients/differences',
+        allow_abbrev=False,
+        description=text,
+        formatter_class=argparse.RawDescriptionHelpFormatter,
     )
     parser.add_argument('--endpoint')
     parser.add_argument('--region', default='us-east-1')
@@ -56,11 +59,13 @@ def fault_of(given, pairs):
             and (url.port is None or url.port)
             and url.path in ('', '/')
             and not url.query
+            and '@' not in url.netloc
         )
     except ValueError:
         fits = False
     if not fits:
         return 'an endpoint is http://HOST:PORT or https://HOST'
     if not is_here(url.hostname) and not given.yes:
-        return f'{url.hostname} is not this machine. With --yes this {MOST_TOLD}'
+        more = ', and more for a moment' if given.beyond else ''
+        return f'{url.hostname} is not this machine. With --yes this {MOST_TOLD}{more}'
     return None

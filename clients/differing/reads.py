@@ -77,18 +77,31 @@ def latest(stage):
     reading='how far the reply is behind the end of the shard',
 )
 def behind(stage):
-    first = stage.put('m')['SequenceNumber']
-    time.sleep(1)
-    stage.put('m')
-    time.sleep(3)
-    given = stage.read(stage.from_number(first), 1, 1)[1]['MillisBehindLatest']
-    ages = (
-        (1, '0'),
-        (2000, 'the time between the two records'),
-        (3700, 'the age of the next record'),
-        (6000, 'the age of the record that is returned'),
+    """Each age lies between two that are measured here, so a busy machine makes them wide and not wrong."""
+    times = [time.monotonic()]
+
+    def timed(call):
+        given = call()
+        times.append(time.monotonic())
+        return given
+
+    def within(begin, end):
+        """Whether it is the time between two calls."""
+        return times[end] - times[begin + 1] - 0.3 < age < times[end + 1] - times[begin] + 0.3
+
+    first = timed(lambda: stage.put('m'))['SequenceNumber']
+    timed(lambda: time.sleep(1))
+    timed(lambda: stage.put('m'))
+    timed(lambda: time.sleep(3))
+    _, reply = timed(lambda: stage.read(stage.from_number(first), 1, 1))
+    age = reply['MillisBehindLatest'] / 1000
+    named = (
+        ('0', age == 0),
+        ('the age of the next record', within(2, 4)),
+        ('the age of the record that is returned', within(0, 4)),
+        ('the time between the two records', within(0, 2)),
     )
-    return next((name for least, name in ages if given < least), f'{given} ms')
+    return next((name for name, holds in named if holds), f'{age} seconds')
 
 
 @scene.case(
