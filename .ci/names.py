@@ -551,7 +551,7 @@ def check_counts(tally, write):
     numbers = counts()
     for page, sentence, names in CLAIMS:
         text = (ROOT / page).read_text()
-        found = re.search(sentence, text)
+        found = re.search(sentence.replace(' ', r'\s+'), text)  # a line may end anywhere
         if not found:
             tally.holds(False, f'{page}: nothing reads "{sentence}"')
             continue
