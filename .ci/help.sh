@@ -181,6 +181,7 @@ bare() { # STATUS OUTPUT ERRORS FILE WORD..
     tell $? "$*" "status $given, $(tail -n 1 "$work/out"), $(cat "$work/err")"
 }
 printf '1000 step\r\n' > "$work/schedule"
+# shellcheck disable=SC2016 # the inner shell's words
 printf '%s\n' 'mount -t tmpfs -o size=16k none "$1" && { head -c 100000 /dev/zero > "$1/much" 2> /dev/null; TMPDIR=$1 exec "${@:2}"; }' > "$work/tmpfs"
 mkdir "$work/full"
 rooms=("env TMPDIR=$work/nosuch")
@@ -210,6 +211,7 @@ before() { # STATUS OWN-LINE HINT WORD..
 }
 before 5 'write fault' 'closed or full' ./kds serve 4593 2 >&-
 [ ! -e /dev/full ] || before 5 'write fault' 'closed or full' ./kds serve 4593 2 > /dev/full
+# shellcheck disable=SC2086 # words
 [ "${#rooms[@]}" -eq 1 ] || before 5 'write fault' 'closed or full' ${rooms[1]} bash -c "./kds serve 4593 2 > $work/full/out"
 plain=()
 [ "$(id -u)" -ne 0 ] || plain=(setpriv --reuid=65534 --regid=65534 --clear-groups)
