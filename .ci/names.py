@@ -64,12 +64,14 @@ SHARED = {
 LINES = 44
 # the most words of README above what is proved
 WORDS = 1500
+# The widest line of a page's prose, tables and blocks aside. A terminal of 80 columns breaks no word of README.
+COLUMNS, COLUMNS_OF_README = 100, 80
 # the kinds of change whose files CONTRIBUTING.md lists, each in a section of its own with the search that finds them
 KINDS = ['A command', 'An entry of the journal', 'A state of a stream', 'A refusal', 'A changed refusal', 'A reply with a body',
          'A command that only reads', 'Add a kind of schedule line']
 SEARCH = re.compile(r"^    git grep -lwE '([^']+)' -- 'crates/k\*\.rt' 'crates/k\*\.antt'$", re.M)
 # words that are no name of this repository: of the toolchain, of Rust, of Kinesis and of other clients
-FOREIGN = set('''AWS_ENDPOINT_URL AWS_ENDPOINT_URL_KINESIS AWS_CBOR_DISABLE MaxRecordSizeInKiB StreamId Authorization Builder EndpointConfiguration endpointOverride endpoint_url WAITING_ON_PARENT_SHARDS LEASE_LOST ZOMBIE Do EndpointConnectionError HTTPClient https maxSockets'''.split())
+FOREIGN = set('''AWS_ENDPOINT_URL AWS_ENDPOINT_URL_KINESIS AWS_CBOR_DISABLE MaxRecordSizeInKiB StreamId Authorization Builder EndpointConfiguration endpointOverride endpoint_url WAITING_ON_PARENT_SHARDS LEASE_LOST ZOMBIE Do EndpointConnectionError HTTPClient https maxSockets Deserializer from_value'''.split())
 
 
 def defined_in(files):
@@ -135,7 +137,8 @@ def prose(text):
     """A page without its fenced and indented blocks, and without what scripts make, which is checked as it is made."""
     text = MADE.sub('', text)
     text = re.sub(r'^```.*?^```', '', text, flags=re.S | re.M)
-    return re.sub(r'^    .*$', '', text, flags=re.M)
+    # an indented line behind another line goes on with it
+    return re.sub(r'(?<=\n\n)(?:    .*\n)+', '', text)
 
 
 def is_path(name):
@@ -144,10 +147,10 @@ def is_path(name):
 
 def stands(name, page):
     """Whether a path, a place of specs, an edit or a glob is there."""
-    if '/out/' in name:
+    if '/out/' in f'/{name}':
         return True  # what is built
     if re.match(r'^(src|specs|proofs|must-fail|more-edits)/', name):
-        return any(ROOT.glob(f'crates/*/{name}'))  # of some crate
+        return any(any(ROOT.glob(f'crates/*/{name}{suffix}')) for suffix in ('', '.antt'))  # of some crate
     if '*' in name:
         return any(ROOT.glob(name))
     crate, _, rest = name.partition('/')
@@ -194,6 +197,15 @@ def check_words(tally, page):
     above = page.read_text().partition('\n## What is proved\n')[0]
     count = sum(re.search(r'\w', word) is not None for word in above.split())
     tally.holds(count <= WORDS, f'{page.relative_to(ROOT)}: {count:,} words above "What is proved", and {WORDS:,} are allowed')
+
+
+def check_columns(tally, page):
+    """Prose is wrapped, except for a word, such as a link, that is wider than the page."""
+    most = COLUMNS_OF_README if page == ROOT / 'README.md' else COLUMNS
+    for line in prose(page.read_text()).splitlines():
+        if len(line) > most and not line.lstrip().startswith('|'):
+            words = re.sub(r'`[^`]+`', 'code', line).strip().removeprefix('- ')
+            tally.holds(' ' not in words, f'{page.relative_to(ROOT)}: wrap at {most} columns: {line[:60]}')
 
 
 def check_examples(tally, page):
@@ -327,7 +339,7 @@ def check_decisions(tally, page):
     listed = [int(n) for cell in re.findall(r'^\| [A-Z][^|]*\| ([\d, ]+) \|$', text, re.M) for n in cell.split(', ')]
     numbered = [int(n) for n in re.findall(r'^(\d+)\. \*\*', text, re.M)]
     tally.holds(sorted(listed) == numbered, f'{page.relative_to(ROOT)}: by subject or by number: {sorted(set(listed) ^ set(numbered))}')
-    decided = dict(re.findall(r'^(\d+)\. (.*?)(?=^\d+\. |\Z)', text, re.S | re.M))
+    decided = {number: ' '.join(said.split()) for number, said in re.findall(r'^(\d+)\. (.*?)(?=^\d+\. |\Z)', text, re.S | re.M)}
     later = {(old, new) for old, decision in decided.items() for new in re.findall(r'\bsee (\d+)\)', decision)}
     earlier = {(old, new) for new, decision in decided.items() for said in re.findall(r'\(Goes on from ([^)]*)\.\)', decision) for old in re.findall(r'\d+', said)}
     tally.holds(later == earlier, f'{page.relative_to(ROOT)}: "(see N)" at a decision and "(Goes on from N.)" at the later one: {sorted(later ^ earlier)}')
@@ -611,6 +623,8 @@ def main():
         made(page, write, tally)
         check_names(tally, page, known)
         check_outputs(tally, page)
+        if page.name != 'crates.md':  # ./dev crates makes it
+            check_columns(tally, page)
     check_listed(tally)
     check_words(tally, ROOT / 'README.md')
     check_calling(tally, ROOT / 'docs/calling.md')
