@@ -87,7 +87,7 @@ def measured(folder, name, kind, audited):
 
 def main():
     global KDS  # the program to be checked
-    words = asked(__doc__, '.ci/growth.py [WORD]', lambda words: len(words) < 2)
+    words = asked(__doc__, '.ci/growth.py [WORD], a part of a name in .ci/growing.py', lambda words: not words or len(words) == 1 and any(words[0] in kind[0] for kind in KINDS))
     kinds = [kind for kind in KINDS if not words or words[0] in kind[0]]
     KDS = program()
     tally, unit = Tally(), 'million instructions' if COUNTED else 'seconds'

@@ -10,7 +10,7 @@ Left alone are comments, code of Rust, and lines in which no break is found, as 
 import re
 import sys
 
-from checks import ROOT
+from checks import ROOT, asked
 
 WIDTH = 120
 OPENING, CLOSING = '([{', ')]}'
@@ -130,15 +130,16 @@ def files_of(crates):
             yield from sorted(path for path in folder.rglob('*') if path.suffix in ('.rt', '.antt'))
 
 
-def main(words):
-    write = '--write' in words
-    crates = [word for word in words if word != '--write']
-    unknown = [name for name in crates if not (ROOT / 'crates' / name / 'src').is_dir()]
-    if unknown:
-        sys.exit(f'usage: .ci/wrap.py [--write] [CRATE ..]\nwrap.py: {unknown[0]} is no crate; docs/crates.md lists them')
+def is_asked(words):
+    return all((ROOT / 'crates' / name / 'src').is_dir() for name in words if name != '--write')
+
+
+def main():
+    words = asked(__doc__, '.ci/wrap.py [--write] [CRATE ..], crates as docs/crates.md lists them', is_asked)
+    write, crates = '--write' in words, [word for word in words if word != '--write']
     counts = [wrap(path, write) for path in files_of(crates)]
     print(f'{sum(one for one, _ in counts)} lines broken, {sum(other for _, other in counts)} left wider than {WIDTH}')
 
 
 if __name__ == '__main__':
-    main(sys.argv[1:])
+    sys.exit(main())

@@ -262,8 +262,15 @@ class Recorded(unittest.TestCase):
                 self.assertEqual('', lot_fault(cases, clients, RECORDER))
 
 
+class Words(argparse.ArgumentParser):
+    def error(self, message):
+        print(f'usage: {self.prog} [--seed SEED] ..; --help says more: {message}', file=sys.stderr)
+        sys.exit(2)
+
+
 def main():
-    parser = argparse.ArgumentParser(description=__doc__, formatter_class=argparse.RawDescriptionHelpFormatter)
+    parser = Words(prog='clients/recorded.py', description=__doc__, allow_abbrev=False,
+                   formatter_class=argparse.RawDescriptionHelpFormatter)
     parser.add_argument('--seed', default=SEED)
     parser.add_argument('--count', type=int, default=COUNT)
     parser.add_argument('--only', type=int, metavar='NUMBER')
