@@ -349,6 +349,16 @@ def check_decisions(tally, page):
             tally.holds(int(number) in numbered, f'{name}: there is no decision {number}')
 
 
+def check_walks(tally, page):
+    """In a table of crates and functions, each function of a row is one of a crate of this row."""
+    for table in re.findall(r'^\| Crate \| Functions \|\n\|[-|]+\|\n((?:\|.*\n)+)', page.read_text(), re.M):
+        for crates, functions in rows(table):
+            code = ''.join(path.read_text() for name in re.findall(r'`(\w+)`', crates) for path in sorted((ROOT / 'crates' / name / 'src').rglob('*.rt')))
+            for name in re.findall(r'`([\w:]+)`', functions):
+                stands = re.search(rf'\bfn {name.rsplit("::", 1)[-1]}\b', code)
+                tally.holds(stands, f'{page.relative_to(ROOT)}: {name} is no function of {crates}')
+
+
 def check_operations(tally):
     """README and docs/formats.md have each operation in a row."""
     known = set(re.findall(r'== b"(\w+)"', (ROOT / 'crates/kds_json/src/operation.rt').read_text()))
@@ -633,6 +643,7 @@ def main():
     check_members(tally)
     check_steps(tally, ROOT / 'docs' / 'workers.md')
     check_operations(tally)
+    check_walks(tally, ROOT / 'docs' / 'architecture.md')
     check_recipes(tally, ROOT / 'CONTRIBUTING.md')
     check_differences(tally)
     check_decisions(tally, ROOT / 'docs' / 'DECISIONS.md')
