@@ -1,0 +1,63 @@
+#!/usr/bin/env bash
+# Every check that needs no proof, on the quick program: the tests in Rattle as `rt try` runs them, and what .ci/run has
+# behind the gate (.ci/steps). A step that fails doesn't end it. The last lines say what was skipped, which steps failed,
+# what wasn't done, and how many checks passed and failed.
+#
+#     .ci/quick.sh     takes no words; KDS= names another program
+set -u
+cd "$(dirname "$0")/.." || exit 1
+case $* in
+    '') ;;
+    --help | -h) sed -n '/^#!/d; /^#/!q; s/^# \{0,1\}//p' .ci/quick.sh; exit ;;
+    *) echo 'usage: .ci/quick.sh; --help says more' >&2; exit 2 ;;
+esac
+
+# Each check takes the program from KDS. What this names already stays.
+KDS=${KDS:-$(help/try --name)} || exit
+export KDS
+
+# The tests of a crate in Rattle. A crate that is a program has none, and is run instead: it must print what its file `stdout` has.
+tests() { # CRATE
+    cd "crates/$1" || return
+    if [ ! -e stdout ]; then
+        rt try --test --seconds 300
+        return
+    fi
+    local words=() input=/dev/null
+    [ ! -e args ] || mapfile -t words < args
+    [ ! -e stdin ] || input=stdin
+    rt try --seconds 300 -- "${words[@]}" < "$input" > "$work/given" && cmp "$work/given" stdout
+}
+
+steps=()
+for place in crates/test_*; do
+    steps+=("tests ${place##*/}")
+done
+mapfile -t -O "${#steps[@]}" steps < <(grep -v '^#' .ci/steps)
+[ -r .ci/steps ] || exit 1
+
+work=$(mktemp -d) || exit 1
+trap 'rm -rf "$work"' EXIT
+passed=0
+failed=0
+told=()
+for at in "${!steps[@]}"; do
+    printf '== step %d of %d, %d left: %s\n' $((at + 1)) "${#steps[@]}" $((${#steps[@]} - at - 1)) "${steps[at]}"
+    # a command and its words
+    (${steps[at]}) < /dev/null 2>&1 | tee "$work/said"
+    status=${PIPESTATUS[0]}
+    # A step counts its checks in its last such line. One that has none, or that fails with none that failed, is one check.
+    good=0
+    bad=0
+    read -r good bad < <(sed -n 's/^\(.* \)\{0,1\}\([0-9]*\) passed, \([0-9]*\) failed$/\2 \3/p' "$work/said" | tail -n 1)
+    [ $((good + bad)) -gt 0 ] || [ "$status" -ne 0 ] || good=1
+    [ "$status" -eq 0 ] || [ "${bad:-0}" -gt 0 ] || bad=1
+    passed=$((passed + good))
+    failed=$((failed + bad))
+    mapfile -t -O "${#told[@]}" told < <(grep '^skipped: ' "$work/said")
+    [ "$status" -eq 0 ] || told+=("FAILED ${steps[at]}: status $status")
+done
+[ "${#told[@]}" -eq 0 ] || printf '%s\n' "${told[@]}"
+echo "not done: no proof, no wrong body, and no program but $KDS. .ci/run proves and checks the proved one"
+echo "$passed passed, $failed failed"
+[ "$failed" -eq 0 ]
