@@ -32,7 +32,7 @@ def name(shard):
 
 
 # Where the shards stand that are never split: a name, the number of shards, and the places of the hot ones.
-SHAPES = [('no cold shard', 1, [0]), ('a cold shard first', 3, [2]), ('a cold shard in the middle', 3, [0, 2]), ('cold shards last', 3, [0])]
+SHAPES = [('no cold shard', 1, [0]), ('a cold shard first', 2, [1]), ('a cold shard in the middle', 3, [0, 2]), ('a cold shard last', 2, [0])]
 
 
 def rounds(shape, count, requests=lambda at, number, closed: ()):

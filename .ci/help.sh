@@ -239,7 +239,7 @@ for words in './dev nosuch' './dev names --wirte' './dev crates --x' './dev call
     $words > "$work/out" 2>&1
     tell $(($? != 2)) "$words" "$(head -n 2 "$work/out")"
 done
-for words in 'nosuch' 'build nosuch' 'test nosuch' 'test --quick nosuch' 'falsify x' 'clients nosuch' 'check kds_rate nosuch' 'gate nosuch' 'gate kds_rate nosuch' 'bench' 'bench nosuch'; do
+for words in 'nosuch' 'build nosuch' 'test nosuch' 'test --quick nosuch' 'clients nosuch' 'check kds_rate nosuch' 'gate nosuch' 'gate kds_rate nosuch' 'bench' 'bench nosuch'; do
     # shellcheck disable=SC2086
     timeout 20 ./dev $words > "$work/out" 2> "$work/err"
     [ $? -eq 2 ] && [ ! -s "$work/out" ] && [ "$(wc -l < "$work/err")" -eq 1 ] && grep -q '^dev: ' "$work/err"
