@@ -1,4 +1,4 @@
--- Over ends whose faults don't rise the bytes decide how an audit ends.
+-- If the faults of the ends don't rise, the bytes decide how an audit ends.
 use Rattle.std.proofs.Common.{◌≡◌, ◌≤◌, ℕ, List, Option, Some, None, refl, sym, ap, inl, inr, arith}
 use Rattle.std.specs.Prelude.{◌⊎◌}
 use Rattle.std.specs.Option.{IfSome}
@@ -26,7 +26,7 @@ pub completes : (s : Status) (all held now : Option (List ℕ)) → (s ≡ statu
 completes s None held now read write t = tt
 completes s (Some bytes) held now read write t = by_bytes s bytes held now read write t
 
--- the sink failed along the lines or behind them
+-- The sink failed along the lines or behind them.
 pub rose_since : (o : Outcome) (a b c : ℕ) → a ≤ b → b ≤ c → (o ≡ outcome.Write → Rose a b) → (o ≡ outcome.Write)
     ⊎ Rose b c → Rose a c
 rose_since o a b c ab bc along (inl w) = let r : Rose a b = along w in omega arith

@@ -1,4 +1,4 @@
--- What an audit of bytes says, by what was found along their lines.
+-- What an audit of bytes says, given what was found along their lines.
 use Rattle.std.proofs.Common.{◌≡◌, ℕ, Bool, true, false, List, [], ◌∷◌, ◌++◌, refl, sym, ap, ◌∙◌}
 use Rattle.std.proofs.lemmas.List.{append-nil}
 use Rattle.kds_base.proofs.Facts.{apart}
@@ -11,9 +11,9 @@ use Rattle.kcl_audit.specs.Progress.{unsound}
 use Rattle.kcl_audit.specs.Text.{report}
 use Rattle.kcl_audit.specs.Stages.{end_by, is_bad, is_sound}
 
--- ---- a bad entry
+-- ---- A bad entry
 
--- once one was found, nothing that follows changes it
+-- Once a bad entry was found, nothing that follows changes this.
 stays : (n : ℕ) (r : Rule) (texts : List (List ℕ)) → progress_from (found n r) texts ≡ found n r
 stays n r [] = refl
 stays n r (text ∷ texts) = stays n r texts
@@ -34,7 +34,7 @@ pub unreported : (p : Progress) → is_bad p ≡ false → report p ≡ []
 unreported (found n r) h = absurd cc
 unreported _ h = refl
 
--- it decides what an audit of all bytes says
+-- A bad entry decides what an audit of all bytes says.
 pub found_in : (bytes : List ℕ) (texts rest : List (List ℕ)) (n : ℕ) (r : Rule) → (lined bytes).texts ≡ texts ++ rest
     → progress texts ≡ found n r
     → audit_of bytes ≡ unsound n r
@@ -42,9 +42,9 @@ found_in bytes texts rest n r parts is =
     ap (λ p. finish p (lined bytes).end)
     (ap (progress_from fresh) parts ∙ appended fresh texts rest ∙ ap (λ p. progress_from p rest) is ∙ stays n r rest)
 
--- ---- the end of the lines
+-- ---- The end of the lines
 
--- all lines were taken, and they end so
+-- All lines were taken, and the end of the input decides what the audit says.
 pub ended : (bytes : List ℕ) (texts rest : List (List ℕ)) (end : End) → (lined bytes).texts ≡ texts ++ rest → rest ≡ []
     → (lined bytes).end ≡ end
     → audit_of bytes ≡ finish (progress texts) end

@@ -25,14 +25,14 @@ use Rattle.kcl_audit.specs.Progress.{fresh, going, line_of, line_step, next, ove
 use Rattle.kcl_audit.specs.Text.{IsJournal, counted, entries_text, journal_of, with_feed}
 use Rattle.kcl_audit.proofs.SoundTexts.{lines_are}
 
--- ---- the first line of bytes
+-- ---- The first line of bytes
 
 cut_by : (c : Bool) (b : ℕ) (ps : List (List ℕ)) → cond c ([] ∷ ps) (onto_first b ps) ≡ [] → ⊥
 cut_by true b ps h = cc
 cut_by false b [] h = cc
 cut_by false b (q ∷ qs) h = cc
 
--- there is always a piece
+-- The bytes always have a piece.
 pieces_there : (bytes : List ℕ) → pieces bytes ≡ [] → ⊥
 pieces_there [] h = cc
 pieces_there (b ∷ bs) h = cut_by (is_feed b) b (pieces bs) h
@@ -56,16 +56,16 @@ lined_line : (used : ℕ) (text z : List ℕ) → Lacks 10 text
 lined_line used text z lacks =
     ap (lined_from used) (pieces_line text z lacks) ∙ lined_cut used text (pieces z) (pieces_there z)
 
--- ---- how an audit ends that came so far
+-- ---- How an audit ends that has come this far
 
 abbrev ends : Progress → Lined → AuditEnd
 ends p l = finish (progress_from p l.texts) l.end
 
--- so many entries are sound, or a length is too great
+-- This many entries are sound, or a length is too great.
 abbrev IsFine : ℕ → AuditEnd → Type 0
 IsFine n x = (x ≡ over) ⊎ (x ≡ sound n)
 
--- these bytes make it fine, however many came before them
+-- With these bytes the audit is fine, however many bytes came before them.
 abbrev Ends : Progress → List ℕ → ℕ → Type 0
 Ends p bytes n = (used : ℕ) → IsFine n (ends p (lined_from used (pieces bytes)))
 
@@ -82,7 +82,7 @@ past p text z n stops lacks later used =
     subst (λ l. IsFine n (ends p l)) (sym (lined_line used text z lacks)) (
     past_by (is_over (length text) more) p text (lined_from more (pieces z)) n stops (later more))
 
--- only a length that is too great leaves out both verdicts
+-- Only a length that is too great leads to neither verdict.
 finish_over : (p : Progress) (end : End) → finish p end ≡ over → end ≡ too_long
 finish_over (found n r) end h = absurd cc
 finish_over _ end h = grind (arith, h)
@@ -94,7 +94,7 @@ fine_so : (n : ℕ) (x : AuditEnd) → IsFine n x → x ≢ over → x ≡ sound
 fine_so n x (inl is) not_over = absurd (not_over is)
 fine_so n x (inr is) not_over = is
 
--- ---- the lines of a legal journal
+-- ---- The lines of a legal journal
 
 legal_before : (xs : List Line) (log : Journal) → IsLegal (with_lines xs log) → IsLegal log
 legal_before [] log legal = legal
@@ -103,7 +103,7 @@ legal_before (x ∷ xs) log legal = (legal_before xs (x ∷ log) legal).1
 good_first : (x : Line) (xs : List Line) (log : Journal) → IsLegal (with_lines (x ∷ xs) log) → IsGood log x
 good_first x xs log legal = (legal_before xs (x ∷ log) legal).0
 
--- an entry or the last line: the heading is neither
+-- The text is an entry or the last line, and so isn't the heading.
 abbrev IsTold : ℕ → List ℕ → Type 0
 IsTold v text = entry_of v text ≡ None → end_of text ≡ None → ⊥
 
@@ -111,7 +111,7 @@ is_there : {A : Type 0} (o : Option A) (x : A) → o ≡ Some x → o ≡ None �
 is_there None x is none = cc
 is_there (Some y) x is none = cc
 
--- the text of entries and of the last line
+-- The text of the entries and of the last line.
 abbrev rest_text : ℕ → List EntryLine → ℕ → List ℕ
 rest_text v es end = flat_map (λ e. with_feed (entry_spelling v e)) es ++ with_feed (end_spelling end)
 
@@ -141,7 +141,7 @@ module _ (again : (v : ℕ) (line : EntryLine) → IsEntryLine v line → entry_
       ∙ ap (after_other log count) (end_again end in_time)
       ∙ ap (λ b. after_end count (if b then Err rule.Clock else Ok tt)) (not_below (last_clock log) end order)
 
-  -- what comes first may stand for the entries so far in its own way
+  -- The progress before the lines may stand for the entries so far in its own way.
   rest_ends : (v : ℕ) (log : Journal) (count : ℕ) (es : List EntryLine) (end : ℕ) (p : Progress) → end < 2 ^ 62
       → AllByRecursion (IsEntryLine v) es
       → IsLegal (with_lines (map line_of es) log) → last_clock (with_lines (map line_of es) log) ≤ end

@@ -12,14 +12,14 @@ use Rattle.kcl_audit.specs.Audited.{TellsAudit, TellsEnd}
 use Rattle.kcl_audit.proofs.Ends.{is_bad_found}
 use Rattle.kcl_audit.proofs.Telling.{bad_tells, end_tells, memory_tells, read_tells, write_tells}
 
--- all was written, unless the sink failed or memory ran out
+-- All was written, unless the sink failed or memory ran out.
 all_of : (o : Outcome) (back : List ℕ) → (o ≡ outcome.Write → ⊥) → (o ≡ outcome.Memory → ⊥) → Unwritten o back
     → back ≡ []
 all_of outcome.Write back w m u = absurd (w refl)
 all_of outcome.Memory back w m u = absurd (m refl)
 all_of _ back w m u = u
 
--- and the lines were taken whole
+-- The lines were taken whole, unless memory ran out.
 taken_of : (o : Outcome) (v : TakerValue) (texts rest : List (List ℕ)) → (o ≡ outcome.Memory → ⊥)
     → HasTaken o (Took v) (Broke v) texts rest → Took v texts
 taken_of outcome.Memory v texts rest m t = absurd (m refl)
@@ -35,7 +35,7 @@ module _ (v : TakerValue) (bytes : List ℕ) (left start mid : Option (List ℕ)
   pub told_memory : (o : Outcome) → Reads o → TellsAudit status.Memory bytes start mid
   told_memory o t = memory_tells bytes t.texts t.rest t.front t.back start mid t.parts t.output_is t.written
 
-  -- an entry was bad
+  -- An entry was bad.
   pub told_bad : (o : Outcome) → (o ≡ outcome.Write → ⊥) → (o ≡ outcome.Memory → ⊥)
       → ((texts : List (List ℕ)) → Took v texts → true ≡ is_bad (progress texts)) → Reads o
       → TellsAudit status.Unsound bytes start mid
@@ -44,13 +44,13 @@ module _ (v : TakerValue) (bytes : List ℕ) (left start mid : Option (List ℕ)
       (all_of o t.back w m t.unwritten)
       (sym (bad t.texts (taken_of o v t.texts t.rest m t.taken)))
 
-  -- no entry was bad
+  -- No entry was bad.
   module _ (good : (texts : List (List ℕ)) → Took v texts → false ≡ is_bad (progress texts)) where
     pub told_read : Reads outcome.Read → TellsAudit status.Read bytes start mid
     told_read t = read_tells bytes t.texts t.rest t.front t.back start mid t.parts t.output_is t.written t.unwritten
         (sym (good t.texts t.taken))
 
-    -- a line is left out behind a bad entry alone
+    -- A line is left out only behind a bad entry.
     pub told_stopped : (n : ℕ) (s : Status) → Reads (outcome.Stopped n) → TellsAudit s bytes start mid
     told_stopped n s t = absurd (is_bad_found (progress t.texts) t.because.3 (good t.texts t.taken))
 

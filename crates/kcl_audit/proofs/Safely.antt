@@ -1,4 +1,4 @@
--- A sound text's journal is safe.
+-- The journal of a sound text is safe.
 use Rattle.std.proofs.Common.{◌≡◌, ℕ, List, Option, Some, None, sym, ◌∙◌}
 use Rattle.std.specs.Option.{IfSome}
 use Rattle.kds_defs.specs.Journal.{Journal}

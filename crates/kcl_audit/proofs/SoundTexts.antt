@@ -28,7 +28,7 @@ use Rattle.kcl_audit.specs.Progress.{line_of, next, progress, progress_from, sou
 use Rattle.kcl_audit.specs.Text.{IsJournal, counted, heading_text, journal_of, with_feed}
 use Rattle.kcl_audit.proofs.Fits.{tellable_fit}
 
--- ---- the lines of bytes that are whole
+-- ---- The whole lines of bytes
 
 abbrev lines_text : List (List ℕ) → List ℕ
 lines_text ts = flat_map with_feed ts
@@ -61,7 +61,7 @@ whole_from used (piece ∷ another ∷ more) h =
 pub whole_text : (bytes : List ℕ) → (lined bytes).end ≡ whole → bytes ≡ lines_text (lined bytes).texts
 whole_text bytes h = sym (join_with_byte-slice_split 10 bytes) ∙ whole_from 0 (pieces bytes) h
 
--- ---- how a sound audit ends
+-- ---- How a sound audit ends
 
 finish_so : (p : Progress) (end : End) (n : ℕ) → finish p end ≡ sound n → (p ≡ closed n) × (end ≡ whole)
 finish_so (closed count) whole n h = grind (arith, h)
@@ -76,9 +76,9 @@ closed_so : (count : ℕ) (texts : List (List ℕ)) (n : ℕ) → progress_from 
 closed_so count [] n h = let same : count ≡ n = cc in (refl, sym same)
 closed_so count (t ∷ ts) n h = absurd (found_stays (next (next count)) rule.Form ts n h)
 
--- ---- the lines of a sound audit
+-- ---- The lines of a sound audit
 
--- they are the texts of entries of a legal journal, after those of log, and of the last line
+-- The lines are the texts of entries of a legal journal, after those of `log`, and of the last line.
 record AreSound (v : ℕ) (log : Journal) (count : ℕ) (texts : List (List ℕ)) (n : ℕ) : Type 0 where
   entries : List EntryLine
   end : ℕ
@@ -172,7 +172,7 @@ module _ (reads : (v : ℕ) (text : List ℕ) (line : EntryLine) → entry_of v 
   sound_from v log count (t ∷ ts) n legal h = line_sound v log count t ts n (entry_of v t) refl legal
       (λ log' count' legal' h'. sound_from v log' count' ts n legal' h') h
 
-  -- the journal, by the version of its text
+  -- The bytes are the text of a journal in the version `v`.
   journal_by : (bytes : List ℕ) (n v : ℕ) (texts : List (List ℕ)) → IsVersion v → AreSound v [] 0 texts n
       → bytes ≡ heading_text v ++ lines_text texts
       → IsJournal bytes n

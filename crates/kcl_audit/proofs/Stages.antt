@@ -1,4 +1,4 @@
--- Where an audit stands after one more line.
+-- The stage of an audit after one more line.
 use Rattle.std.proofs.Common.{◌≡◌, ℕ, false, List, [], ◌∷◌, ◌++◌, refl, sym, ap, subst, ◌∙◌, inl, inr, Some, None}
 use Rattle.std.specs.Prelude.{Result, Ok, Err, OnErr}
 use Rattle.kds_lines.specs.Taking.{Breaks, Goes}
@@ -25,7 +25,7 @@ nothing : (s : Stage) → is_found s ≡ false → stage_report s ≡ []
 nothing (stage.Found n name) h = absurd cc
 nothing _ h = refl
 
--- ---- after an entry, and after the last line
+-- ---- After an entry, and after the last line
 
 module _ (v : ℕ) (version : IsVersion v) (log : Journal) (count : ℕ) (e : EntryLine) (a : JudgeValue) where
   pub named_by : (x : Verdict) (name : List ℕ) → Some name ≡ name_in x
@@ -38,7 +38,7 @@ module _ (v : ℕ) (version : IsVersion v) (log : Journal) (count : ℕ) (e : En
   good_by (Ok u) h st = (version, (line_of e ∷ log, (refl, st)))
   good_by (Err r) h st = absurd cc
 
--- ---- after one more line
+-- ---- After one more line
 
 module _ (old new : TakerValue) (texts : List (List ℕ)) (text : List ℕ) (before : is_found old.stage ≡ false)
     (took : Took old texts)
@@ -63,4 +63,4 @@ pub on_err : {A B : Type 0} (r : Result A B) (X : Type 0) → X → OnErr r X
 on_err (Ok x) X h = tt
 on_err (Err e) X h = h
 
--- ---- where the lines end
+-- ---- The end of the lines

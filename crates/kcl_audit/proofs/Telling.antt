@@ -1,4 +1,4 @@
--- What the end of an audit tells, by what the reading of its input tells.
+-- What the end of an audit tells, in terms of what the reading of its input tells.
 use Rattle.std.proofs.Common.{◌≡◌, ℕ, Bool, true, false, List, [], ◌∷◌, ◌++◌, Option, refl, sym, ap, ◌∙◌, subst}
 use Rattle.std.proofs.lemmas.List.{append_assoc, append-nil}
 use Rattle.std.specs.Io.KnownBytes.{Appends}
@@ -13,18 +13,18 @@ use Rattle.kcl_audit.specs.Stages.{end_by, is_bad}
 use Rattle.kcl_audit.specs.Audited.{TellsAudit, TellsEnd}
 use Rattle.kcl_audit.proofs.Ends.{bad_is, ended, found_in, sound_is, unreported, unsound_is}
 
--- ---- known bytes
+-- ---- Known bytes
 
 empty_front : (xs ys : List ℕ) → [] ≡ xs ++ ys → xs ≡ []
 empty_front [] ys h = refl
 empty_front (x ∷ xs) ys h = absurd cc
 
--- ---- along the lines
+-- ---- Along the lines
 
 module _ (bytes : List ℕ) (texts rest : List (List ℕ)) (front back : List ℕ) (held mid : Option (List ℕ))
     (parts : (lined bytes).texts ≡ texts ++ rest) (output : report (progress texts) ≡ front ++ back)
     (written : Appends held mid front) where
-  -- a front of what is said was written
+  -- A prefix of what the audit says was written.
   front_told : AppendsFront held mid (audit_text (audit_of bytes))
   front_told = either (is_bad (progress texts)) refl
     where
@@ -46,7 +46,7 @@ module _ (bytes : List ℕ) (texts rest : List (List ℕ)) (front back : List �
   pub memory_tells : TellsAudit status.Memory bytes held mid
   memory_tells = front_told
 
-  -- all was written
+  -- All was written.
   module _ (all : back ≡ []) where
     reported : report (progress texts) ≡ front
     reported = output ∙ ap (λ z. front ++ z) all ∙ append-nil front
@@ -68,7 +68,7 @@ module _ (bytes : List ℕ) (texts rest : List (List ℕ)) (front back : List �
     pub read_tells : is_bad (progress texts) ≡ false → TellsAudit status.Read bytes held mid
     read_tells h = nothing h
 
-    -- ---- where the lines end
+    -- ---- The end of the lines
 
     module _ (b : Bool) (now : Option (List ℕ)) (none : rest ≡ []) (is : (lined bytes).end ≡ end_by b) where
       said : audit_of bytes ≡ finish (progress texts) (end_by b)
@@ -78,7 +78,7 @@ module _ (bytes : List ℕ) (texts rest : List (List ℕ)) (front back : List �
           → front ++ added ≡ audit_text (audit_of bytes)
       whole_text added text = ap (λ z. z ++ added) (sym reported) ∙ text ∙ ap audit_text (sym said)
 
-      -- what is added goes behind what was written
+      -- What is added goes behind what was written.
       wrote_all : (added : List ℕ) → report (progress texts) ++ added ≡ audit_text (finish (progress texts) (end_by b))
           → Appends mid now added
           → Appends held now (audit_text (audit_of bytes))

@@ -11,9 +11,10 @@ use Rattle.kcl_audit.specs.Progress.{AuditEnd, audit_of, over, sound, unsound}
 use Rattle.kcl_audit.specs.Text.{IsJournal, audit_text, journal_of}
 use Rattle.kcl_audit.specs.Stages.{is_sound}
 
--- Of the bytes of a text, what the sink held and holds. With Done every entry is sound, with Unsound one is bad, and it
--- was written which, and why; with TooLong a length is too great. With Read nothing was written, with Write and Memory
--- a front of what an audit of these bytes says.
+-- What an audit of `bytes` that ended with this status has done. The sink held `held` before, and holds `now`. With
+-- Done every entry is sound. With Unsound one entry is bad, and it was written which one, and why. With TooLong a
+-- length is too great. With Read nothing was written, and with Write and Memory a prefix of what an audit of these
+-- bytes says.
 abbrev pub TellsAudit : Status → List ℕ → Option (List ℕ) → Option (List ℕ) → Type 0
 TellsAudit Done bytes held now = (n : ℕ) × (audit_of bytes ≡ sound n) × Appends held now (audit_text (audit_of bytes))
 TellsAudit Unsound bytes held now = (n : ℕ) × (r : Rule) × (audit_of bytes ≡ unsound n r)
@@ -24,7 +25,7 @@ TellsAudit Write bytes held now = AppendsFront held now (audit_text (audit_of by
 TellsAudit Memory bytes held now = AppendsFront held now (audit_text (audit_of bytes))
 TellsAudit _ bytes held now = ⊥
 
--- what an audit may answer
+-- An audit may end with the status.
 abbrev pub IsAuditStatus : Status → Type 0
 IsAuditStatus Done = Unit {0}
 IsAuditStatus Unsound = Unit {0}
@@ -34,29 +35,29 @@ IsAuditStatus Write = Unit {0}
 IsAuditStatus Memory = Unit {0}
 IsAuditStatus _ = ⊥
 
--- how an audit ends that says this
+-- The status for each way in which an audit ends.
 abbrev pub audit_status : AuditEnd → Status
 audit_status (sound n) = Done
 audit_status (unsound n r) = Unsound
 audit_status over = TooLong
 
--- how an audit of these bytes ends, unless memory runs out; no length is too great: Done or Unsound
+-- The status is that of an audit of the bytes, or Memory.
 abbrev pub AuditsAs : List ℕ → Status → Type 0
 AuditsAs bytes status = (status ≡ audit_status (audit_of bytes)) ⊎ (status ≡ Memory)
 
--- the bytes are the text of a legal journal and its last line, and the state that it tells is safe, at that line's
--- clock
+-- The bytes are the text of a legal journal with its last line, and the state after this journal is safe at the clock
+-- of that line.
 pub record IsSafely (bytes : List ℕ) : Type 0 where
   pub count : ℕ
   pub journal : IsJournal bytes count
   pub safe : IsSafe (journal_of journal.entries) journal.end
 
--- they are the text of no legal journal and its last line
+-- The bytes aren't the text of a legal journal with its last line.
 abbrev pub IsNoJournal : List ℕ → Type 0
 IsNoJournal bytes = (n : ℕ) → IsJournal bytes n → ⊥
 
--- Where the lines end and an audit ends so, behind what was written along them: with Done and Unsound the rest of what
--- it says was written, with Write a front of that, with Memory nothing.
+-- The lines have ended and the audit ends with `end`, after `along` was written along the lines. With Done and Unsound
+-- the rest of what the audit says was written, with Write a prefix of this rest, and with Memory nothing.
 abbrev pub TellsEnd : Status → AuditEnd → List ℕ → Option (List ℕ) → Option (List ℕ) → Type 0
 TellsEnd Done end along held now =
     (is_sound end ≡ true) × ((added : List ℕ) × (along ++ added ≡ audit_text end) × Appends held now added)

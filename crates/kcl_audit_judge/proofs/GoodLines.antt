@@ -1,4 +1,4 @@
--- What a verdict says: a line is good exactly where no rule is met.
+-- What a verdict says. A line is good exactly if it breaks no rule.
 use Rattle.std.proofs.Common.{◌≡◌, ℕ, ◌-◌, ◌≤◌, Bool, true, false, List, [], ◌∷◌, refl, ap, ◌∙◌, arith}
 use Rattle.std.specs.Prelude.{nat_lt, if◌then◌else◌, Ok, Err}
 use Rattle.std.specs.List.{AllByRecursion}
@@ -22,9 +22,9 @@ use Rattle.kcl_audit_streams.specs.Verdict.{IsFit, Verdict, gives, judged, same_
 use Rattle.kcl_audit_streams.proofs.SameEntries.{same_refl, same_so}
 use Rattle.kcl_audit_streams.proofs.StreamTold.{AreTold, past, stream_lines}
 
--- ---- what an entry tells gives the lines of entries
+-- ---- The command that an entry records gives the lines of entries
 
--- each line that a command for leases adds is that of an entry: only those of puts have a key and a payload
+-- Each line that a command on leases adds is the line of an entry, since only puts have a key and a payload.
 added_is : (log : Journal) (c by : ℕ) (cmd : Command) (line : Line) → IsAdded log c by cmd line → is_service cmd ≡ false
     → line ≡ entry_line c by line.what
 added_is log c by _ _ (Alone _ _ _ (Puts name item s named fits)) lease = absurd cc
@@ -56,7 +56,7 @@ tells log c by (entry.Marked t counter to) = of_lease log c by (command.Mark t (
 tells log c by (entry.LeaseCut key counter) = of_lease log c by (command.CutLease key counter) refl
 tells log c by what = stream_lines log c by what tt (λ e. cc)
 
--- ---- a line that meets no rule is good
+-- ---- A line that breaks no rule is good
 
 in_range : (what : Entry) → IsFit what → IsInRange what
 in_range (entry.Made s name count) h = h
@@ -99,7 +99,7 @@ pub ok_good : (log : Journal) (c by : ℕ) (what : Entry) → IsFit what → ver
     → IsGood log (entry_line c by what)
 ok_good log c by what range h = good_by log c by what (nat_lt c (last_clock log)) refl range h
 
--- ---- a good line meets no rule
+-- ---- A good line breaks no rule
 
 pub not_below : (a b : ℕ) → a ≤ b → nat_lt b a ≡ false
 not_below a b h = grind (arith, nat_tests)

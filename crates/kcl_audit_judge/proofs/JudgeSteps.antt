@@ -1,4 +1,4 @@
--- What an entry, and a clock, make of all that a judge knows.
+-- What an entry, and what a clock, makes of all that a judge knows.
 use Rattle.std.proofs.Common.{◌≡◌, ℕ, List, ◌∷◌, sym, subst, ◌∙◌}
 use Rattle.std.specs.Prelude.{is_some, true, Result, Ok, Err, IfOk, OnOk}
 use Rattle.kds_defs.proofs.Elsewhere.{of_some}
@@ -18,9 +18,9 @@ use Rattle.kcl_audit_judge.specs.Standing as judging
 use Rattle.kcl_audit_streams.specs.Verdict.{Verdict, judged}
 use Rattle.kcl_audit_judge.proofs.StreamsAfter.{shows_after, stream_told}
 
--- ---- another clock
+-- ---- Another clock
 
--- ---- an entry of a stream
+-- ---- An entry of a stream
 
 module _ (a : JudgeValue) (old new : StreamsValue) (rs : List Row) (ts : List TenureValue) (is_a : judge old rs ts ≡ a)
     (by : ℕ) (what : Entry)

@@ -44,14 +44,14 @@ use Rattle.kcl_audit_streams.specs.Verdict.{Verdict, judged, same_entry, same_or
 use Rattle.kcl_audit_streams.proofs.SameEntries.{same_refl}
 use Rattle.kcl_audit_streams.proofs.StreamTold.{then_refuse}
 
--- it is refused, or gives just this line
+-- The decision is a refusal, or gives just the line.
 abbrev pub GivesLine : Decision → Line → Type 0
 GivesLine (Refused r) line = Unit {0}
 GivesLine (Accepted lines reply) line = lines ≡ line ∷ []
 
--- ---- each command
+-- ---- Each command
 
--- the line of a command on leases that gives just one; what other commands give is left open
+-- The line of a command on leases that gives just one. What other commands give is left open.
 abbrev its_lines : Journal → ℕ → ℕ → Command → List Line → List Line
 its_lines log c by (command.MakeLease key from) lines =
     plain_line c by (entry.LeaseMade key (counting_origin log key from)) ∷ []
@@ -83,9 +83,9 @@ gives_line log c by what line is = of_decision (decide log c by what) refl
     of_decision (Refused r) e = tt
     of_decision (Accepted lines r) e = one_line log c by what lines r (accepted log c by what lines r e) ∙ is lines
 
--- ---- the judgement
+-- ---- The judgement
 
--- another entry than the one that is given
+-- The verdict on another entry than the one that the command gives.
 pub judged_other : (d : Decision) (line : Line) (what : Entry) (r : Reply) → GivesLine d line → answer_of d ≡ Ok r
     → same_entry line.what what ≡ false → Err rule.Entry ≡ judged d what
 judged_other (Refused q) line what r h is differ = absurd cc
@@ -93,7 +93,7 @@ judged_other (Accepted lines reply) line what r h is differ =
     let one : judged (Accepted (line ∷ []) reply) what ≡ Err rule.Entry = rw differ refl in
     sym (ap (λ (ls : List Line). judged (Accepted ls reply) what) h ∙ one)
 
--- a command that is refused
+-- The verdict on an entry whose command is refused.
 pub judged_refused : (d : Decision) (what : Entry) (r : Refusal) → Err r ≡ answer_of d → Err (rule.By r) ≡ judged d what
 judged_refused (Refused q) what r is = let same : r ≡ q = cc in ap (λ (x : Refusal). Err (rule.By x)) same
 judged_refused (Accepted lines reply) what r is = absurd cc
@@ -113,7 +113,7 @@ after_line (Refused r) line new log h st = (tt, st)
 after_line (Accepted lines reply) line new log h st =
     (subst (λ (ls : List Line). Stands new (with_lines ls log)) h st, tt)
 
--- a command that was answered so, of an entry that tells all that it gives
+-- The verdict on an entry that states all that its command gives, and what stands after it.
 pub leads_entry : (old new : LeasesValue) (by : ℕ) (what : Command) (answer : Result Reply Refusal) (line : Line)
     (log : Journal) → Leads old new by what answer
     → GivesLine (decide log old.shards.clock by what) line → Stands old log
@@ -127,7 +127,7 @@ leads_entry old new by what answer line log leads h st =
           (after_line d line new log h l.1),
     )
 
--- ---- each entry that tells all that its command gives
+-- ---- Each entry that states all that its command gives
 
 entry_by : (old new : LeasesValue) (by : ℕ) (cmd : Command) (answer : Result Reply Refusal) (e : Entry) (v : Verdict)
     (log : Journal) → v ≡ answer_verdict answer → Leads old new by cmd answer → Stands old log
@@ -141,7 +141,7 @@ entry_by old new by cmd answer e v log is leads st tells gives =
 
 module _ (old new : LeasesValue) (by : ℕ) (answer : Result Reply Refusal) (v : Verdict) (is : v ≡ answer_verdict answer)
     (log : Journal) (st : Stands old log) where
-  -- by its command, which gives the entry's line
+  -- The entry is judged by its command, which gives the entry's line.
   given_by : (cmd : Command) (e : Entry) → Leads old new by cmd answer
       → told log (entry_line old.shards.clock by e) e ≡ decide log old.shards.clock by cmd
       → ((lines : List Line) → its_lines log old.shards.clock by cmd lines ≡ entry_line old.shards.clock by e ∷ [])
@@ -180,7 +180,7 @@ module _ (old new : LeasesValue) (by : ℕ) (answer : Result Reply Refusal) (v :
       → Judges old new by (entry.LeaseCut key n) v log
   cut_entry key n leads = given_by (command.CutLease key n) (entry.LeaseCut key n) leads refl (λ ls. refl)
 
--- ---- a making, whose origin is to be the one that counts
+-- ---- A making, whose origin must be the one that counts
 
 same_lease : (key : ShardRef) (a b : Origin) → same_entry (entry.LeaseMade key a) (entry.LeaseMade key b)
     ≡ same_origin a b
@@ -195,7 +195,7 @@ module _ (s : Facing) (rs : List Row) (ts : List TenureValue) (by : ℕ) (key : 
   made_by = then_refuse _ _ _ _ _
       (then_refuse _ _ _ _ _ (ap agrees (same_lease key (counting_origin log key from) from)))
 
-  -- its shard isn't listed
+  -- The shard of the key isn't listed.
   pub made_gone : is_listed_key log s.clock key ≡ false
       → Judges (leases s rs ts) (leases s rs ts) by (entry.LeaseMade key from) (Err (rule.By refusal.ShardGone)) log
   made_gone gone = (
@@ -204,7 +204,7 @@ module _ (s : Facing) (rs : List Row) (ts : List TenureValue) (by : ℕ) (key : 
     (tt, st),
   )
 
-  -- it has a row
+  -- The key has a row.
   pub made_there : is_listed_key log s.clock key ≡ true → is_some (row_of rs key) ≡ true
       → Judges (leases s rs ts) (leases s rs ts) by (entry.LeaseMade key from) (Err (rule.By refusal.LeaseThere)) log
   made_there listed there =
@@ -213,7 +213,7 @@ module _ (s : Facing) (rs : List Row) (ts : List TenureValue) (by : ℕ) (key : 
         (tt, st),
       )
 
-  -- another origin counts
+  -- Another origin counts.
   pub made_other : is_listed_key log s.clock key ≡ true → is_some (row_of rs key) ≡ false
       → same_origin (counting_origin log key from) from ≡ false
       → Judges (leases s rs ts) (leases s rs ts) by (entry.LeaseMade key from) (Err rule.Entry) log
@@ -221,7 +221,7 @@ module _ (s : Facing) (rs : List Row) (ts : List TenureValue) (by : ℕ) (key : 
       let has : is_some (row log key) ≡ false = ap is_some (st.row_is key) ∙ none in
       (sym (made_by ∙ (λ i. lease_verdict (listed i) (has i) (other i))), (tt, st))
 
-  -- the origin that counts, by the rows that are kept
+  -- The origin that counts, in terms of the rows that the judge keeps.
   reaches_is : (o : Option ℕ) → is_live log key.stream ≡ true
       → parent_reaches log rs key.stream o ≡ parent_reaches_end log key.stream o
   reaches_is None live = refl
@@ -238,7 +238,7 @@ module _ (s : Facing) (rs : List Row) (ts : List TenureValue) (by : ℕ) (key : 
       ∙ ap (λ o. if parent_reaches_end log key.stream (parent_of o)
       || parent_reaches_end log key.stream (adjacent_of o) then origin.TrimHorizon else from) (sym of.at)
 
--- ---- a taking, whose tenure is to be the next
+-- ---- A take, whose tenure must be the next
 
 module _ (s : Facing) (rs : List Row) (ts : List TenureValue) (by : ℕ) (key : ShardRef) (t n owner : ℕ) (some : 1 ≤ n)
     (log : Journal) (st : Stands (leases s rs ts) log) where

@@ -1,4 +1,4 @@
--- The live streams of a journal, by the list that a judge keeps.
+-- The live streams of a journal, in terms of the list that a judge keeps.
 use Rattle.std.proofs.Common.{◌≡◌, ℕ, ◌+◌, Bool, List, [], ◌∷◌, length, refl, sym, ap, ◌∙◌, arith}
 use Rattle.std.specs.Prelude.{◌==◌, is_some, nat_le, nat_lt}
 use Rattle.std.specs.List.{filter, find}
@@ -17,7 +17,7 @@ use Rattle.kcl_audit_streams.specs.Verdict.{judged, same_entry}
 use Rattle.kcl_audit_streams.proofs.SameEntries.{list}
 use Rattle.kcl_audit_streams.proofs.StreamTold.{swapped, then_refuse}
 
--- the live ones of these numbers
+-- The numbers of the live streams among `count` streams from the number `n` on.
 abbrev live_from : Journal → ℕ → ℕ → List ℕ
 live_from log n count = filter (is_live log) (numbers_from n count)
 
@@ -49,14 +49,14 @@ module _ (log : Journal) (vs : List StreamValue) (sh : ShowsAll vs log) where
   pub named_are : (name : List ℕ) → is_some (stream_named log name) ≡ is_named vs name
   named_are name = ap (λ count. named_in log name (live_from log 1 count)) sh.made ∙ named_from log name 1 vs sh.streams
 
-  -- no more shards may be open
+  -- `lacks_room` for one more shard says exactly that no more shards may be open.
   pub full_is : lacks_room vs 1 ≡ nat_le OPEN_SHARDS (open_count log)
   full_is = above (open_in vs) ∙ ap (nat_le OPEN_SHARDS) (sym open_are)
     where
       above : (n : ℕ) → nat_lt OPEN_SHARDS (n + 1) ≡ nat_le OPEN_SHARDS n
       above n = grind (arith, nat_tests)
 
-  -- the making of a stream
+  -- Two makings with equal names and shard counts are the same exactly if the streams have the same number.
   same_made : (n s count : ℕ) (name : List ℕ) → same_entry (entry.Made n name count) (entry.Made s name count)
       ≡ (s == n)
   same_made n s count name = rw (list name, is_itself count, swapped n s) (grind arith)

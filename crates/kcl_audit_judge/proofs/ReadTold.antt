@@ -1,4 +1,4 @@
--- What the entry of a read tells, by what a judge keeps.
+-- What the entry of a read tells, in terms of what a judge keeps.
 use Rattle.std.proofs.Common.{◌≡◌, ℕ, ◌-◌, Bool, true, false, List, [], ◌∷◌, map, slice_set, Option, Some, None, refl}
 use Rattle.std.proofs.Common.{sym, ap, subst, ◌∙◌}
 use Rattle.std.specs.Prelude.{◌&&◌, slice_get, Ok, Err, IfSome}
@@ -64,7 +64,7 @@ module _ (w : StreamsValue) (rs : List Row) (ts : List TenureValue) (by t limit 
       ≡ (same_flag e ended && same_list ms ns)
   same_read e ms = rw (is_itself t, is_itself limit) refl
 
-  -- where it may read, this batch is what it reads
+  -- If the tenure may read, it reads this batch.
   module _ (y : Tenure) (reads : Ok y ≡ reader_answer (own_answer (tenure_at ts t) by) log w.clock position)
       (v : StreamValue) (live : live_at w.streams y.key.stream ≡ Some v)
       (ms : List ℕ) (ms_are : ms
@@ -91,7 +91,7 @@ module _ (w : StreamsValue) (rs : List Row) (ts : List TenureValue) (by t limit 
         st.shows.order)
         ∙ ap (λ ls. ends_at log w.clock y.key.stream y.key.shard (place_after position ls)) numbers_are
 
-    -- the line that is given
+    -- The line that the command gives.
     pub gives_line : (r : Reply)
         × (decide log w.clock by (command.Read t position limit)
         ≡ Accepted (plain_line w.clock by (entry.Read t limit e ms) ∷ []) r)
@@ -112,13 +112,13 @@ module _ (w : StreamsValue) (rs : List Row) (ts : List TenureValue) (by t limit 
         ap (λ d. judged d (entry.Read t limit ended ns)) (tells ∙ gives_line.1)
         ∙ ap agrees (same_read e ms)
 
-    -- another end, or other numbers
+    -- The entry has another end, or other numbers.
     pub read_other : (same_flag e ended && same_list ms ns) ≡ false
         → Judges (leases (facing w.clock (Shows w)) rs ts) (leases (facing w.clock (Shows w)) rs ts) by
         (entry.Read t limit ended ns) (Err rule.Entry) log
     read_other differs = (sym (read_verdict ∙ ap agrees differs), (tt, st))
 
-    -- just these
+    -- The entry has just this end and these numbers.
     pub read_entry : (new : List TenureValue) (n : ℕ) → KeepsShards w.clock (Shows w) → n ≡ place_after position ms
         → IfSome (tenure_at ts t) (λ x. new ≡ slice_set ts (t - 1) (with_read n e x))
         → same_flag e ended ≡ true → same_list ms ns ≡ true

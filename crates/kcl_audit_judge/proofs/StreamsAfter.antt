@@ -1,4 +1,4 @@
--- The verdict of each entry of a stream, by what a judge keeps, and the streams after a good one.
+-- The verdict on each entry of a stream, in terms of what a judge keeps, and the streams after a good entry.
 use Rattle.std.proofs.Common.{◌≡◌, ◌≢◌, ℕ, zero, suc, ◌+◌, ◌-◌, ◌<◌, ◌≤◌, Bool, true, false, List, [], ◌∷◌, ◌++◌}
 use Rattle.std.proofs.Common.{length, slice_get}
 use Rattle.std.proofs.Common.{Option, Some, None, refl, sym, ap, subst, ◌∙◌, arith}
@@ -27,9 +27,9 @@ use Rattle.kcl_audit_streams.proofs.StreamSteps.{IsLater, made_kept, made_step, 
 use Rattle.kcl_audit_streams.proofs.StreamTold.{gone_told, live_told}
 use Rattle.kcl_audit_judge.proofs.LiveStreams.{full_is, made_told}
 
--- ---- the verdict
+-- ---- The verdict
 
--- an entry of a stream that may be live
+-- The verdict on an entry of a stream that may be live.
 later_told : (w : StreamsValue) (log : Journal) (by : ℕ) (what : Entry) → Shows w log → IsLater what → (o : Option ℕ)
     → stream_of what ≡ o → o ≢ None
     → judged (told log (entry_line w.clock by what) what) what
@@ -56,7 +56,7 @@ pub stream_told : (w : StreamsValue) (log : Journal) (by : ℕ) (what : Entry) �
 stream_told w log by (entry.Made s name count) sh of = made_told log w.streams sh.all w.clock by s count name
 stream_told w log by what sh of = later_told w log by what sh tt (stream_of what) refl of
 
--- ---- the list of the streams
+-- ---- The list of the streams
 
 length-changed : (i : ℕ) (g : StreamValue → StreamValue) (vs : List StreamValue)
     → length (changed_at i g vs) ≡ length vs
@@ -66,14 +66,14 @@ length-changed (suc i) g (v ∷ vs) = ap suc (length-changed i g vs)
 
 module _ (log : Journal) (line : Line) (s : ℕ) (order : last_clock log ≤ line.clock) (of : stream_of line.what
     ≡ Some s) where
-  -- the streams above it
+  -- The streams with greater numbers are as they were.
   above : (n : ℕ) (vs : List StreamValue) → s < n → AreStreams log n vs → AreStreams (line ∷ log) n vs
   above n [] lt h = tt
   above n (v ∷ vs) lt h =
       let apart : s ≢ n = λ e. omega arith in
       (stream_other log line n v order (of_other line.what s n of apart) h.0, above (n + 1) vs (omega arith) h.1)
 
-  -- it is changed at its place
+  -- The stream is changed at its index.
   changed_streams : (n i : ℕ) (vs : List StreamValue) (v : StreamValue) (g : StreamValue → StreamValue) → s ≡ n + i
       → slice_get vs i ≡ Some v
       → IsStream (line ∷ log) s (g v) → AreStreams log n vs
@@ -94,7 +94,7 @@ module _ (log : Journal) (line : Line) (s : ℕ) (order : last_clock log ≤ lin
         changed_streams (n + 1) i vs v g on is next h.1,
       )
 
-  -- a new one comes last
+  -- A new stream comes last.
   last_stream : (n : ℕ) (vs : List StreamValue) (v : StreamValue) → s ≡ n + length vs → IsStream (line ∷ log) s v
       → AreStreams log n vs
       → AreStreams (line ∷ log) n (vs ++ v ∷ [])
@@ -105,7 +105,7 @@ module _ (log : Journal) (line : Line) (s : ℕ) (order : last_clock log ≤ lin
       let on : s ≡ n + 1 + length vs = omega arith in
       (stream_other log line n u order (of_other line.what s n of apart) h.0, last_stream (n + 1) vs v on next h.1)
 
-  -- ---- all that is shown
+  -- ---- All that is shown
 
   pub shows_changed : (vs : List StreamValue) (f : StreamValue → Verdict) (g : StreamValue
       → StreamValue) (o : IsOf vs s f)
@@ -145,7 +145,7 @@ module _ (log : Journal) (line : Line) (s : ℕ) (order : last_clock log ≤ lin
             fresh_other log line 0 sh.none (of_other line.what s 0 of apart));
       }
 
--- ---- each good entry
+-- ---- Each good entry
 
 its_stream : (vs : List StreamValue) (log : Journal) (s : ℕ) (f : StreamValue → Verdict) (o : IsOf vs s f)
     → ShowsAll vs log → IsStream log s o.value
@@ -177,7 +177,7 @@ all_after vs log d by (entry.Made s name count) sh order of good =
     (made_step log d by s count name (sh.others s beyond))
 all_after vs log d by what sh order of good = all_later vs log d by what sh order tt (stream_of what) refl of good
 
--- and the clock
+-- The streams and the clock after a good entry show the journal with its line.
 pub shows_after : (old new : StreamsValue) (log : Journal) (by : ℕ) (what : Entry) → Shows old log
     → stream_of what ≢ None
     → stream_verdict old.streams old.clock what ≡ Ok tt

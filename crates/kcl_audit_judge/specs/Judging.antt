@@ -1,4 +1,4 @@
--- What is judged of an entry of a lease.
+-- How an entry of a lease is judged.
 use Rattle.std.specs.Prelude.{ℕ, Bool, not, if◌then◌else◌, Option, Some, None, Result, Ok, Err}
 use Rattle.kds_defs.specs.declared.reply.Refusal.{Refusal}
 use Rattle.kds_defs.specs.declared.reply.Refusal.TheVariants as refusal
@@ -7,19 +7,20 @@ use Rattle.kcl_book.specs.Tenures.{TenureValue}
 use Rattle.kcl_audit_streams.specs.Verdict.{Verdict}
 use Rattle.kcl_audit_streams.specs.Judging.{agrees, refused}
 
--- an entry that tells all that its command gives, by the answer to that
+-- The verdict on an entry that states all that its command gives, from the answer to this command.
 abbrev pub answer_verdict : Result Reply Refusal → Verdict
 answer_verdict (Ok reply) = Ok tt
 answer_verdict (Err r) = refused r
 
--- where a tenure reads on, if it is there
+-- The position where a tenure reads on, if there is a tenure.
 abbrev pub reach_of : Option TenureValue → ℕ
 reach_of None = 0
 reach_of (Some t) = t.reach
 
--- ---- a making of a row
+-- ---- The making of a row
 
--- whether its shard is listed, whether there is a row, and whether the origin is the one that counts
+-- The verdict on the making of a row. `listed` says whether its shard is listed, `there` whether there is a row, and
+-- `counts` whether the origin is the one that counts.
 abbrev pub lease_verdict : Bool → Bool → Bool → Verdict
 lease_verdict listed there counts =
     if not listed then refused refusal.ShardGone else

@@ -1,4 +1,4 @@
--- How many streams, shards and tenures a legal journal has made, at most.
+-- How many streams, shards and tenures a legal journal has made at most.
 use Rattle.std.proofs.Common.{◌≡◌, ℕ, zero, suc, ◌+◌, ◌^◌, ◌<◌, ◌≤◌, Bool, true, false, List, [], ◌∷◌, length, refl, ap}
 use Rattle.std.proofs.Common.{arith}
 use Rattle.std.specs.Prelude.{◌==◌, slice_get, if◌then◌else◌, Option, Some, None}
@@ -29,7 +29,7 @@ use Rattle.kcl_sim_scribe.proofs.Readings.{live_below}
 pub one_more : (n : ℕ) → (n == last_number) ≡ false → n ≤ last_number → n + 1 ≤ last_number
 one_more n h le = grind (arith, nat_tests)
 
--- ---- streams and tenures
+-- ---- Streams and tenures
 
 made_by : (log : Journal) (line : Line) (e : Entry) (reply : Reply) → told log line e ≡ Accepted (line ∷ []) reply
     → made_count log ≤ last_number
@@ -60,7 +60,7 @@ pub taken_fits : (log : Journal) → IsLegal log → taken_count log ≤ last_nu
 taken_fits [] legal = omega arith
 taken_fits (line ∷ log) legal = taken_by log line line.what legal.0.reply legal.0.allowed (taken_fits log legal.1)
 
--- the number of a stream that a name finds
+-- The number of a stream that is found by a name fits into 64 bits.
 pub named_fits : (log : Journal) (name : List ℕ) (s : ℕ) → IsLegal log → stream_named log name ≡ Some s → s < 2 ^ 64
 named_fits log name s legal h =
     let made : s ≤ made_count log =
@@ -68,7 +68,7 @@ named_fits log name s legal h =
     h in
     omega (arith, made, made_fits log legal)
 
--- ---- shards
+-- ---- Shards
 
 either_fits : (b : Bool) (xs ys : List ShardState) → (b ≡ true → length xs ≤ 2 ^ 64) → length ys ≤ 2 ^ 64
     → length (if b then xs else ys) ≤ 2 ^ 64
@@ -117,7 +117,7 @@ shards_fit (line ∷ log) legal s =
     shards_by log line line.what legal.0.reply s (next_number (line ∷ log) s) legal.0.in_range legal.0.allowed
     (shards_fit log legal.1 s)
 
--- the number of a listed shard
+-- The number of a listed shard is below the number of shards.
 below_length : (sh : ℕ) (xs : List ShardState) (x : ShardState) → slice_get xs sh ≡ Some x → sh < length xs
 below_length sh [] x h = absurd cc
 below_length zero (y ∷ xs) x h = omega arith
@@ -132,7 +132,7 @@ pub listed_fits : (log : Journal) (c s sh : ℕ) → IsLegal log → is_listed l
 listed_fits log c s sh legal h =
     omega (arith, there_below log c s sh (shard_at log s sh) refl h, shards_fit log legal s)
 
--- the home of a key
+-- The number of a key's home is below the number of shards.
 home_below : (xs : List ShardState) (n k m : ℕ) → AreNumbered n xs → n + length xs ≤ m → 0 < m
     → home_among (filter is_open xs) k < m
 home_below [] n k m numbers le some = some

@@ -1,4 +1,4 @@
--- The lines of each command that is accepted after a legal journal can be told.
+-- A text can tell the lines of each command that is accepted after a legal journal.
 use Rattle.std.proofs.Common.{◌≡◌, ℕ, ◌+◌, ◌^◌, ◌<◌, ◌≤◌, Bool, true, false, List, [], ◌∷◌, length, arith}
 use Rattle.std.specs.Prelude.{Ok, Result, ◌==◌, ◌&&◌, not, if◌then◌else◌}
 use Rattle.std.specs.List.{AllByRecursion}
@@ -36,7 +36,7 @@ use Rattle.kcl_audit_streams.proofs.BatchSteps.{below, below_beginning, below_le
 use Rattle.kcl_audit_sound.proofs.Counts.{listed_fits, made_fits, named_fits, shards_fit, taken_fits}
 use Rattle.kcl_audit_sound.proofs.Streams.{AreTold, IsBy, line_told, plan_at, put_told, puts_told, steps_told}
 
--- the counter after a write, where the row's isn't the last number
+-- The counter after a write is at least 1 and fits into 64 bits, if the row's counter isn't the last number.
 next_counter : (n counter : ℕ) → not (n == counter) ≡ false → (n == last_number) ≡ false → counter < 2 ^ 64
     → (1 ≤ counter + 1) × (counter + 1 < 2 ^ 64)
 next_counter n counter same free fits = (omega arith, grind (arith, nat_tests))
@@ -55,7 +55,7 @@ origin_counts : (b : Bool) (from : Origin) → IsOrigin from → IsOrigin (if b 
 origin_counts true from is = tt
 origin_counts false from is = is
 
--- ---- the numbers of a batch
+-- ---- The numbers of a batch
 
 rise_to : (first : ℕ) (rs : List Logged) (next : ℕ) → RiseBetween first rs next → first ≤ next
 rise_to first [] next h = h
@@ -73,7 +73,7 @@ numbers_fit : (m : ℕ) (rs : List Logged) → m ≤ last_number → below m rs 
 numbers_fit m [] le h = tt
 numbers_fit m (r ∷ rs) le h = (omega (arith, le, h.0), numbers_fit m rs le h.1)
 
--- ---- each command
+-- ---- Each command
 
 module _
     (numbered : (log : Journal) (s : ℕ) → AreNumbered 0 (shards log s))
@@ -90,7 +90,7 @@ module _
       (below_left next (trim_floor log c s) place (records log s sh)
       (below_next (start_of (shard_at log s sh)) (records log s sh) next (drawn log legal s sh)))))
 
-  -- the line of a command that is told in one
+  -- A text can tell the one line of a command.
   told_one : (log : Journal) (c by : ℕ) (what : Command) (line : Line) (r : Reply) → Tells log c by what line r
       → IsLegal log → IsBy c by
       → IsLawfulCommand what → AreNumbers what → IsEntryLine VERSION (told_by line)

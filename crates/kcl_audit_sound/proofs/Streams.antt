@@ -1,4 +1,4 @@
--- The lines of puts and of scalings can be told.
+-- A text can tell the lines of puts and of scalings.
 use Rattle.std.proofs.Common.{◌≡◌, ℕ, ◌+◌, ◌-◌, ◌*◌, ◌^◌, ◌<◌, ◌≤◌, Bool, true, false, List, [], ◌∷◌, ◌++◌, length, map}
 use Rattle.std.proofs.Common.{refl, ap, arith}
 use Rattle.std.specs.Prelude.{chars, if◌then◌else◌}
@@ -28,11 +28,11 @@ use Rattle.kcl_sim_scribe.specs.Added.{told_by}
 use Rattle.kds_defs.proofs.Counted.{length_merged, length_split}
 use Rattle.kcl_audit_sound.proofs.Counts.{home_fits}
 
--- a text can tell these lines
+-- A text can tell the lines.
 abbrev pub AreTold : List Line → Type 0
 AreTold lines = AllByRecursion (λ line. IsEntryLine VERSION (told_by line)) lines
 
--- the clock and the actor of lines
+-- The clock and the actor of lines have the bits of their types.
 pub record IsBy (c by : ℕ) : Type 0 where
   pub clock : c < 2 ^ 62
   pub actor : by < 2 ^ 32
@@ -41,9 +41,9 @@ pub line_told : (c by : ℕ) (what : Entry) → IsBy c by → IsTellable VERSION
     → IsEntryLine VERSION (record { clock = c; by = by; what = what })
 line_told c by what is tellable = record { clock = is.clock; by = is.actor; what = tellable }
 
--- ---- puts
+-- ---- Puts
 
--- so many characters have at most four times as many bytes
+-- A number of characters has at most four times as many bytes.
 few_bytes : (cs : List ℕ) → length (encodes cs) ≤ 4 * length cs
 few_bytes [] = omega arith
 few_bytes (c ∷ cs) = omega (
@@ -74,7 +74,7 @@ put_told log c by s item is stream numbers few next lawful =
       (home_fits log s item.hash numbers few, (omega arith, (lawful.hash, sizes item lawful))),
     )
 
--- the line of an item that isn't held back, and the lines of it and of those that follow
+-- The line of an item that isn't held back, and the lines of this item and of those that follow.
 abbrev next_line : Journal → ℕ → ℕ → ℕ → NewItem → Line
 next_line log c by s item = put_line log c by s (next_number log s) item
 
@@ -107,9 +107,9 @@ puts_told (item ∷ items) log c by s is stream numbers few fits lawful =
     (λ next. put_told log c by s item is stream numbers few next lawful.0)
     (λ room. puts_told items (next_line log c by s item ∷ log) c by s is stream numbers few room lawful.1)
 
--- ---- scalings
+-- ---- Scalings
 
--- a split is at a key
+-- A split of a scaling is at a key.
 abbrev IsAtKey : ScaleStep → Type 0
 IsAtKey (Join b) = Unit {0}
 IsAtKey (Cut b) = b < 2 ^ 128
@@ -117,7 +117,7 @@ IsAtKey (Cut b) = b < 2 ^ 128
 abbrev step_line : Journal → ℕ → ℕ → ℕ → ScaleStep → Line
 step_line log c by s step = plain_line c by (step_entry log s step)
 
--- the shards after a merge and after a split of a scaling
+-- The number of shards after a merge of a scaling, and after a split.
 many_join : (log : Journal) (c by s b : ℕ) → length (shards (step_line log c by s (Join b) ∷ log) s)
     ≡ length (shards log s) + 1
 many_join log c by s b = rw (is_itself s) (length_merged _ _ _ _ (shards log s))
@@ -168,7 +168,7 @@ joins_at : (bs : List ℕ) (steps : List ScaleStep) → AllByRecursion IsAtKey s
 joins_at [] steps h = h
 joins_at (b ∷ bs) steps h = (tt, joins_at bs steps h)
 
--- the splits of a plan are at starts of uniform ranges
+-- The splits of a plan are at starts of uniform ranges.
 pub plan_at : (starts : List ℕ) (target : ℕ) → 1 ≤ target → target ≤ 500 → AllByRecursion IsAtKey (scale starts target)
 plan_at starts target least most =
     let wanted = uniform_starts target in

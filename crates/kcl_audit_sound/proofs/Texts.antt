@@ -24,7 +24,7 @@ use Rattle.kcl_sim_scribe.specs.Added.{history_entries, journal_text, told_by}
 use Rattle.kcl_audit_sound.specs.Bits.{HaveBits}
 use Rattle.kcl_audit_sound.proofs.Streams.{AreTold, IsBy}
 
--- ---- the lines of a history
+-- ---- The lines of a history
 
 under_max : (a b m : ℕ) → a < m → b < m → max a b < m
 under_max a b m h g = omega arith
@@ -37,7 +37,7 @@ with_told : (lines : List Line) (log : Journal) → AreTold lines → AreTold lo
 with_told [] log new old = old
 with_told (line ∷ lines) log new old = with_told lines (line ∷ log) new.1 (new.0, old)
 
--- what each command adds after a legal journal, at a clock, by an actor
+-- A text can tell what each command adds after a legal journal, at a clock, by an actor.
 abbrev pub TellsLines : Type 0
 TellsLines = (log : Journal) (c by : ℕ) (what : Command) (lines : List Line) (reply : Reply) → IsLegal log → IsBy c by
     → IsLawfulCommand what → AreNumbers what
@@ -60,7 +60,7 @@ module _ (tells : TellsLines) (reached : (h : List Turn) → IsHistory h → IsR
       lawful.0.1 bits.0.1)
       (told_journal h lawful.1 bits.1)
 
--- ---- as entries, the oldest first
+-- ---- The lines as entries, the oldest first
 
 abbrev AreLines : List EntryLine → Type 0
 AreLines es = AllByRecursion (IsEntryLine VERSION) es
@@ -75,7 +75,7 @@ oldest_first (line ∷ log) are =
     subst AreLines (sym (reverse-append (told_by line ∷ []) (map told_by log)))
     (push_line (reverse (map told_by log)) (told_by line) (oldest_first log are.1) are.0)
 
--- the journal that the entries tell is the one that the text shows
+-- The journal of the entries is the one that the text shows.
 each_shown : (log : Journal) → map line_of (map told_by log) ≡ shown_journal log
 each_shown [] = refl
 each_shown (line ∷ log) = ap (λ ls. shown_line line ∷ ls) (each_shown log)

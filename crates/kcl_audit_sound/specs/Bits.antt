@@ -1,10 +1,10 @@
--- Turns whose numbers have the bits of their types, as those of a machine have.
+-- Turns whose numbers have the bits of their types, as the turns of a machine do.
 use Rattle.std.specs.Prelude.{◌^◌, ◌<◌, List}
 use Rattle.std.specs.List.{AllByRecursion}
 use Rattle.kds_defs.specs.declared.command.Turn.{Turn}
 use Rattle.kcl_script_fields.specs.Commands.{AreNumbers}
 
--- an actor has 32 bits, and the numbers of a command on leases those of their types
+-- The turn's actor has 32 bits, and the numbers of a command on leases have the bits of their types.
 abbrev pub HasBits : Turn → Type 0
 HasBits turn = (turn.by < 2 ^ 32) × AreNumbers turn.what
 

@@ -1,4 +1,4 @@
--- The records of each shard apart: what a put does to them, and that a shard's own records answer what is asked of it.
+-- The records of each shard apart: what a put does to them. A shard's own records are enough to answer what is asked.
 use Rattle.std.proofs.Common.{◌≡◌, ℕ, zero, suc, ◌<◌, Bool, true, false, List, [], ◌∷◌, ◌++◌, length, map, refl}
 use Rattle.std.proofs.Common.{get_or, sym, ap, ◌∙◌, arith}
 use Rattle.std.specs.Prelude.{◌==◌, cond, if◌then◌else◌, slice_set}
@@ -12,7 +12,7 @@ use Rattle.kcl_audit_streams.specs.Apart.{AreApart, records_at}
 use Rattle.kcl_audit_streams.specs.Standing.{is_in, logged, puts_from, puts_in, records_in}
 use Rattle.kcl_audit_streams.proofs.RateSteps.{sized}
 
--- ---- a shard's own records
+-- ---- A shard's own records
 
 twice_one : (sh : ℕ) (x : Sized) (xs : List Sized) (b : Bool) → is_in sh x ≡ b
     → filter (is_in sh) xs ≡ filter (is_in sh) (filter (is_in sh) xs)
@@ -27,7 +27,7 @@ pub twice : (sh : ℕ) (xs : List Sized) → filter (is_in sh) xs ≡ filter (is
 twice sh [] = refl
 twice sh (x ∷ xs) = twice_one sh x xs (is_in sh x) refl (twice sh xs)
 
--- the records of a shard are those among its own
+-- The records of a shard are those among its own.
 pub records_own : (sh : ℕ) (xs own : List Sized) → own ≡ filter (is_in sh) xs → records_in own sh ≡ records_in xs sh
 records_own sh xs own is = ap (λ ys. map logged (filter (is_in sh) ys)) is ∙ ap (map logged) (sym (twice sh xs))
 
@@ -48,7 +48,7 @@ puts_of_own sh (x ∷ xs) before = puts_one sh before x xs (is_in sh x) refl (pu
 pub puts_own : (sh : ℕ) (xs own : List Sized) → own ≡ filter (is_in sh) xs → puts_in own sh ≡ puts_in xs sh
 puts_own sh xs own is = ap (λ ys. puts_in ys sh) is ∙ sym (puts_of_own sh xs [])
 
--- ---- a put
+-- ---- A put
 
 set_here : (shards : List (List Sized)) (n : ℕ) (rs : List Sized) → n < length shards
     → records_at (slice_set shards n rs) n ≡ rs
@@ -85,7 +85,7 @@ put_one shards all item sh false e apart lt =
     other_shard : (n m : ℕ) → (n == m) ≡ false → n ≡ m → ⊥
     other_shard n m e same = grind (arith, nat_tests)
 
--- a put goes behind the records of its shard
+-- A put goes behind the records of its shard.
 pub apart_put : (shards : List (List Sized)) (all : List Sized) (item : Sized) → AreApart shards all
     → item.shard < length shards
     → AreApart (slice_set shards item.shard (records_at shards item.shard ++ item ∷ [])) (all ++ item ∷ [])

@@ -1,4 +1,4 @@
--- The first record since a moment: records that arrived earlier don't count.
+-- The first record since a moment. Records that arrived earlier don't count.
 use Rattle.std.proofs.Common.{◌≡◌, ℕ, zero, suc, ◌-◌, ◌<◌, ◌≤◌, Bool, true, false, List, [], ◌∷◌, length, get_or, max}
 use Rattle.std.proofs.Common.{drop, take, refl, sym, ap, ◌∙◌, arith, ltb-true}
 use Rattle.std.specs.Prelude.{nat_le, nat_lt, cond, ◌&&◌}
@@ -10,7 +10,7 @@ use Rattle.kcl_audit_streams.specs.declared.records.Sized.{Sized}
 use Rattle.kcl_audit_streams.specs.Standing.{is_in, logged}
 use Rattle.kcl_audit_streams.proofs.BatchSteps.{left_by, left_in}
 
--- the first of what is left of these records since a moment
+-- The first of the records that are left since a moment.
 abbrev first_in : ℕ → ℕ → ℕ → ℕ → List Sized → ℕ
 first_in sh floor moment otherwise xs = first_at (left_in sh floor 0 xs) moment otherwise
 
@@ -26,7 +26,7 @@ too_early : (floor moment : ℕ) (x : Sized) → x.arrival < max floor moment �
     → nat_le moment x.arrival ≡ true → ⊥
 too_early floor moment x lt left le = grind (arith, nat_tests)
 
--- a record that arrived before the floor or the moment isn't the first one
+-- A record that arrived before the floor or the moment isn't the first one.
 past_one : (sh floor moment otherwise : ℕ) (x : Sized) (xs : List Sized) → x.arrival < max floor moment
     → first_in sh floor moment otherwise (x ∷ xs) ≡ first_in sh floor moment otherwise xs
 past_one sh floor moment otherwise x xs lt =
@@ -44,7 +44,7 @@ first_behind sh floor moment otherwise (x ∷ xs) (suc i) h =
     first_behind sh floor moment otherwise xs i (λ k d low lt. h (suc k) d (omega arith) (omega arith))
     ∙ sym (past_one sh floor moment otherwise x xs (h 0 x (omega arith) (omega arith)))
 
--- so it stands behind those that arrived before both
+-- So the first one stands behind the records that arrived before both.
 pub first_from : (sh floor moment otherwise least : ℕ) (xs : List Sized) (i : ℕ) → max floor moment ≡ least
     → IsPartitionPoint (λ (y : Sized). nat_lt y.arrival least ≡ true)
     (λ (y : Sized). nat_lt y.arrival least ≡ false) xs i

@@ -1,4 +1,4 @@
--- The numbers of a batch that grow, one record after another.
+-- The numbers of a batch, which grow one record after another.
 use Rattle.std.proofs.Common.{◌≡◌, ℕ, zero, suc, ◌+◌, ◌-◌, ◌<◌, ◌≤◌, Bool, true, List, [], ◌∷◌, ◌++◌, length, get_or}
 use Rattle.std.proofs.Common.{drop, refl, sym, ap, ◌∙◌, arith}
 use Rattle.std.specs.Prelude.{◌==◌, ◌&&◌, cond}
@@ -10,22 +10,22 @@ use Rattle.kds_defs.proofs.Batches.{beginning_one, beginning_none}
 use Rattle.kcl_audit_streams.specs.declared.records.Sized.{Sized}
 use Rattle.kcl_audit_streams.specs.Standing.{is_in, logged, records_in}
 
--- the record is one of the shard, and is left
+-- Whether the record is one of the shard, and is left.
 abbrev pub counts : ℕ → ℕ → ℕ → Sized → Bool
 counts sh floor position x = (x.shard == sh) && is_left floor position (logged x)
 
--- what is left of these records
+-- What is left of the records.
 abbrev pub left_in : ℕ → ℕ → ℕ → List Sized → List Logged
 left_in sh floor position xs = left_among floor position (records_in xs sh)
 
--- one record more
+-- What is left if there is one more record.
 pub left_by : (sh floor position : ℕ) (x : Sized) (xs : List Sized) (a b : Bool) → is_in sh x ≡ a
     → is_left floor position (logged x) ≡ b
     → left_in sh floor position (x ∷ xs)
     ≡ cond (a && b) (logged x ∷ left_in sh floor position xs) (left_in sh floor position xs)
 left_by sh floor position x xs a b e f = grind (arith, e, f)
 
--- what is left of the records from a place on
+-- What is left of the records from an index on.
 abbrev pub ahead : ℕ → ℕ → ℕ → List Sized → ℕ → List Logged
 ahead sh floor position xs i = left_in sh floor position (drop i xs)
 
@@ -39,13 +39,13 @@ ahead_more sh floor position xs i x b lt is t =
     ∙ left_by sh floor position x (drop (i + 1) xs) (is_in sh x) (is_left floor position (logged x)) refl refl
     ∙ ap (λ (c : Bool). cond c (logged x ∷ ahead sh floor position xs (i + 1)) (ahead sh floor position xs (i + 1))) t
 
--- the numbers so far, and those of the beginning of what is left, are the whole
+-- The numbers so far, followed by those of the beginning of what is left, are the whole.
 abbrev pub Grows : List ℕ → ℕ → ℕ → List Logged → List ℕ → Type 0
 Grows numbers left room rest whole = numbers ++ numbers_of (beginning left room rest) ≡ whole
 
 module _ (sh floor position : ℕ) (xs : List Sized) (i : ℕ) (x : Sized) (within : i < length xs)
     (is : x ≡ get_or xs i x) where
-  -- a record that is left, and is_le, is taken
+  -- A record that is left, and is small enough, is taken.
   pub grows_by : (numbers : List ℕ) (left room : ℕ) (whole : List ℕ) → counts sh floor position x ≡ true
       → (left ≡ 0 → ⊥) → x.bytes ≤ room
       → Grows numbers left room (ahead sh floor position xs i) whole
@@ -59,7 +59,7 @@ module _ (sh floor position : ℕ) (xs : List Sized) (i : ℕ) (x : Sized) (with
       append_assoc numbers (x.seq ∷ []) (numbers_of (beginning (left - 1) (room - x.bytes) rest))
       ∙ ap (λ taken. numbers ++ numbers_of taken) (sym one) ∙ h
 
--- at the end of the records the batch is whole
+-- At the end of the records the batch is whole.
 pub grows_all : (sh floor position : ℕ) (xs : List Sized) (i : ℕ) (numbers : List ℕ) (left room : ℕ) (whole : List ℕ)
     → length xs ≤ i
     → Grows numbers left room (ahead sh floor position xs i) whole → numbers ≡ whole
@@ -69,7 +69,7 @@ grows_all sh floor position xs i numbers left room whole le h =
     (sym (ap (λ ys. beginning left room (left_in sh floor position ys)) (drop_all i xs le)
     ∙ beginning_none left room)) ∙ h
 
--- ---- the numbers of a batch are those of records
+-- ---- The numbers of a batch are those of records
 
 abbrev pub AreBelow : ℕ → List Sized → Type 0
 AreBelow top rs = AllByRecursion (λ (r : Sized). r.seq < top) rs

@@ -1,4 +1,4 @@
--- The batch of a shard, by the records that a judge keeps.
+-- The batch of a shard, in terms of the records that a judge keeps.
 use Rattle.std.proofs.Common.{◌≡◌, ℕ, ◌≤◌, Bool, true, List, [], map, slice_get, refl, sym, ap, ◌∙◌}
 use Rattle.std.specs.Prelude.{◌&&◌, if◌then◌else◌}
 use Rattle.kds_defs.specs.declared.limits.TheConstants.{BATCH_BYTES}
@@ -17,7 +17,7 @@ use Rattle.kcl_laws.proofs.BareRecords.{beginning_bare, first_bare, left_bare, n
 use Rattle.kcl_audit_streams.specs.Judging.{position_in}
 use Rattle.kcl_audit_streams.specs.Standing.{IsStream, StreamValue, floor_in, records_in}
 
--- ---- of a live stream
+-- ---- The shard of a live stream
 
 left_is : (log : Journal) (c s sh p : ℕ) (v : StreamValue) → IsStream log s v → v.live ≡ true → last_clock log ≤ c
     → map bare (left_from log c s sh p) ≡ left_among (floor_in v c) p (records_in v.records sh)
@@ -47,7 +47,7 @@ ends_is log c s sh place v st live order =
     ∙ ap (λ (xs : List ShardState). is_closed_at (slice_get xs sh)
     && are_none (left_among (floor_in v c) place (records_in v.records sh))) st.shards_are
 
--- ---- where reading begins
+-- ---- Where reading begins
 
 pub position_is : (log : Journal) (c : ℕ) (key : ShardRef) (from : Origin) (v : StreamValue) → IsStream log key.stream v
     → v.live ≡ true → last_clock log ≤ c

@@ -1,4 +1,4 @@
--- The stream of a good entry, and the streams with it changed.
+-- The stream of a good entry, and the streams after this stream has changed.
 use Rattle.std.proofs.Common.{◌≡◌, ◌≢◌, ℕ, zero, suc, ◌-◌, ◌≤◌, Bool, true, false, List, [], ◌∷◌, slice_get, slice_set}
 use Rattle.std.proofs.Common.{slice_index_or, Option, Some, None, refl, sym, ap, ◌∙◌, arith}
 use Rattle.std.specs.Prelude.{if◌then◌else◌, Result, Ok, Err, OnOk}
@@ -12,9 +12,9 @@ use Rattle.kcl_audit_streams.specs.Judging.{split_verdict}
 use Rattle.kcl_audit_streams.specs.Standing.{StreamValue, if_live, live_at}
 use Rattle.kcl_audit_streams.specs.Verdict.{Verdict}
 
--- ---- the stream of a good entry
+-- ---- The stream of a good entry
 
--- a good entry's stream is there, and is live
+-- The stream of a good entry exists, and is live.
 pub record IsOf (vs : List StreamValue) (s : ℕ) (f : StreamValue → Verdict) : Type 0 where
   pub value : StreamValue
   pub some : 1 ≤ s
@@ -38,7 +38,7 @@ pub is_of : (vs : List StreamValue) (s : ℕ) (f : StreamValue → Verdict) → 
 is_of vs zero f good = absurd cc
 is_of vs (suc i) f good = by_place vs i f (slice_get vs i) refl good
 
--- ---- the place of it
+-- ---- The index of this stream
 
 changed_get : (vs : List StreamValue) (i : ℕ) (g : StreamValue → StreamValue) (v : StreamValue)
     → slice_get vs i ≡ Some v → slice_set vs i (g v) ≡ changed_at i g vs
@@ -53,7 +53,7 @@ module _ (vs : List StreamValue) (s : ℕ) (f : StreamValue → Verdict) (good :
     same_value = let o = is_of vs s f good in
         read ∙ get_or_from_slice_get vs (i - 1) o.value old (ap (λ n. slice_get vs (n - 1)) is ∙ o.at)
 
-    -- it is good of that stream
+    -- The entry is good for that stream.
     pub good_there : f old ≡ Ok tt
     good_there = let o = is_of vs s f good in ap f same_value ∙ o.good
 
@@ -70,7 +70,7 @@ module _ (vs : List StreamValue) (s : ℕ) (f : StreamValue → Verdict) (good :
     changed_if (Ok u) g new e = changed_there g new e
     changed_if (Err x) g new e = tt
 
--- ---- what a good entry tells of its stream
+-- ---- What a good entry tells of its stream
 
 pub agrees_so : (b : Bool) → agrees b ≡ Ok tt → b ≡ true
 agrees_so true h = refl
@@ -80,7 +80,7 @@ pub past_by : (o : Option Refusal) (next : Verdict) → refused_by o next ≡ Ok
 past_by (Some r) next h = absurd cc
 past_by None next h = (refl, h)
 
--- it has the next number, which isn't the last
+-- The entry has the next number, which isn't the last.
 abbrev pub Draws : StreamValue → ℕ → Type 0
 Draws v number = (number ≡ v.next) × (v.next ≢ last_number)
 

@@ -14,7 +14,7 @@ use Rattle.kcl_audit_streams.specs.Standing.{AreStreams, IsStream, Shows, Stream
 use Rattle.kcl_audit_streams.specs.Standing.{is_listed_in, live_at, lists, stream_at}
 use Rattle.kcl_audit_streams.proofs.StreamTold.{listed_is}
 
--- the stream at a place
+-- The stream at an index of the list.
 pub stream_get : (log : Journal) (n i : ℕ) (vs : List StreamValue) (v : StreamValue) → AreStreams log n vs
     → slice_get vs i ≡ Some v → IsStream log (n + i) v
 stream_get log n i [] v h is = absurd cc
@@ -46,7 +46,7 @@ stream_none w log (suc i) sh is = let r = get_none i w.streams is in sh.all.othe
 unmade_unlisted : (log : Journal) (c s sh : ℕ) → IsFresh log s → is_listed log c s sh ≡ false
 unmade_unlisted log c s sh un = ap (λ (xs : List ShardState). is_listed_state log c s (slice_get xs sh)) un.no_shards
 
--- a stream that is gone lists nothing
+-- A stream that is gone lists no shard.
 gone_unlisted : (w : StreamsValue) (key : ShardRef) (v : StreamValue) (b : Bool) → v.live ≡ b
     → is_listed_in (if b then Some v else None) w.clock key.shard ≡ is_listed_in (Some v) w.clock key.shard
 gone_unlisted w key v true live = refl
@@ -65,7 +65,7 @@ pub listed_key : (w : StreamsValue) (log : Journal) (key : ShardRef) → Shows w
     → lists w key ≡ is_listed_key log w.clock key
 listed_key w log key sh = listed_by w log key (stream_at w.streams key.stream) sh refl
 
--- ---- the shard of a key
+-- ---- The shard of a key
 
 abbrev pub shard_of : Option StreamValue → ℕ → Option ShardState
 shard_of None sh = None
@@ -87,7 +87,7 @@ pub shard_key : (w : StreamsValue) (log : Journal) (key : ShardRef) → Shows w 
     → shard_of (live_at w.streams key.stream) key.shard ≡ live_shard log key
 shard_key w log key sh = shard_by w log key (stream_at w.streams key.stream) sh refl
 
--- the live stream of a number is there, and is live
+-- The live stream with a number exists, and is live.
 live_by : (u v : StreamValue) (b : Bool) → u.live ≡ b → (if b then Some u else None) ≡ Some v → (Some u ≡ Some v)
     × (v.live ≡ true)
 live_by u v true is h = let same : u ≡ v = cc in (h, ap (λ (x : StreamValue). x.live) (sym same) ∙ is)

@@ -1,5 +1,5 @@
--- The numbers of the live streams: what is asked of all streams is asked of these alone, and what an entry does to
--- them.
+-- The numbers of the live streams. What is asked of all streams can be asked of the live ones alone. The lemmas also
+-- say what an entry does to the numbers.
 use Rattle.std.proofs.Common.{◌≡◌, ℕ, zero, suc, ◌+◌, ◌<◌, Bool, true, false, List, [], ◌∷◌, ◌++◌, length, slice_get}
 use Rattle.std.proofs.Common.{Option, Some, None, refl, sym, ap, ◌∙◌, arith}
 use Rattle.std.specs.Prelude.{◌==◌, ◌&&◌, ◌||◌, not, if◌then◌else◌}
@@ -14,7 +14,7 @@ use Rattle.kcl_audit_streams.specs.Judging.{changed_at, is_named, live_count, op
 use Rattle.kcl_audit_streams.specs.Living.{has_name, is_deletion, is_named_among, live_numbers, open_among, open_of}
 use Rattle.kcl_audit_streams.specs.Standing.{StreamValue, if_live, live_at, stream_at}
 
--- ---- the streams of the numbers from n on are these
+-- ---- The streams with the numbers from n on
 
 At : List StreamValue → ℕ → List StreamValue → Type 0
 At us n vs = (i : ℕ) → stream_at us (n + i) ≡ slice_get vs i
@@ -37,7 +37,7 @@ live_here : (us : List StreamValue) (n : ℕ) (v : StreamValue) (vs : List Strea
     → live_at us n ≡ Some v
 live_here us n v vs h e = ap if_live (at_head us n v vs h) ∙ (λ i. if e i then Some v else None)
 
--- ---- the names
+-- ---- The names
 
 named_by : (us : List StreamValue) (n : ℕ) (v : StreamValue) (vs : List StreamValue) (name : List ℕ) (b : Bool)
     → v.live ≡ b → At us n (v ∷ vs)
@@ -59,7 +59,7 @@ named_from us n (v ∷ vs) name h =
 pub named_live : (vs : List StreamValue) (name : List ℕ) → is_named_among vs name (live_numbers 1 vs) ≡ is_named vs name
 named_live vs name = named_from vs 1 vs name (at_all vs)
 
--- ---- the open shards
+-- ---- The open shards
 
 none_more : (n : ℕ) → n ≡ 0 + n
 none_more n = omega arith
@@ -82,7 +82,7 @@ open_from us n (v ∷ vs) h = open_by us n v vs v.live refl h (open_from us (n +
 pub open_live : (vs : List StreamValue) → open_among vs (live_numbers 1 vs) ≡ open_in vs
 open_live vs = open_from vs 1 vs (at_all vs)
 
--- ---- how many they are
+-- ---- The number of live streams
 
 count_by : (n : ℕ) (vs : List StreamValue) (b : Bool) → length (live_numbers (n + 1) vs) ≡ live_count vs
     → length (if b then n ∷ live_numbers (n + 1) vs else live_numbers (n + 1) vs) ≡ (if b then 1 else 0) + live_count vs
@@ -93,7 +93,7 @@ pub count_live : (n : ℕ) (vs : List StreamValue) → length (live_numbers n vs
 count_live n [] = refl
 count_live n (v ∷ vs) = count_by n vs v.live (count_live (n + 1) vs)
 
--- ---- a stream more
+-- ---- One more stream
 
 made_by : (n : ℕ) (us : List StreamValue) (b : Bool) (xs ys : List ℕ) (m k : ℕ) → m ≡ k → ys ≡ xs ++ m ∷ []
     → (if b then n ∷ ys else ys) ≡ (if b then n ∷ xs else xs) ++ k ∷ []
@@ -108,16 +108,16 @@ made_live n (u ∷ us) v e =
     made_by n us u.live (live_numbers (n + 1) us) (live_numbers (n + 1) (us ++ v ∷ []))
     _ _ at (made_live (n + 1) us v e)
 
--- ---- a stream changed
+-- ---- One stream changes
 
--- ... that stays live, or gone
+-- The numbers stay if the changed stream is live exactly if it was.
 pub same_live : (n p : ℕ) (g : StreamValue → StreamValue) (vs : List StreamValue)
     → ((v : StreamValue) → (g v).live ≡ v.live) → live_numbers n (changed_at p g vs) ≡ live_numbers n vs
 same_live n p g [] h = refl
 same_live n zero g (v ∷ vs) h = λ i. if h v i then n ∷ live_numbers (n + 1) vs else live_numbers (n + 1) vs
 same_live n (suc p) g (v ∷ vs) h = ap (λ (xs : List ℕ). if v.live then n ∷ xs else xs) (same_live (n + 1) p g vs h)
 
--- ... or is gone
+-- The numbers without one that is gone.
 abbrev but : ℕ → List ℕ → List ℕ
 but q ns = filter (λ n. not (n == q)) ns
 
@@ -160,7 +160,7 @@ gone_live n (suc p) q (v ∷ vs) e =
     (other_below n q (omega arith))
     (gone_live (n + 1) p q vs (omega arith))
 
--- ---- an entry
+-- ---- An entry
 
 stays : (clock : ℕ) (what : Entry) → is_deletion what ≡ false → (v : StreamValue)
     → (with_entry clock what v).live ≡ v.live

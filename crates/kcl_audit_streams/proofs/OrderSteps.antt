@@ -1,4 +1,4 @@
--- The order of the records: what a put does to it, and which of them stand below a position.
+-- The order of the records: what a put does to it, and which of them are below a position.
 use Rattle.std.proofs.Common.{◌≡◌, ℕ, zero, suc, ◌-◌, ◌<◌, ◌≤◌, Bool, true, false, List, [], ◌∷◌, length, get_or}
 use Rattle.std.proofs.Common.{drop, take, refl, sym, ap, ◌∙◌, arith, ltb-true}
 use Rattle.std.specs.Prelude.{nat_lt}
@@ -9,14 +9,14 @@ use Rattle.kcl_audit_streams.specs.declared.records.Sized.{Sized}
 use Rattle.kcl_audit_streams.specs.Standing.{is_in}
 use Rattle.kcl_audit_streams.proofs.BatchSteps.{left_in}
 
--- ---- positions
+-- ---- Positions
 
--- a record below the position isn't left
+-- A record below the position isn't left.
 past_one : (sh floor position : ℕ) (x : Sized) (xs : List Sized) (b : Bool) → is_in sh x ≡ b → x.seq < position
     → left_in sh floor position (x ∷ xs) ≡ left_in sh floor position xs
 past_one sh floor position x xs b e lt = grind (arith, nat_tests, e)
 
--- where those of so many are below the position, those behind them are all that are left
+-- If the first records are below the position, the records behind them are all that are left.
 pub left_behind : (sh floor position : ℕ) (xs : List Sized) (i : ℕ)
     → ((k : ℕ) (d : Sized) → k < i → k < length xs → (get_or xs k d).seq < position)
     → left_in sh floor position (drop i xs) ≡ left_in sh floor position xs
@@ -26,7 +26,7 @@ left_behind sh floor position (x ∷ xs) (suc i) h =
     left_behind sh floor position xs i (λ k d low lt. h (suc k) d (omega arith) (omega arith))
     ∙ sym (past_one sh floor position x xs (is_in sh x) refl (h 0 x (omega arith) (omega arith)))
 
--- so it is of the records behind those whose numbers are below the position
+-- So the records behind those whose numbers are below the position are all that are left.
 pub left_from : (sh floor position : ℕ) (xs : List Sized) (i : ℕ)
     → IsPartitionPoint (λ (y : Sized). nat_lt y.seq position ≡ true) (λ (y : Sized). nat_lt y.seq position ≡ false) xs i
     → left_in sh floor position (take (length xs - i) (drop i xs)) ≡ left_in sh floor position xs

@@ -1,4 +1,4 @@
--- A line of another stream or of a lease leaves what a judge knows of a stream.
+-- A line of another stream or of a lease leaves what a judge knows of a stream as it was.
 use Rattle.std.proofs.Common.{◌≡◌, ◌≢◌, ℕ, ◌+◌, ◌≤◌, List, [], ◌∷◌, None, Some, map, sym, ap, subst, ◌∙◌, arith}
 use Rattle.kds_defs.proofs.Elsewhere.{count_same, floor_same, fresh_other, of_no_stream, same_stream}
 use Rattle.kds_defs.specs.Journal.{Line, Journal}
@@ -26,7 +26,7 @@ stream_other log line s v order other st =
       puts_are = λ sh. same.puts_are sh ∙ st.puts_are sh;
     }
 
--- ---- all streams after a line of a lease
+-- ---- All streams after a line of a lease
 
 streams_kept : (log : Journal) (line : Line) (n : ℕ) (vs : List StreamValue) → last_clock log ≤ line.clock
     → stream_of line.what ≡ None

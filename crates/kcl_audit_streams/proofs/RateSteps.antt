@@ -9,7 +9,7 @@ use Rattle.kcl_audit_streams.specs.Standing.{is_in, puts_from, puts_in}
 abbrev pub sized : Sized → SizedPut
 sized r = record { clock = r.arrival; bytes = r.bytes }
 
--- these were the puts so far, of which so many lie in the second, with so many bytes
+-- What was taken up to an index: `count` of the puts so far are in the second, with `held` bytes.
 pub record IsTaken (sh c : ℕ) (xs : List Sized) (i count held : ℕ) : Type 0 where
   pub before : List SizedPut
   pub all : puts_from before (drop i xs) sh ≡ puts_in xs sh

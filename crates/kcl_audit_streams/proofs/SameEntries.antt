@@ -34,7 +34,7 @@ pub same_refl : (e : Entry) → same_entry e e ≡ true
 same_refl (entry.Gone s) = is_itself s
 same_refl _ = simp (is_itself, list, flag, aim, start, key_itself) refl
 
--- ---- entries that are the same
+-- ---- Entries that are the same
 
 pub list_so : (a b : List ℕ) → same_list a b ≡ true → a ≡ b
 list_so [] [] h = refl

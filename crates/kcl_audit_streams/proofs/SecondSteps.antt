@@ -1,4 +1,4 @@
--- The records of the latest second: what a put does to them, and that earlier ones count nothing there.
+-- The records of the latest second: what a put does to them. Earlier records don't count in this second.
 use Rattle.std.proofs.Common.{◌≡◌, ℕ, zero, suc, ◌+◌, ◌-◌, ◌<◌, ◌≤◌, Bool, true, false, List, [], ◌∷◌, ◌++◌, length}
 use Rattle.std.proofs.Common.{drop, take, refl, ap, ◌∙◌, arith}
 use Rattle.std.specs.Prelude.{◌/◌, ◌==◌, if◌then◌else◌}
@@ -12,7 +12,7 @@ use Rattle.kcl_audit_streams.specs.Seconds.{AreLatest}
 use Rattle.kcl_audit_streams.specs.Standing.{is_in, puts_from, puts_in}
 use Rattle.kcl_audit_streams.proofs.RateSteps.{sized}
 
--- ---- puts
+-- ---- Puts
 
 abbrev Below : ℕ → List Sized → Type 0
 Below second rs = AllByRecursion (λ (r : Sized). r.arrival / SECOND < second) rs
@@ -45,7 +45,7 @@ length_more (x ∷ rs) r = let one = length_more rs r in omega arith
 at_most : (a b c : ℕ) → a ≤ b → b ≤ c → a ≤ c
 at_most a b c x y = omega arith
 
--- a put in the latest second, or in an earlier one, leaves them the latest
+-- The latest second stays the latest after a put in it or in an earlier one.
 pub latest_same : (second start : ℕ) (rs : List Sized) (r : Sized) → AreLatest second start rs
     → r.arrival / SECOND ≤ second → AreLatest second start (rs ++ r ∷ [])
 latest_same second start rs r h le = record {
@@ -54,7 +54,7 @@ latest_same second start rs r h le = record {
   before = below_same second start rs r h.few h.before;
 }
 
--- ---- a window
+-- ---- A window
 
 window_cons : (c : ℕ) (p : SizedPut) (a b : List SizedPut) (t : Bool) → is_same_second p.clock c ≡ t
     → window c a ≡ window c b → window c (p ∷ a) ≡ window c (p ∷ b)
@@ -98,7 +98,7 @@ below_later old new (r ∷ rs) le h = (below_one (r.arrival / SECOND) old new le
     below_one : (n a b : ℕ) → a ≤ b → n < a → n < b
     below_one n a b le lt = omega arith
 
--- what is throttled by the records of the latest second is throttled by all
+-- What is throttled because of the records of the latest second is throttled because of all records.
 pub throttled_latest : (second start c sh bytes : ℕ) (rs : List Sized) → AreLatest second start rs → second ≤ c / SECOND
     → is_throttled (puts_in (take (length rs - start) (drop start rs)) sh) c bytes
     ≡ is_throttled (puts_in rs sh) c bytes

@@ -1,4 +1,4 @@
--- What a good entry makes of its stream. Of each reading only the entries that change it are named here.
+-- What a good entry makes of its stream. For each reading, only the entries that change it are named here.
 use Rattle.std.proofs.Common.{◌≡◌, ℕ, ◌+◌, ◌*◌, max, ◌≤◌, Bool, true, false, List, [], ◌∷◌, ◌++◌, Some, map, refl, sym}
 use Rattle.std.proofs.Common.{ap, ◌∙◌, arith}
 use Rattle.std.specs.Prelude.{◌==◌, if◌then◌else◌, Ok}
@@ -27,17 +27,17 @@ use Rattle.kcl_audit_streams.proofs.Changed.{merge_draws, split_draws}
 use Rattle.kcl_audit_streams.proofs.RateSteps.{sized}
 use Rattle.kcl_audit_streams.proofs.Floors.{changed_later, first_later}
 
--- an entry other than the making of a stream
+-- The entry doesn't make a stream.
 abbrev pub IsLater : Entry → Type 0
 IsLater (entry.Made s name count) = ⊥
 IsLater _ = Unit {0}
 
--- it makes no stream
+-- Such an entry leaves the number of streams as it was.
 pub made_kept : (what : Entry) (n : ℕ) → IsLater what → made_count_after what n ≡ n
 made_kept (entry.Made s name count) n later = absurd later
 made_kept _ n later = refl
 
--- the entry's stream is this one
+-- The entry's stream is this one.
 its : (a s : ℕ) → Some a ≡ Some s → (a == s) ≡ true
 its a s of = is_equal a s (same_some a s of)
 
@@ -47,7 +47,7 @@ none_drawn n = omega arith
 one_drawn : (n : ℕ) → 1 + n ≡ n + 1
 one_drawn n = omega arith
 
--- ---- a record more
+-- ---- One more record
 
 in_last : (sh : ℕ) (rs : List Sized) (r : Sized) (b : Bool) → is_in sh r ≡ b
     → records_in (rs ++ r ∷ []) sh ≡ (if b then records_in rs sh ++ logged r ∷ [] else records_in rs sh)
@@ -65,7 +65,7 @@ record_more q before x rs r same h = by (is_in q r) ∙ sym (in_last q rs r (is_
     by true = map_push bare before x ∙ ap (λ xs. xs ++ bare x ∷ []) h ∙ ap (λ y. records_in rs q ++ y ∷ []) same
     by false = h
 
--- ---- a put more
+-- ---- One more put
 
 from_last : (before : List SizedPut) (rs : List Sized) (r : Sized) (sh : ℕ)
     → puts_from before (rs ++ r ∷ []) sh
@@ -77,7 +77,7 @@ put_more : (q : ℕ) (before : List SizedPut) (rs : List Sized) (r : Sized) → 
     → (if is_in q r then sized r ∷ before else before) ≡ puts_in (rs ++ r ∷ []) q
 put_more q before rs r h = (λ i. if is_in q r then sized r ∷ h i else h i) ∙ sym (from_last [] rs r q)
 
--- ---- each reading after an entry of the stream
+-- ---- Each reading after an entry of the stream
 
 module _ (d by s : ℕ) (v : StreamValue) where
   was_step : (what : Entry) (before : Bool) → IsLater what → was_made_after what s before ≡ before
@@ -114,7 +114,7 @@ module _ (d by s : ℕ) (v : StreamValue) where
   next_step (entry.Merged a sh other n child) later of = rw (its a s of) (one_drawn v.next)
   next_step _ later of = none_drawn v.next
 
-  -- where the entry is good, the number that it draws is the next one: so its children start right after it
+  -- If the entry is good, it uses the next number, so its children start right after this number.
   shards_step : (full : Bool) (what : Entry) → IsLater what → stream_of what ≡ Some s
       → entry_verdict full d what v ≡ Ok tt
       → (start : ℕ) → start ≡ (with_entry d what v).next → shards_after (entry_line d by what) what s start v.tree
@@ -168,7 +168,7 @@ module _ (d by s : ℕ) (v : StreamValue) where
   floor_step log what later of st order c after =
       floor_same log (entry_line d by what) s c after refl ∙ st.trims c (omega arith)
 
-  -- ... and all of them
+  -- All readings after a good entry are those of the changed stream.
   pub stream_step : (log : Journal) (full : Bool) (what : Entry) → IsLater what → stream_of what ≡ Some s
       → entry_verdict full d what v ≡ Ok tt
       → last_clock log ≤ d → IsStream log s v → IsStream (entry_line d by what ∷ log) s (with_entry d what v)
@@ -191,7 +191,7 @@ module _ (d by s : ℕ) (v : StreamValue) where
         puts_are = λ q. puts_step what later of q (puts log s q) (st.puts_are q);
       }
 
--- ---- a stream that is made
+-- ---- A stream that is made
 
 pub made_step : (log : Journal) (d by s count : ℕ) (name : List ℕ) → IsFresh log s
     → IsStream (entry_line d by (entry.Made s name count) ∷ log) s (new_stream name count)

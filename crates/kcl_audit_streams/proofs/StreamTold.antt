@@ -1,4 +1,4 @@
--- What the entry of a stream tells, by what a judge keeps of it.
+-- What the entry of a stream tells, in terms of what a judge keeps of the stream.
 use Rattle.std.proofs.Common.{◌≡◌, ◌≢◌, ℕ, zero, suc, ◌+◌, ◌≤◌, Bool, true, false, List, length, slice_get, Option}
 use Rattle.std.proofs.Common.{Some, None}
 use Rattle.std.proofs.Common.{refl, sym, ap, subst, ◌∙◌, arith}
@@ -31,7 +31,7 @@ use Rattle.kcl_audit_streams.specs.Verdict.{Verdict, judged}
 use Rattle.kcl_audit_streams.proofs.SameEntries.{same_refl}
 use Rattle.kcl_audit_streams.proofs.StreamSteps.{IsLater}
 
--- ---- judgements of refusals
+-- ---- Judgements of refusals
 
 pub then_refuse : (r : Refusal) (b : Bool) (d : Decision) (what : Entry) (x : Verdict) → judged d what ≡ x
     → judged (refuse r if b else d) what ≡ (if b then refused r else x)
@@ -39,7 +39,7 @@ unfolding refuse◌if◌else◌
 then_refuse r true d what x h = refl
 then_refuse r false d what x h = h
 
--- a stream that is live, or isn't
+-- The verdict if the stream is live, and if it isn't.
 judged_in : (log : Journal) (s : ℕ) (d : Decision) (what : Entry) (live : Bool) → is_live log s ≡ live
     → judged (in_stream log s d) what ≡ (if live then judged d what else refused refusal.NoStream)
 judged_in log s d what true is = then_refuse refusal.NoStream (not (is_live log s)) d what (judged d what) refl
@@ -47,7 +47,7 @@ judged_in log s d what true is = then_refuse refusal.NoStream (not (is_live log 
 judged_in log s d what false is = then_refuse refusal.NoStream (not (is_live log s)) d what (judged d what) refl
     ∙ rw is refl
 
--- ---- the lines that a decision gives are those of entries
+-- ---- The lines that a decision gives are those of entries
 
 abbrev AreLines : ℕ → ℕ → List Line → Result Reply Refusal → Type 0
 AreLines c by lines answer = AllByRecursion (λ (l : Line). l ≡ entry_line c by l.what) lines
@@ -58,7 +58,7 @@ AreTold c by d = Leads (AreLines c by) d
 pub past : (c by : ℕ) (r : Refusal) (b : Bool) (d : Decision) → AreTold c by d → AreTold c by (refuse r if b else d)
 past c by r b d next = past_test (AreLines c by) (λ q. tt) r b d (λ e. next)
 
--- ---- a put
+-- ---- A put
 
 length-blank : (n : ℕ) → length (blank n) ≡ n
 length-blank zero = refl
@@ -73,7 +73,7 @@ put_told log clock by s sh m hash bytes key_bytes v st =
     ∙ rw (length-blank bytes, length-blank key_bytes, st.limited, st.shards_are, st.draws, st.puts_are (home_in v hash))
     (rw (is_itself s, is_itself hash, is_itself bytes, is_itself key_bytes) (grind arith))
 
--- ---- a change of the retention
+-- ---- A change of the retention
 
 never_below : (a b : ℕ) → (if not (nat_lt a b) then nat_lt a b else nat_lt b a) ≡ false
 never_below a b = grind (arith, nat_tests)
@@ -84,7 +84,7 @@ kept_told log clock by s wanted =
     then_refuse _ _ _ _ _ (ap agrees (same_refl (entry.Kept s wanted)))
     ∙ ap (λ (b : Bool). if b then refused refusal.BadRetention else Ok tt) (never_below wanted (hours log s))
 
--- ---- listed shards
+-- ---- Listed shards
 
 listed_state : (log : Journal) (c s f : ℕ) (o : Option ShardState) (live : Bool) → is_live log s ≡ live
     → trim_floor log c s ≡ f → is_listed_state log c s o ≡ (live && is_listed_of f o)
@@ -98,12 +98,12 @@ listed_is log c s sh v st order =
     ∙ ap (λ (b : Bool). b && is_listed_of (floor_in v c) (shard_at log s sh)) st.lives
     ∙ ap (λ (xs : List ShardState). v.live && is_listed_of (floor_in v c) (slice_get xs sh)) st.shards_are
 
--- a listed shard was made
+-- A listed shard was made.
 listed_made : (live : Bool) (f : ℕ) (o : Option ShardState) → (live && is_listed_of f o) ≡ true → is_some o ≡ true
 listed_made live f (Some x) h = refl
 listed_made live f None h = grind (arith, h)
 
--- ---- a split and a merge
+-- ---- A split and a merge
 
 pub swapped : (a b : ℕ) → (a == b) ≡ (b == a)
 swapped a b = grind (arith, nat_tests)
@@ -149,9 +149,9 @@ merge_told log clock by s sh other m child v st order =
       plus_none n,
     ) (grind (arith, made sh, made other)))
 
--- ---- each entry, once its stream is live
+-- ---- Each entry, once its stream is live
 
--- what comes after the test that the stream is live: the lines that it gives, and how it is judged
+-- What follows the test that the stream is live: the lines that it gives, and how it is judged.
 pub record Tells (log : Journal) (clock by : ℕ) (what : Entry) (s : ℕ) : Type 0 where
   pub rest : Decision
   pub told_is : told log (entry_line clock by what) what ≡ in_stream log s rest

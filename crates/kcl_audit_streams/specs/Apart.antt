@@ -1,10 +1,10 @@
--- The records of a stream, those of each shard apart.
+-- The records of a stream, kept apart for each shard.
 use Rattle.std.specs.Prelude.{ℕ, ◌≡◌, List, [], slice_get, Option, Some, None}
 use Rattle.std.specs.List.{filter}
 use Rattle.kcl_audit_streams.specs.declared.records.Sized.{Sized}
 use Rattle.kcl_audit_streams.specs.Standing.{is_in}
 
--- the records at an index, or none behind the end
+-- The records at an index, or none if the index is too great.
 abbrev pub records_or_none : Option (List Sized) → List Sized
 records_or_none None = []
 records_or_none (Some rs) = rs
@@ -12,6 +12,6 @@ records_or_none (Some rs) = rs
 abbrev pub records_at : List (List Sized) → ℕ → List Sized
 records_at shards sh = records_or_none (slice_get shards sh)
 
--- at the index of each shard stand its records among all
+-- At the index of each shard, there are its records among `all`.
 abbrev pub AreApart : List (List Sized) → List Sized → Type 0
 AreApart shards all = (sh : ℕ) → records_at shards sh ≡ filter (is_in sh) all

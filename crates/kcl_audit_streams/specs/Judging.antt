@@ -1,4 +1,4 @@
--- What is judged of an entry of a stream, and kept of a good one, by what is known of the streams.
+-- How an entry of a stream is judged, and what is kept of a good one, given what is known of the streams.
 use Rattle.std.specs.Prelude.{ℕ, zero, suc, ◌+◌, ◌-◌, ◌*◌, max, Bool, true, false, ◌==◌, ◌&&◌, ◌||◌, not, nat_le}
 use Rattle.std.specs.Prelude.{nat_lt, if◌then◌else◌, List, [], ◌∷◌, ◌++◌, length, slice_get, Option, Some, None, Ok}
 use Rattle.std.specs.Prelude.{Err}
@@ -23,11 +23,11 @@ use Rattle.kcl_audit_streams.specs.declared.rule.Rule.TheVariants as rule
 use Rattle.kcl_audit_streams.specs.Standing.{StreamValue, floor_in, is_listed_in, live_at, puts_in, records_in}
 use Rattle.kcl_audit_streams.specs.Verdict.{Verdict}
 
--- refused with this
+-- The verdict that the entry's command is refused with `r`.
 abbrev pub refused : Refusal → Verdict
 refused r = Err (rule.By r)
 
--- the entry is the one that its command gives
+-- The verdict on an entry whose command is accepted. `same` says whether the entry is the one that this command gives.
 abbrev pub agrees : Bool → Verdict
 agrees same = if same then Ok tt else Err rule.Entry
 
@@ -35,13 +35,13 @@ abbrev pub refused_by : Option Refusal → Verdict → Verdict
 refused_by (Some r) next = refused r
 refused_by None next = next
 
--- ---- one stream, which is live
+-- ---- One stream, which is live
 
--- the open shard that covers a hash
+-- The number of the open shard that covers a hash key.
 abbrev pub home_in : StreamValue → ℕ → ℕ
 home_in v hash = home_among (filter is_open v.tree) hash
 
--- a put of so many bytes at a clock
+-- The verdict on a put of `bytes` bytes at the clock `clock`.
 abbrev pub put_verdict : StreamValue → ℕ → ℕ → ℕ → ℕ → ℕ → Verdict
 put_verdict v clock sh number hash bytes =
     if v.enforced && is_throttled (puts_in v.records (home_in v hash)) clock bytes then refused
@@ -49,7 +49,7 @@ put_verdict v clock sh number hash bytes =
     if v.next == last_number then refused refusal.Spent else
     agrees ((home_in v hash == sh) && (v.next == number))
 
--- its numbers, or those of its shards, are used up
+-- The stream has no sequence number left, or too few numbers for `more` further shards.
 abbrev pub is_spent : StreamValue → ℕ → Bool
 is_spent v more = nat_lt last_number (length v.tree + more) || v.next == last_number
 
@@ -68,22 +68,22 @@ merge_verdict v clock sh other number child =
     if is_spent v 0 then refused refusal.Spent else
     agrees ((number == v.next) && (child == length v.tree)))
 
--- what is left at a clock of a shard from a position on
+-- The records of the shard `sh` from `position` on that are left at the clock `clock`.
 abbrev pub left_in : StreamValue → ℕ → ℕ → ℕ → List Logged
 left_in v clock sh position = left_among (floor_in v clock) position (records_in v.records sh)
 
--- the shard is closed, and nothing of it is left after a batch of these numbers
+-- The shard `sh` is closed, and no record of it is left after a batch of the numbers `numbers`.
 abbrev pub is_end_in : StreamValue → ℕ → ℕ → ℕ → List ℕ → Bool
 is_end_in v clock sh position numbers =
     is_closed_at (slice_get v.tree sh) && are_none (left_in v clock sh (place_after position numbers))
 
--- the position where reading of a shard begins from an origin at a clock
+-- The position where reading of the shard `sh` begins from an origin at the clock `clock`.
 abbrev pub position_in : StreamValue → ℕ → ℕ → Origin → ℕ
 position_in v clock sh origin.TrimHorizon = 0
 position_in v clock sh origin.Latest = v.next
 position_in v clock sh (origin.Time moment) = first_at (left_in v clock sh 0) moment v.next
 
--- ---- all streams
+-- ---- All streams
 
 abbrev pub is_named : List StreamValue → List ℕ → Bool
 is_named [] name = false
@@ -97,11 +97,11 @@ abbrev pub open_in : List StreamValue → ℕ
 open_in [] = 0
 open_in (v ∷ vs) = (if v.live then length (filter is_open v.tree) else 0) + open_in vs
 
--- with so many shards more than may be open are
+-- With `more` further shards, more shards would be open than may be.
 abbrev pub lacks_room : List StreamValue → ℕ → Bool
 lacks_room vs more = nat_lt OPEN_SHARDS (open_in vs + more)
 
--- why a stream of this name can't be made, if it can't
+-- The reason why a stream of the name `name` can't be made, if there is one.
 abbrev pub made_refusal : List StreamValue → List ℕ → ℕ → Option Refusal
 made_refusal vs name count =
     if is_named vs name then Some refusal.StreamThere else
@@ -116,7 +116,8 @@ abbrev pub in_live : Option StreamValue → (StreamValue → Verdict) → Verdic
 in_live None next = refused refusal.NoStream
 in_live (Some v) next = next v
 
--- an entry, other than a making, of a live stream at a clock, where `full` tells that no more shards may be open
+-- The verdict on an entry of a live stream at the clock `clock`, if the entry doesn't make the stream. `full` says
+-- whether no more shards may be open.
 abbrev pub entry_verdict : Bool → ℕ → Entry → StreamValue → Verdict
 entry_verdict full clock (entry.Put s sh number hash bytes key_bytes) =
     λ v. put_verdict v clock sh number hash (bytes + key_bytes)
@@ -124,17 +125,17 @@ entry_verdict full clock (entry.Split s sh at number low high) = λ v. split_ver
 entry_verdict full clock (entry.Merged s sh other number child) = λ v. merge_verdict v clock sh other number child
 entry_verdict full clock _ = λ v. Ok tt
 
--- where an entry is of a stream, that is to be live
+-- If the entry is of a stream, this stream must be live.
 abbrev pub in_its : List StreamValue → Option ℕ → (StreamValue → Verdict) → Verdict
 in_its vs None next = Ok tt
 in_its vs (Some s) next = in_live (live_at vs s) next
 
--- an entry of a stream at a clock
+-- The verdict on an entry of a stream at the clock `clock`.
 abbrev pub stream_verdict : List StreamValue → ℕ → Entry → Verdict
 stream_verdict vs clock (entry.Made s name count) = made_verdict vs s name count
 stream_verdict vs clock what = in_its vs (stream_of what) (entry_verdict (lacks_room vs 1) clock what)
 
--- ---- what is kept of a good entry
+-- ---- What is kept of a good entry
 
 abbrev pub new_stream : List ℕ → ℕ → StreamValue
 new_stream name count = record {
@@ -164,7 +165,7 @@ with_merge clock sh other number v = record v {
   tree = merged_shards sh other (record { number = number; clock = clock }) (number + 1) v.tree;
 }
 
--- both retentions trim
+-- Both the old and the new retention trim.
 abbrev pub with_hours : ℕ → ℕ → StreamValue → StreamValue
 with_hours clock hours v = record v { hours = hours; floor = max (floor_in v clock) (floor_at clock (hours * HOUR)) }
 
@@ -174,13 +175,13 @@ with_limits on v = record v { enforced = on }
 abbrev pub with_gone : StreamValue → StreamValue
 with_gone v = record v { live = false }
 
--- the streams with the one at a place changed
+-- The streams after `f` has changed the one at an index.
 abbrev pub changed_at : ℕ → (StreamValue → StreamValue) → List StreamValue → List StreamValue
 changed_at n f [] = []
 changed_at zero f (v ∷ vs) = f v ∷ vs
 changed_at (suc n) f (v ∷ vs) = v ∷ changed_at n f vs
 
--- a stream after a good entry of it at a clock, other than its making
+-- The stream after a good entry of it at the clock `clock`, if the entry doesn't make the stream.
 abbrev pub with_entry : ℕ → Entry → StreamValue → StreamValue
 with_entry clock (entry.Gone s) = with_gone
 with_entry clock (entry.Put s sh number hash bytes key_bytes) =
@@ -191,12 +192,12 @@ with_entry clock (entry.Kept s hours) = with_hours clock hours
 with_entry clock (entry.Enforced s on) = with_limits on
 with_entry clock _ = λ v. v
 
--- the streams where the one of an entry, if it is of one, changed
+-- The streams after `f` has changed the one with the entry's number, if the entry is of one.
 abbrev pub changed_of : Option ℕ → (StreamValue → StreamValue) → List StreamValue → List StreamValue
 changed_of None f vs = vs
 changed_of (Some s) f vs = changed_at (s - 1) f vs
 
--- the streams after a good entry of one at a clock
+-- The streams after a good entry of one of them at the clock `clock`.
 abbrev pub streams_after : ℕ → Entry → List StreamValue → List StreamValue
 streams_after clock (entry.Made s name count) vs = vs ++ new_stream name count ∷ []
 streams_after clock what vs = changed_of (stream_of what) (with_entry clock what) vs

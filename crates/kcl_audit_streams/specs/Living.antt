@@ -7,7 +7,7 @@ use Rattle.kds_defs.specs.Shards.{is_open}
 use Rattle.kds_defs.specs.Streams.{same_name}
 use Rattle.kcl_audit_streams.specs.Standing.{StreamValue, live_at}
 
--- the numbers of the live ones of these, whose numbers go on from n
+-- The numbers of the live streams in a list, where the numbers of the streams go on from `n`.
 abbrev pub live_numbers : ℕ → List StreamValue → List ℕ
 live_numbers n [] = []
 live_numbers n (v ∷ vs) = if v.live then n ∷ live_numbers (n + 1) vs else live_numbers (n + 1) vs
@@ -16,7 +16,7 @@ abbrev pub has_name : Option StreamValue → List ℕ → Bool
 has_name None name = false
 has_name (Some v) name = same_name v.name name
 
--- one of the live streams of these numbers has this name
+-- A live stream with one of the numbers in the list has the name `name`.
 abbrev pub is_named_among : List StreamValue → List ℕ → List ℕ → Bool
 is_named_among vs name [] = false
 is_named_among vs name (s ∷ ss) = has_name (live_at vs s) name || is_named_among vs name ss
@@ -25,12 +25,12 @@ abbrev pub open_of : Option StreamValue → ℕ
 open_of None = 0
 open_of (Some v) = length (filter is_open v.tree)
 
--- the open shards of the live streams of these numbers
+-- The number of open shards of the live streams with the numbers in the list.
 abbrev pub open_among : List StreamValue → List ℕ → ℕ
 open_among vs [] = 0
 open_among vs (s ∷ ss) = open_of (live_at vs s) + open_among vs ss
 
--- the entry tells that a stream was deleted
+-- The entry says that a stream was deleted.
 abbrev pub is_deletion : Entry → Bool
 is_deletion (entry.Gone s) = true
 is_deletion _ = false

@@ -5,14 +5,14 @@ use Rattle.std.specs.List.Sorted.{IsNonDecreasingBy}
 use Rattle.kds_defs.specs.declared.limits.TheConstants.{SECOND}
 use Rattle.kcl_audit_streams.specs.declared.records.Sized.{Sized}
 
--- none arrived after this second, and the first ones, so many, before it
+-- No record arrived after the second `second`, and the first `start` records arrived before it.
 pub record AreLatest (second start : ℕ) (rs : List Sized) : Type 0 where
   pub few : start ≤ length rs
   pub none_after : AllByRecursion (λ (r : Sized). r.arrival / SECOND ≤ second) rs
   pub before : AllByRecursion (λ (r : Sized). r.arrival / SECOND < second) (take start rs)
 
--- what is kept of the times of these records: the latest second, how many arrived before it, and whether each arrived
--- no earlier than those before it
+-- What is kept of the times of the records is right. `AreLatest` holds, and if `rising` is true, each record arrived no
+-- earlier than those before it.
 pub record AreTimed (second start : ℕ) (rising : Bool) (rs : List Sized) : Type 0 where
   pub latest : AreLatest second start rs
   pub order : rising ≡ true → IsNonDecreasingBy (λ (r : Sized). r.arrival) rs

@@ -16,10 +16,11 @@ use Rattle.kds_defs.specs.Subjects.{IsFresh}
 use Rattle.kcl_laws.specs.Recorded.{bare}
 use Rattle.kcl_audit_streams.specs.declared.records.Sized.{Sized}
 
--- ---- one stream
+-- ---- One stream
 
--- what is kept of a stream that was made: its name, whether it is live and its limits on throughput are on, its
--- retention in hours, below what it was trimmed at changes of that, its next number, its shards, and its records
+-- What is kept of a stream that was made: its name, whether it is live and whether its limits on throughput are on, its
+-- retention in hours, the floor below which changes of the retention trimmed it, its next number, its shards, and its
+-- records.
 pub record StreamValue : Type 0 where
   pub name : List ℕ
   pub live : Bool
@@ -36,25 +37,25 @@ logged r = record { seq = r.seq; arrival = r.arrival; bytes = r.bytes; key = [];
 abbrev pub is_in : ℕ → Sized → Bool
 is_in sh r = r.shard == sh
 
--- the records of a shard
+-- The records of the shard `sh`.
 abbrev pub records_in : List Sized → ℕ → List Logged
 records_in rs sh = map logged (filter (is_in sh) rs)
 
--- these puts, the newest first, and those of a shard after them
+-- The puts `before`, the newest first, after those of the shard `sh` among the records `rs` were added.
 abbrev pub puts_from : List SizedPut → List Sized → ℕ → List SizedPut
 puts_from before [] sh = before
 puts_from before (r ∷ rs) sh =
     puts_from (if is_in sh r then record { clock = r.arrival; bytes = r.bytes } ∷ before else before) rs sh
 
--- the puts of a shard, the newest first
+-- The puts of the shard `sh`, the newest first.
 abbrev pub puts_in : List Sized → ℕ → List SizedPut
 puts_in rs sh = puts_from [] rs sh
 
--- one above the cut at a clock
+-- The trim floor at the clock `clock`, which is one above the cut.
 abbrev pub floor_in : StreamValue → ℕ → ℕ
 floor_in v clock = max v.floor (floor_at clock (v.hours * HOUR))
 
--- the stream's readings of the journal are its fields
+-- The fields of `v` are what the journal says of the stream `s`.
 pub record IsStream (log : Journal) (s : ℕ) (v : StreamValue) : Type 0 where
   pub was : was_made log s ≡ true
   pub named : name_of log s ≡ v.name
@@ -67,9 +68,9 @@ pub record IsStream (log : Journal) (s : ℕ) (v : StreamValue) : Type 0 where
   pub limited : is_enforced log s ≡ v.enforced
   pub puts_are : (sh : ℕ) → puts log s sh ≡ puts_in v.records sh
 
--- ---- all streams
+-- ---- All streams
 
--- so are the readings of these, whose numbers go on from n
+-- `IsStream` holds for each stream of the list, where the numbers of the streams go on from `n`.
 abbrev pub AreStreams : Journal → ℕ → List StreamValue → Type 0
 AreStreams log n [] = Unit {0}
 AreStreams log n (v ∷ vs) = IsStream log n v × AreStreams log (n + 1) vs
@@ -80,7 +81,7 @@ pub record ShowsAll (vs : List StreamValue) (log : Journal) : Type 0 where
   pub others : (s : ℕ) → length vs < s → IsFresh log s
   pub none : IsFresh log 0
 
--- the streams at a clock that isn't below the journal's
+-- The streams at a clock that isn't below the journal's.
 pub record StreamsValue : Type 0 where
   pub clock : ℕ
   pub streams : List StreamValue
@@ -89,9 +90,9 @@ pub record Shows (w : StreamsValue) (log : Journal) : Type 0 where
   pub all : ShowsAll w.streams log
   pub order : last_clock log ≤ w.clock
 
--- ---- listed shards
+-- ---- Listed shards
 
--- the stream of a number
+-- The stream with a number, if there is one.
 abbrev pub stream_at : List StreamValue → ℕ → Option StreamValue
 stream_at vs zero = None
 stream_at vs (suc n) = slice_get vs n
@@ -100,7 +101,7 @@ abbrev pub if_live : Option StreamValue → Option StreamValue
 if_live None = None
 if_live (Some v) = if v.live then Some v else None
 
--- the stream of a number, where it is live
+-- The stream with a number, if it is live.
 abbrev pub live_at : List StreamValue → ℕ → Option StreamValue
 live_at vs s = if_live (stream_at vs s)
 

@@ -20,7 +20,7 @@ use Rattle.kcl_audit_streams.specs.declared.rule.Rule.TheVariants as rule
 abbrev pub Verdict : Type 0
 Verdict = Result (Unit {0}) Rule
 
--- both texts, or lists of numbers, are the same
+-- Both texts, or lists of numbers, are the same.
 abbrev pub same_list : List ℕ → List ℕ → Bool
 same_list a b = pointwise nat_eq a b
 
@@ -40,7 +40,7 @@ same_origin origin.Latest origin.Latest = true
 same_origin (origin.Time m) (origin.Time n) = m == n
 same_origin _ _ = false
 
--- both entries are the same
+-- Both entries are the same.
 abbrev pub same_entry : Entry → Entry → Bool
 same_entry (entry.Made s name count) (entry.Made s' name' count') =
     (s == s') && (same_list name name' && (count == count'))
@@ -68,28 +68,28 @@ same_entry (entry.Marked t counter to) (entry.Marked t' counter' to') =
 same_entry (entry.LeaseCut key counter) (entry.LeaseCut key' counter') = same_key key key' && (counter == counter')
 same_entry _ _ = false
 
--- the lines that a command gives are this one entry
+-- The lines that a command gives are the one entry `what`.
 abbrev pub gives : List Line → Entry → Bool
 gives (line ∷ []) what = same_entry line.what what
 gives _ what = false
 
--- an entry by what the command that it tells leads to
+-- The verdict on an entry, given the decision on the command that the entry records.
 abbrev pub judged : Decision → Entry → Verdict
 judged (Refused r) what = Err (rule.By r)
 judged (Accepted lines reply) what = if gives lines what then Ok tt else Err rule.Entry
 
--- a line after the lines of a journal: its clock isn't below the last one's, the command that it tells is allowed
--- there, and it gives this entry
+-- The verdict on a line after the lines of the journal `log`. It is good if its clock isn't below the last line's, if
+-- the command that it records is allowed there, and if this command gives the line's entry.
 abbrev pub verdict : Journal → Line → Verdict
 verdict log line = if nat_lt line.clock (last_clock log) then Err rule.Clock else judged (told log line line.what)
     line.what
 
--- the clock of the last line of a journal's text
+-- The verdict on the last line of a journal's text, given the line's clock.
 abbrev pub end_verdict : Journal → ℕ → Verdict
 end_verdict log clock = if nat_lt clock (last_clock log) then Err rule.Clock else Ok tt
 
--- the numbers of an entry lie in their ranges: a record has a bounded size, and a row's counter after it was written is
--- at least 1
+-- The numbers of an entry lie in their ranges: a record has a bounded size, and the counter of a row that was written
+-- is at least 1.
 abbrev pub IsFit : Entry → Type 0
 IsFit (entry.Made s name count) = IsShardCount count
 IsFit (entry.Put s sh number hash bytes key_bytes) = (hash < 2 ^ 128) × (bytes + key_bytes ≤ RECORD_BYTES)

@@ -1,4 +1,4 @@
--- The tenures of leases, the first of them number 1 (Kinesis Client Library, lease ownership).
+-- The tenures of leases, numbered from 1 (Kinesis Client Library, lease ownership).
 use Rattle.std.specs.Prelude.{ℕ, zero, suc, ◌≡◌, ◌-◌, Bool, false, List, [], ◌∷◌, ◌++◌, length, slice_get, slice_set}
 use Rattle.std.specs.Prelude.{Option, None, IfSome}
 use Rattle.kds_base.specs.declared.lease_key.Checkpoint.{Checkpoint}
@@ -8,7 +8,7 @@ use Rattle.kds_defs.specs.Listings.{are_none}
 use Rattle.kcl_book.specs.declared.tenure.PendingRead.{PendingRead}
 use Rattle.kcl_book.specs.declared.tenure.Tenure.{Tenure}
 
--- a tenure, with the reads that aren't given, the oldest first
+-- A tenure, with the reads that aren't given, the oldest first.
 pub record TenureValue : Type 0 where
   pub by : ℕ
   pub key : ShardRef
@@ -19,12 +19,13 @@ pub record TenureValue : Type 0 where
   pub pending : List PendingRead
   pub at_end : Bool
 
--- what contracts see of all tenures: them in the order of their numbers, and for how many more there is memory
+-- What contracts see of all tenures: the tenures in the order of their numbers, and the number of further tenures for
+-- which there is memory.
 pub record BookValue : Type 0 where
   pub tenures : List TenureValue
   pub spare : ℕ
 
--- a tenure as it begins: nothing is read or given
+-- A tenure as it begins, when nothing is read or given.
 abbrev pub begun : ℕ → ShardRef → Checkpoint → TenureValue
 begun by key start =
     record {
@@ -38,16 +39,16 @@ begun by key start =
       at_end = false;
     }
 
--- the tenure of a number
+-- The tenure with a number, if there is one.
 abbrev pub tenure_at : List TenureValue → ℕ → Option TenureValue
 tenure_at ts zero = None
 tenure_at ts (suc n) = slice_get ts n
 
--- the book where the tenure of a number is this one
+-- The book after `t` replaced the tenure with the number `number`.
 abbrev pub with_tenure : ℕ → TenureValue → BookValue → BookValue
 with_tenure number t book = record book { tenures = slice_set book.tenures (number - 1) t }
 
--- as it is shown
+-- The tenure as callers see it.
 abbrev pub shown : TenureValue → Tenure
 shown t =
     record {
@@ -61,11 +62,11 @@ shown t =
       at_end = t.at_end;
     }
 
--- after a read that reached this position, and ended the shard or did not
+-- The tenure after a read that reached the position `reach`. `ended` says whether the read ended the shard.
 abbrev pub with_read : ℕ → Bool → TenureValue → TenureValue
 with_read reach ended t = record t { reach = reach; pending = t.pending ++ record { reach = reach; end = ended } ∷ [] }
 
--- after the oldest of its reads that isn't given was given
+-- The tenure after the oldest of its reads that weren't given was given.
 abbrev pub given_of : List PendingRead → TenureValue → TenureValue
 given_of [] t = t
 given_of (r ∷ rs) t = record t { delivered = r.reach; pending = rs; at_end = r.end }
@@ -73,7 +74,8 @@ given_of (r ∷ rs) t = record t { delivered = r.reach; pending = rs; at_end = r
 abbrev pub with_given : TenureValue → TenureValue
 with_given t = given_of t.pending t
 
--- the oldest read of the tenure of this number, of those that weren't given, was given, and reached this position
+-- The oldest read that wasn't given, of the tenure with the number `number`, was given, and had reached the position
+-- `delivered`.
 abbrev pub HasGiven : ℕ → ℕ → BookValue → BookValue → Type 0
 HasGiven number delivered old new =
     IfSome (tenure_at old.tenures number) (λ t. (are_none t.pending ≡ false)

@@ -1,4 +1,5 @@
--- In the phase that reads, fewer batches wait than may, and a Read is refused for too many only where as many wait.
+-- In the phase that reads, fewer batches wait than may wait, and a Read is refused for too many only if as many wait as
+-- may.
 use Rattle.std.proofs.Common.{◌≡◌, ℕ, suc, ◌+◌, ◌-◌, ◌<◌, ◌≤◌, Bool, true, false, List, [], ◌∷◌, ◌++◌, length, Option}
 use Rattle.std.proofs.Common.{Some, None, Ok, Err, refl, sym, ap}
 use Rattle.std.proofs.Common.{subst, ◌∙◌, arith, length-append}
@@ -35,7 +36,7 @@ use Rattle.kcl_defs.proofs.DealLemmas.{AgreeWith, AllAgree, agree}
 use Rattle.kcl_defs.proofs.LifeLemmas.{Holds, holds}
 use Rattle.kcl_consumer.specs.Standing.{IsNeverFull}
 
--- ---- by the record of the consumer
+-- ---- In the record of the consumer
 
 abbrev HasRoom : Phase → Type 0
 HasRoom (Filling place waiting) = length waiting < PENDING_READS
@@ -150,7 +151,7 @@ room_after : (made : Tenancy) (past : Past) → HasRoom (phase_after made past)
 room_after made [] = tt
 room_after made (event ∷ past) = event_room made event (phase_after made past) (room_after made past)
 
--- only one phase reads
+-- Only the phase `Filling` reads.
 reads_filling : (made : Tenancy) (phase : Phase) (counter t position limit : ℕ)
     → next_command made phase counter ≡ Some (command.Read t position limit)
     → (to : ℕ) × (waiting : List Fetched) × (phase ≡ Filling to waiting) × (made.tenure ≡ t)
@@ -165,9 +166,9 @@ reads_filling made MarkingEnd counter t position limit e = cc
 reads_filling made (Leaving why) counter t position limit e = cc
 reads_filling made (Over why) counter t position limit e = cc
 
--- ---- by the history
+-- ---- In the history
 
--- where the answer is that too many wait, as many do
+-- If the answer is that too many reads wait, as many wait as may.
 abbrev IsManyIfRefused : ℕ → List Deal → List Line → Result Reply Refusal → Type 0
 IsManyIfRefused t deals lines a = a ≡ Err refusal.TooManyPending
     → PENDING_READS + gives_in t deals ≤ length (reads_in t deals)

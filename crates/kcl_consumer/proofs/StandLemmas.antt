@@ -65,7 +65,7 @@ lost stands old new past made phase given processor s = record {
       (subst (λ m. stands old.processor (calls_after m (Losing ∷ past))) (sym made) s.calls);
 }
 
--- ---- the answers to a Read and to a Give, by the fields
+-- ---- The answers to a Read and to a Give, in terms of the fields
 
 abbrev fields : {P : Type 0} → Tenancy → ConsumerStage → ℕ → List Fetched → Option Target → Bool → Option ℕ → P
     → Standing P

@@ -1,4 +1,4 @@
--- What a Read was answered, as a consumer takes it.
+-- The answer to a Read, in the form in which a consumer uses it.
 use Rattle.std.specs.Prelude.{ℕ, ◌≡◌, List, Result}
 use Rattle.kcl_defs.specs.declared.consumer.Fetched.{Fetched}
 use Rattle.kds_defs.specs.declared.reply.Refusal.{Refusal}
@@ -7,7 +7,7 @@ use Rattle.kcl_consumer.specs.declared.consumer.Fetching.{Fetching}
 use Rattle.kcl_consumer.specs.declared.consumer.Fetching.TheVariants as fetching
 use Rattle.kcl_defs.specs.Consumers.{Phase, Filling, Leaving, fetched, after_read}
 
--- where it leads
+-- The phase to which the answer leads.
 abbrev pub phase_by : ℕ → ℕ → List Fetched → Fetching → Phase
 phase_by limit reach waiting (fetching.Read f place) = fetched limit place waiting f
 phase_by limit reach waiting fetching.Nothing = Filling reach waiting

@@ -1,4 +1,4 @@
--- How a consumer keeps where it stands.
+-- How a consumer stores its phase.
 use Rattle.std.specs.Prelude.{ℕ, ◌≡◌, ◌<◌, Bool, true, List, [], length, Option}
 use Rattle.kds_defs.specs.declared.command.Target.{Target}
 use Rattle.kcl_defs.specs.declared.consumer.Fetched.{Fetched}
@@ -8,7 +8,7 @@ use Rattle.kcl_defs.specs.Consumers.{Leaving, Over, was_handed}
 use Rattle.kcl_consumer.specs.declared.stage.ConsumerStage.{ConsumerStage}
 use Rattle.kcl_consumer.specs.declared.stage.ConsumerStage.TheVariants as stage
 
--- the phase by the fields
+-- The phase for which the fields of a consumer stand.
 abbrev pub phase_of : ConsumerStage → ℕ → List Fetched → Option Target → Bool → Phase
 phase_of stage.Opening reach waiting asked lost = Opening
 phase_of stage.Starting reach waiting asked lost = Starting
@@ -21,8 +21,8 @@ phase_of stage.MarkingEnd reach waiting asked lost = MarkingEnd
 phase_of (stage.Leaving why) reach waiting asked lost = Leaving why
 phase_of (stage.Over why) reach waiting asked lost = Over why
 
--- nothing was read before reading begins, a batch that is to be read has room, and one that is held for the
--- processor is there, and not empty
+-- Before reading begins, no batch waits. If a batch is to be read, there is room for it. If a batch is held for the
+-- processor, it is the first one and isn't empty.
 abbrev pub IsKept : ConsumerStage → List Fetched → Type 0
 IsKept stage.Opening waiting = waiting ≡ []
 IsKept stage.Starting waiting = waiting ≡ []

@@ -9,7 +9,7 @@ use Rattle.kds_defs.specs.declared.reply.Reply.TheVariants as reply
 use Rattle.kds_defs.specs.declared.reply.Stored.{Stored}
 use Rattle.kcl_defs.specs.Consumers.{Answered, Called, Ending, Event, Filling, Holding, Past, phase_after}
 
--- it reads at most two records at a time
+-- The consumer reads at most two records at a time.
 abbrev made : Tenancy
 made = record { key = record { stream = 1; shard = 0 }; tenure = 1; start = TrimHorizon; limit = 2 }
 
@@ -25,12 +25,12 @@ waits batch = record { batch = batch; ended = false }
 abbrev read : List Stored → ℕ → Event
 read batch place = Answered (Ok (reply.Read batch place false))
 
--- two full batches wait, and reading goes on
+-- Two full batches wait, and reading goes on.
 reading_on : (r : Stored) → phase_after made (read (full r) 5 ∷ read (full r) 3 ∷ started)
     ≡ Filling 5 (waits (full r) ∷ waits (full r) ∷ [])
 reading_on r = refl
 
--- a batch of fewer records than the limit ends it: the first batch is handed out
+-- A batch of fewer records than the limit ends the reading: the first batch is handed out.
 abbrev all_read : Stored → Past
 all_read r = read (r ∷ []) 6 ∷ read (full r) 5 ∷ read (full r) 3 ∷ started
 
@@ -38,7 +38,7 @@ read_enough : (r : Stored)
     → phase_after made (all_read r) ≡ Holding 6 (waits (full r) ∷ waits (full r) ∷ waits (r ∷ []) ∷ [])
 read_enough r = refl
 
--- the next ones follow with no read between them, and then reading goes on
+-- The next batches follow with no read between them, and then reading goes on.
 given_once : (r : Stored) → phase_after made (Answered (Ok reply.Done) ∷ Called ask.None ∷ all_read r)
     ≡ Holding 6 (waits (full r) ∷ waits (r ∷ []) ∷ [])
 given_once r = refl
@@ -48,7 +48,7 @@ all_given : (r : Stored)
     ∷ Answered (Ok reply.Done) ∷ Called ask.None ∷ all_read r) ≡ Filling 6 []
 all_given r = refl
 
--- the batch that ends the shard is handed out at once
+-- The batch that ends the shard is handed out at once.
 end_read : (r : Stored) → phase_after made (Answered (Ok (reply.Read (full r) 3 true)) ∷ started)
     ≡ Holding 3 (record { batch = full r; ended = true } ∷ [])
 end_read r = refl
@@ -58,7 +58,7 @@ end_given : (r : Stored)
     ∷ started) ≡ Ending
 end_given r = refl
 
--- eight batches are the most that wait
+-- At most eight batches wait.
 abbrev reads : ℕ → Stored → Past
 reads zero r = started
 reads (suc n) r = read (full r) 7 ∷ reads n r

@@ -36,7 +36,7 @@ use Rattle.kds_defs.proofs.Walk.{Outcome, IsAdded, Alone, Answers, Adds, Creates
 use Rattle.kcl_defs.proofs.WorkerLemmas.{begins, was_taken, IsNewTenure, AreNewTenures, IsQuiet}
 use Rattle.kcl_defs.specs.WorkerLives.{read_done, AreOfTenure}
 
--- ---- lines that leave the tenures
+-- ---- Lines that leave the tenures
 
 abbrev pub IsStill : Entry → Type 0
 IsStill (entry.Taken key tenure counter owner) = ⊥
@@ -62,12 +62,12 @@ still_tenures [] log t h = refl
 still_tenures (line ∷ lines) log t h =
     still_tenures lines (line ∷ log) t h.1 ∙ still_tenure log line line.what t (tenure log t) h.0
 
--- the lines leave the tenures, and the answer begins none
+-- The lines leave the tenures as they are, and the answer begins none.
 pub record LeavesTenures (lines : List Line) (answer : Result Reply Refusal) : Type 0 where
   pub lines_still : AreStill lines
   pub begins_none : (t : ℕ) → begins t answer ≡ false
 
--- the commands that begin, open, read or give no tenure
+-- The command begins, opens, reads or gives no tenure.
 abbrev pub TouchesNone : Command → Type 0
 TouchesNone (command.Take key counter owner) = ⊥
 TouchesNone (command.OpenShard t) = ⊥
@@ -94,16 +94,17 @@ command_leaves log c by what h = record {
   begins_none = begins_not log c by what _ _ (walk log c by what) h;
 }
 
--- ---- an actor's reads and gives are those of its tenures
+-- ---- An actor's reads and gives are those of its tenures
 
--- the reads of the tenure and how many are given, where it is the actor's; none where it is not
+-- If the tenure is the actor's, its reads and the number of given ones are those among `deals`. Otherwise `deals` has
+-- none.
 abbrev pub AgreeWith : ℕ → ℕ → List Deal → Option TenureState → Type 0
 AgreeWith by t deals None = (was_taken t deals ≡ false) × (reads_in t deals ≡ []) × (gives_in t deals ≡ 0)
 AgreeWith by t deals (Some T) =
     ((T.by == by) ≡ true → (map read_done (reads_in t deals) ≡ T.reads) × (gives_in t deals ≡ T.given))
     × ((T.by == by) ≡ false → (reads_in t deals ≡ []) × (gives_in t deals ≡ 0))
 
--- a command that adds nothing
+-- `AgreeWith` still holds after a command that adds nothing.
 agree_still : (by t : ℕ) (deal : Deal) (deals : List Deal) (o : Option TenureState) → begins t deal.answer ≡ false
     → reads_of t deal.what deal.answer ≡ []
     → gives_of t deal.what deal.answer ≡ 0 → AgreeWith by t deals o → AgreeWith by t (deal ∷ deals) o
@@ -129,7 +130,7 @@ none_of : {o : Option TenureState} (f : TenureState → TenureState) (b : Bool) 
     → cond b (option_map f o) o ≡ None
 none_of f b h = ap (λ o. cond b (option_map f o) o) h ∙ same_none b
 
--- of a tenure that is there, whatever begins
+-- `AgreeWith` still holds for an existing tenure after a command that adds nothing to it, whatever begins.
 agree_still_some : (by t : ℕ) (deal : Deal) (deals : List Deal) (T : TenureState)
     → reads_of t deal.what deal.answer ≡ [] → gives_of t deal.what deal.answer ≡ 0
     → AgreeWith by t deals (Some T) → AgreeWith by t (deal ∷ deals) (Some T)
@@ -142,7 +143,7 @@ agree_still_some by t deal deals T r g h =
       λ e. (same_reads ∙ (h.1 e).0, same_gives ∙ (h.1 e).1),
     )
 
--- the tenures of a journal have numbers up to their count
+-- The tenures of a journal have numbers up to their count.
 unborn_at : (log : Journal) (line : Line) (what : Entry) (t : ℕ) → (taken_count log < t → tenure log t ≡ None)
     → taken_count_after what (taken_count log) < t
     → tenure_after log line what t (tenure log t) ≡ None
@@ -169,16 +170,16 @@ pub unborn : (log : Journal) (t : ℕ) → taken_count log < t → tenure log t 
 unborn [] t h = refl
 unborn (line ∷ log) t h = unborn_at log line line.what t (λ l. unborn log t l) h
 
--- ---- one turn
+-- ---- One turn
 
--- what is known before the turn, of each tenure
+-- What is known of each tenure before the turn.
 abbrev pub AllAgree : ℕ → List Deal → Journal → Type 0
 AllAgree by deals log = (t : ℕ) → AgreeWith by t deals (tenure log t)
 
 abbrev with_answer : Command → Result Reply Refusal → List Deal → List Deal
 with_answer what answer deals = record { what = what; answer = answer } ∷ deals
 
--- after a turn of its own, and after another's
+-- `AgreeWith` after a turn of the actor's own, and after another actor's turn.
 abbrev OwnAgrees : ℕ → Command → List Deal → Journal → ℕ → List Line → Result Reply Refusal → Type 0
 OwnAgrees by what deals log t lines answer =
     AgreeWith by t (with_answer what answer deals) (tenure (with_lines lines log) t)
@@ -195,7 +196,7 @@ own_actor a b d h g = grind (arith, nat_tests)
 other_actor : (a b d : ℕ) → (a == b) ≡ true → (b == d) ≡ false → (a == d) ≡ false
 other_actor a b d h g = grind (arith, nat_tests)
 
--- nothing of a tenure that is not there yet
+-- `deals` has nothing of a tenure that doesn't exist yet.
 nothing_yet : (by : ℕ) (deals : List Deal) (log : Journal) → AllAgree by deals log
     → (was_taken (taken_count log + 1) deals ≡ false) × (reads_in (taken_count log + 1) deals ≡ [])
     × (gives_in (taken_count log + 1) deals ≡ 0)
@@ -206,7 +207,7 @@ nothing_yet by deals log h =
     above : (n : ℕ) → n < n + 1
     above n = omega arith
 
--- a refusal adds nothing
+-- A refusal adds nothing.
 own_refused : (by : ℕ) (what : Command) (deals : List Deal) (log : Journal) (t : ℕ) (r : Refusal)
     → reads_of t what (Err r) ≡ [] → gives_of t what (Err r) ≡ 0
     → AllAgree by deals log → OwnAgrees by what deals log t [] (Err r)
@@ -215,7 +216,7 @@ own_refused by what deals log t r no_read no_give h =
 
 -- ---- Take
 
--- a tenure that has nothing yet agrees with a new one
+-- `AgreeWith` holds for a new tenure of which `deals` has nothing yet.
 agree_new : (by t actor : ℕ) (key : ShardRef) (start : Checkpoint) (deals : List Deal) → reads_in t deals ≡ []
     → gives_in t deals ≡ 0
     → AgreeWith by t deals (Some (new_tenure actor key start))
@@ -233,7 +234,7 @@ begun by actor key start t n deals before true e nothing same new =
     new refl (subst (λ m. reads_in m deals ≡ []) (sym u) nothing.1, subst (λ m. gives_in m deals ≡ 0) (sym u) nothing.2)
 begun by actor key start t n deals before false e nothing same new = same refl
 
--- a turn of its own that begins a tenure
+-- `AgreeWith` holds after a turn of the actor's own that begins a tenure.
 begun_own : (by actor : ℕ) (key : ShardRef) (what : Command) (from start : Checkpoint) (t n counter : ℕ)
     (deals : List Deal) (before : Option TenureState)
     (b : Bool) → (t == n) ≡ b → IsQuiet what → (was_taken n deals ≡ false) × (reads_in n deals ≡ [])
@@ -265,7 +266,7 @@ take_own by actor c key counter owner deals log t h =
     (taken_count log + 1) (r.counter + 1) deals
     (tenure log t) (t == taken_count log + 1) refl (λ u x. (refl, refl)) (nothing_yet by deals log h) (h t)))))
 
--- another's turn that begins a tenure
+-- `AgreeWith` holds after another actor's turn that begins a tenure.
 begun_other : (by actor : ℕ) (key : ShardRef) (start : Checkpoint) (t n : ℕ) (deals : List Deal)
     (before : Option TenureState) (b : Bool) → (t == n) ≡ b
     → (was_taken n deals ≡ false) × (reads_in n deals ≡ []) × (gives_in n deals ≡ 0) → AgreeWith by t deals before
@@ -327,7 +328,7 @@ map-append : (xs ys : List Fetched) → map read_done (xs ++ ys) ≡ map read_do
 map-append [] ys = refl
 map-append (x ∷ xs) ys = ap (λ l. read_done x ∷ l) (map-append xs ys)
 
--- a read of the tenure, which is the actor's
+-- `AgreeWith` holds after a read of the tenure, which is the actor's.
 agree_read : (by t : ℕ) (deals : List Deal) (T : TenureState) (rs : List Logged) (ended : Bool) (what : Command)
     (place : ℕ) → (T.by == by) ≡ true
     → reads_of t what (Ok (reply.Read (map stored rs) place ended)) ≡ record { batch = map stored rs; ended = ended }
@@ -403,7 +404,7 @@ read_own by actor c which position limit deals log t own h =
     (ends_at log c T.key.stream T.key.shard (place_after (reach T) (numbers_of rs))) (which == t) refl
     (λ x. same_tenure log which t T e x) (not-false (T.by == actor) a) own (h t)))))))
 
--- a line of a tenure that is another's
+-- `AgreeWith` holds after a line of a tenure that is another actor's.
 agree_other : (by t : ℕ) (deals : List Deal) (T U : TenureState) → U.by ≡ T.by → (T.by == by) ≡ false
     → AgreeWith by t deals (Some T)
     → AgreeWith by t deals (Some U)
@@ -486,7 +487,7 @@ give_other by actor c which deals log t other h =
     other_at with_given (λ T. refl) by actor t deals (tenure log t) T (which == t)
     (λ x. same_tenure log which t T e x) (not-false (T.by == actor) a) other (h t))))
 
--- ---- any command
+-- ---- Any command
 
 quiet_command : (what : Command) → TouchesNone what → IsQuiet what
 quiet_command (command.Take key counter owner) h = absurd h
@@ -544,7 +545,7 @@ turn_other by actor c (command.Give which) deals log t other h =
 turn_other by actor c what deals log t other h =
     leaves_other by c actor deals log t h (decide log c actor what) (command_leaves log c actor what tt)
 
--- ---- histories
+-- ---- Histories
 
 agree_turn : (by : ℕ) (turn : Turn) (h : List Turn) (t : ℕ) (b : Bool) → (turn.by == by) ≡ b
     → AllAgree by (deals_of by h) (journal h)
@@ -554,12 +555,12 @@ agree_turn by turn h t true e all = turn_own by turn.by (clock (turn ∷ h)) tur
 agree_turn by turn h t false e all =
     turn_other by turn.by (clock (turn ∷ h)) turn.what (deals_of by h) (journal h) t e all
 
--- the reads and gives among an actor's turns are those of its tenures
+-- The reads and gives among an actor's turns are those of its tenures.
 pub agree : (by : ℕ) (h : List Turn) → AllAgree by (deals_of by h) (journal h)
 agree by [] = λ t. (refl, refl, refl)
 agree by (turn ∷ h) = λ t. agree_turn by turn h t (turn.by == by) refl (agree by h)
 
--- a tenure that an answer begins is new
+-- A tenure that an answer begins is new.
 begins_new : (by actor c : ℕ) (deals : List Deal) (log : Journal) (what : Command) (lines : List Line)
     (answer : Result Reply Refusal)
     → Outcome log c actor what lines answer → AllAgree by deals log → IsNewTenure answer deals
@@ -582,7 +583,7 @@ pub new_tenures : (by : ℕ) (h : List Turn) → AreNewTenures (deals_of by h)
 new_tenures by [] = tt
 new_tenures by (turn ∷ h) = new_turns by turn h (turn.by == by) (new_tenures by h)
 
--- the reads and gives of an actor's tenure are those of the journal
+-- The reads and gives of an actor's tenure are those of the journal.
 pub of_tenure : (by : ℕ) (h : List Turn) (t : ℕ) (T : TenureState) → tenure (journal h) t ≡ Some T → (T.by == by) ≡ true
     → AreOfTenure by h t T
 of_tenure by h t T begun own =

@@ -1,4 +1,4 @@
--- A Give of an actor is refused only where the tenure has no read among the actor's turns that waits.
+-- A Give of an actor is refused only if no read of the tenure among the actor's turns waits to be given.
 use Rattle.std.proofs.Common.{◌≡◌, ℕ, suc, ◌-◌, ◌≤◌, Bool, true, false, List, [], ◌∷◌, length, Option, Some, None, Err}
 use Rattle.std.proofs.Common.{refl, sym, ap, subst, arith}
 use Rattle.std.specs.Prelude.{◌==◌, cond, if◌then◌else◌, not, map, Result}
@@ -21,7 +21,7 @@ use Rattle.kcl_defs.specs.Lives.{Deal, deals_of, reads_in, gives_in}
 use Rattle.kcl_defs.specs.WorkerLives.{read_done}
 use Rattle.kcl_defs.proofs.DealLemmas.{AgreeWith, AllAgree, agree}
 
--- where a Give is refused, each read of the tenure before is given
+-- If a Give is refused, each earlier read of the tenure is given.
 abbrev pub IsGiveTaken : Command → Result Reply Refusal → List Deal → Type 0
 IsGiveTaken (command.Give t) (Err r) deals = length (reads_in t deals) ≤ gives_in t deals
 IsGiveTaken _ answer deals = Unit {0}
@@ -30,7 +30,7 @@ abbrev pub AreGivesTaken : List Deal → Type 0
 AreGivesTaken [] = Unit {0}
 AreGivesTaken (deal ∷ deals) = IsGiveTaken deal.what deal.answer deals × AreGivesTaken deals
 
--- what holds of the answer of a decision
+-- What holds of the answer of a decision.
 abbrev GiveAnswers : ℕ → List Deal → Result Reply Refusal → Type 0
 GiveAnswers t deals answer = IsGiveTaken (command.Give t) answer deals
 

@@ -1,4 +1,4 @@
--- The calls of a processor are the given reads of its tenure, in order.
+-- The calls of a processor are those for the given reads of its tenure, in order.
 use Rattle.std.proofs.Common.{◌≡◌, ℕ, ◌+◌, Bool, true, false, List, [], ◌∷◌, ◌++◌, length, take, drop, Option, Some}
 use Rattle.std.proofs.Common.{None, Ok, Err, refl, sym, ap, subst, ◌∙◌, arith, inl, inr, append_assoc, length-append}
 use Rattle.std.specs.Prelude.{cond, if◌then◌else◌, not, reverse, Result}
@@ -24,14 +24,15 @@ use Rattle.kcl_defs.specs.Consumers.{calls_with, calls_after}
 use Rattle.kcl_defs.specs.Lives.{reads_at, reads_after, gives_at, gives_after, read_in, give_in, processed, IsWaiting}
 use Rattle.kcl_defs.specs.Lives.{IsEnding, Goes_on, Ended, Left, Ended_and_left, HasBegun, IsLife}
 
--- ---- words of the proof
+-- ---- Definitions for the proof
 
--- the last of these calls is handed and not given, or already the shard's end
+-- There is no ending yet, or the shard's end was already reported.
 pub data IsOpenEnding : List Call → Type 0 where
   Open : IsOpenEnding []
   Open_ended : IsOpenEnding (call.ShardEnded ∷ [])
 
--- the reads are the given ones and those that wait, and the calls are those of the given ones, these and this end
+-- The reads are the given ones, `done`, followed by `waiting`. The calls are those for the given reads, followed by
+-- `handed` and `ending`.
 pub record Stands (made : Tenancy) (waiting : List Fetched) (handed ending : List Call) (reads : List Fetched)
     (gives : ℕ) (calls : List Call) : Type 0 where
   pub done : List Fetched
@@ -57,7 +58,7 @@ pub record StandsLeaving (made : Tenancy) (reads : List Fetched) (gives : ℕ) (
   pub waits : IsWaiting handed waiting
   pub opens : IsOpenEnding ending
 
--- the call of the first batch, unless it is empty
+-- The call for the first batch, unless this batch is empty.
 abbrev pub handed_of : List Fetched → List Call
 handed_of [] = []
 handed_of (f ∷ waiting) = processed (f ∷ [])
@@ -76,7 +77,7 @@ pub record StandsHolding (made : Tenancy) (waiting : List Fetched) (reads : List
   pub some : was_handed waiting ≡ true
   pub stands : Stands made waiting [] [] reads gives calls
 
--- what is true in each phase
+-- What holds in each phase.
 abbrev pub Holds : Tenancy → Phase → List Fetched → ℕ → List Call → Type 0
 Holds made Opening reads gives calls = IsNew reads gives calls
 Holds made Starting reads gives calls = IsNew reads gives calls
@@ -89,9 +90,9 @@ Holds made MarkingEnd reads gives calls = StandsSomehow made (call.ShardEnded �
 Holds made (Leaving why) reads gives calls = StandsLeaving made reads gives calls
 Holds made (Over why) reads gives calls = IsLife made reads gives calls
 
--- ---- small steps
+-- ---- Small steps
 
--- no read and no give is added
+-- A fact still holds if no read and no give is added.
 still : (P : List Fetched → ℕ → Type 0) (reads : List Fetched) (gives : ℕ) → P reads gives → P (reads ++ []) (gives + 0)
 still P reads gives h =
     let e : gives ≡ gives + 0 = omega arith in
@@ -99,7 +100,7 @@ still P reads gives h =
     let R : ℕ → Type 0 = λ n. P reads n in
     subst Q (sym (append-nil reads)) (subst R e h)
 
--- one call more
+-- A new call comes last in the order of the calls.
 more_order : (c first : Call) (calls given handed ending : List Call)
     → reverse calls ≡ first ∷ (given ++ (handed ++ ending))
     → reverse (c ∷ calls) ≡ first ∷ (given ++ (handed ++ (ending ++ (c ∷ []))))
@@ -119,7 +120,7 @@ with_end made c waiting handed ending reads gives calls h = record {
   in_order = more_order c (call.Initialize made.key made.start) calls (processed h.done) handed ending h.in_order;
 }
 
--- what stands is of the form
+-- If `Stands` holds, the calls have the form of a life.
 form : (made : Tenancy) (waiting : List Fetched) (handed ending : List Call) (reads : List Fetched) (gives : ℕ)
     (calls : List Call) → Stands made waiting handed ending reads gives calls → IsWaiting handed waiting
     → IsEnding ending → HasBegun made reads gives calls
@@ -137,7 +138,7 @@ form made waiting handed ending reads gives calls h waits ends =
       ends = ends;
     }
 
--- and nothing waits where nothing is handed
+-- If nothing is handed over, no batch waits to be given.
 pub whole : (made : Tenancy) (waiting : List Fetched) (ending : List Call) (reads : List Fetched) (gives : ℕ)
     (calls : List Call) → Stands made waiting [] ending reads gives calls → IsEnding ending
     → (begun : HasBegun made reads gives calls) × (begun.handed ≡ [])
@@ -152,9 +153,9 @@ open_ending : (ending : List Call) → IsOpenEnding ending → IsEnding ending
 open_ending _ Open = Goes_on
 open_ending _ Open_ended = Ended
 
--- ---- calls
+-- ---- Calls
 
--- the first call
+-- The first call begins the list.
 begins : (made : Tenancy) (asked : Ask) (reads : List Fetched) (gives : ℕ) (calls : List Call) → IsNew reads gives calls
     → Stands made [] [] [] reads gives (call.Initialize made.key made.start ∷ calls)
 begins made asked reads gives calls h = record {
@@ -164,13 +165,13 @@ begins made asked reads gives calls h = record {
   in_order = ap (λ cs. reverse (call.Initialize made.key made.start ∷ cs)) h.none_called;
 }
 
--- a call at the end is a call that is handed
+-- A call in the ending is the same as a call that is handed over.
 as_handed : (made : Tenancy) (c : Call) (waiting : List Fetched) (reads : List Fetched) (gives : ℕ) (calls : List Call)
     → Stands made waiting [] (c ∷ []) reads gives calls → Stands made waiting (c ∷ []) [] reads gives calls
 as_handed made c waiting reads gives calls h =
     record { done = h.done; all = h.all; count = h.count; in_order = h.in_order }
 
--- a batch is handed
+-- A batch is handed over.
 hands : (made : Tenancy) (waiting : List Fetched) (reads : List Fetched) (gives : ℕ) (calls : List Call)
     → StandsHolding made waiting reads gives calls
     → StandsGiving made waiting reads gives (call.Process (first_batch waiting) ∷ calls)
@@ -217,7 +218,7 @@ called made asked (Marking reach waiting to) reads gives calls h = h
 called made asked MarkingEnd reads gives calls h = h
 called made asked (Over why) reads gives calls h = h
 
--- ---- losses
+-- ---- Losses
 
 leaving : (made : Tenancy) (waiting : List Fetched) (handed ending : List Call) (reads : List Fetched) (gives : ℕ)
     (calls : List Call) → Stands made waiting handed ending reads gives calls → IsWaiting handed waiting
@@ -239,7 +240,7 @@ leaving_given : (made : Tenancy) (waiting : List Fetched) (reads : List Fetched)
 leaving_given made waiting reads gives calls h =
     leaving made waiting (handed_of waiting) [] reads gives calls h.stands (waits_handed waiting) Open
 
--- nothing was called: the form with no call
+-- If nothing was called, the calls have the form with no call.
 none_yet : (made : Tenancy) (reads : List Fetched) (gives : ℕ) (calls : List Call) → IsNew reads gives calls
     → IsLife made reads gives calls
 none_yet made reads gives calls h = inl h.none_called
@@ -265,9 +266,9 @@ lost made MarkingEnd reads gives calls h =
     leaving made h.waiting [] (call.ShardEnded ∷ []) reads gives calls h.stands tt Open_ended
 lost made (Leaving why) reads gives calls h = h
 
--- ---- answers
+-- ---- Answers
 
--- what waits goes to the front
+-- The first waiting batch comes to the front.
 fronts_first : (made : Tenancy) (reach : ℕ) (f : Fetched) (waiting : List Fetched) (reads : List Fetched) (gives : ℕ)
     (calls : List Call) (b : Bool) → is_empty f.batch ≡ b → Stands made (f ∷ waiting) [] [] reads gives calls
     → Holds made (if b then Giving reach (f ∷ waiting) None false else Holding reach (f ∷ waiting)) reads gives calls
@@ -283,7 +284,7 @@ fronts made reach [] reads gives calls h = h
 fronts made reach (f ∷ waiting) reads gives calls h =
     fronts_first made reach f waiting reads gives calls (is_empty f.batch) refl h
 
--- a batch was read
+-- A batch that was read waits behind the others.
 more_waiting : (made : Tenancy) (waiting : List Fetched) (f : Fetched) (reads : List Fetched) (gives : ℕ)
     (calls : List Call) → Stands made waiting [] [] reads gives calls
     → Stands made (waiting ++ (f ∷ [])) [] [] (reads ++ (f ∷ [])) gives calls
@@ -328,7 +329,7 @@ read_answered made reach waiting (Ok _) reads gives calls h = stays made waiting
 read_answered made reach waiting (Err refusal.ShardGone) reads gives calls h = no_room made waiting reads gives calls h
 read_answered made reach waiting (Err _) reads gives calls h = no_room made waiting reads gives calls h
 
--- the first of the batches is given
+-- The first of the batches is given.
 pub given_on : (made : Tenancy) (f : Fetched) (waiting : List Fetched) (reads : List Fetched) (gives : ℕ)
     (calls : List Call) → Stands made (f ∷ waiting) (processed (f ∷ [])) [] reads gives calls
     → Stands made waiting [] [] (reads ++ []) (gives + 1) calls
@@ -431,13 +432,13 @@ answered made answer (Leaving why) reads gives calls h =
     still (λ rs n. Holds made (Leaving why) rs n calls) reads gives h
 answered made answer (Over why) reads gives calls h = still (λ rs n. Holds made (Over why) rs n calls) reads gives h
 
--- ---- the record
+-- ---- The record
 
 abbrev HoldsAfter : Tenancy → Past → Type 0
 HoldsAfter made past =
     Holds made (phase_after made past) (reads_after made past) (gives_after made past) (calls_after made past)
 
--- no read and no give by an event that is no answer
+-- `Holds` still holds after an event that adds no read and no give.
 quiet : (made : Tenancy) (event : Event) (phase before : Phase) (reads : List Fetched) (gives : ℕ) (calls : List Call)
     → reads_at before event ≡ [] → gives_at before event ≡ 0 → Holds made phase reads gives calls
     → Holds made phase (reads ++ reads_at before event) (gives + gives_at before event) calls
@@ -475,7 +476,7 @@ pub holds : (made : Tenancy) (past : Past) → HoldsAfter made past
 holds made [] = record { none_read = refl; none_given = refl; none_called = refl }
 holds made (event ∷ past) = happens made event past (holds made past)
 
--- each phase is of the form
+-- In each phase, the calls have the form of a life.
 formed : (made : Tenancy) (phase : Phase) (reads : List Fetched) (gives : ℕ) (calls : List Call)
     → Holds made phase reads gives calls → IsLife made reads gives calls
 formed made Opening reads gives calls h = none_yet made reads gives calls h
@@ -494,7 +495,7 @@ formed made (Leaving why) reads gives calls h =
     inr (form made h.waiting h.handed h.ending reads gives calls h.stands h.waits (open_ending h.ending h.opens))
 formed made (Over why) reads gives calls h = h
 
--- the calls of a processor are the reads that its consumer gave, in order
+-- The calls of a processor are those for the reads that its consumer gave, in order.
 pub life : (made : Tenancy) (past : Past)
     → IsLife made (reads_after made past) (gives_after made past) (calls_after made past)
 life made past = formed made (phase_after made past) (reads_after made past) (gives_after made past)

@@ -38,7 +38,7 @@ use Rattle.kcl_defs.proofs.WorkerLemmas.{InStep, AreNewTenures, IsFine, IsOwnCom
 use Rattle.kcl_defs.proofs.WorkerLemmas.{all_event, all_filter, all_first, all_with_known, all_without, fine}
 use Rattle.kcl_defs.proofs.WorkerLemmas.{live_served, new_before}
 
--- ---- a Give of a consumer that has a batch to give is not refused
+-- ---- A Give of a consumer that has a batch to give isn't refused
 
 more_than : (reads done waiting : List Fetched) (f : Fetched) (gives : ℕ) → reads ≡ done ++ (f ∷ waiting)
     → length done ≡ gives → length reads ≤ gives → ⊥
@@ -72,7 +72,7 @@ give_accepted made (Giving reach waiting asked lost) counter what (Err r) deals 
 give_accepted made (Giving reach waiting asked lost) counter what (Ok reply) deals calls next taken h = refl
 give_accepted made _ counter what answer deals calls next taken h = refl
 
--- ---- no Give of any consumer was refused
+-- ---- No Give of any consumer was refused
 
 abbrev pub IsUnrefused : Known → Type 0
 IsUnrefused k = was_refused k.made k.past ≡ false
@@ -124,7 +124,7 @@ losing_unrefused test consumers retired u = record {
   ended = u.ended;
 }
 
--- the consumer's own answer
+-- For a consumer in step, `Holds` is true of its phase and of its reads and gives among `deals`.
 step_kept : (deals : List Deal) (k : Known) → InStep deals k
     → Holds k.made (phase_of_known k) (reads_in k.made.tenure deals) (gives_in k.made.tenure deals)
     (calls_after k.made k.past)
@@ -175,7 +175,7 @@ own_unrefused id deals what answer w (Some k) found next taken steps u = record 
   ended = u.ended;
 }
 
--- ---- answers
+-- ---- Answers
 
 survey_unrefused : (made : WorkerMade) (now : ℕ) (answer : Result Reply Refusal) (w : WorkerState)
     → AreUnrefused w.consumers w.retired
@@ -243,7 +243,7 @@ absorbed_unrefused made now answer deals w (Some p) is taken steps u =
     (chore_unrefused made now answer deals p.chore p.what (record w { waiting = None }) (own_kept p.chore p.what w is)
     taken.0 steps u)
 
--- ---- the record
+-- ---- The record
 
 release_unrefused : (o : Option Release) (w : WorkerState) → AreUnrefused w.consumers w.retired
     → AreUnrefused (without_release o w).consumers (without_release o w).retired
@@ -254,7 +254,7 @@ release_unrefused (Some r) w u = record {
   ended = u.ended;
 }
 
--- by the state before
+-- If no Give was refused before an event, none is refused after it.
 pub state_unrefused : (made : WorkerMade) (event : WorkerEvent) (w : WorkerState) (deals : List Deal)
     → AreGivesTaken (deals_with event w deals) → IsFine deals w → AreUnrefused w.consumers w.retired
     → AreUnrefused (after_worker_event made event w).consumers (after_worker_event made event w).retired
@@ -301,7 +301,7 @@ unrefused made (event ∷ past) orderly new taken =
     event_unrefused made event past taken (fine made past orderly.1 newer)
     (unrefused made past orderly.1 newer (taken_before made event past taken))
 
--- ---- what follows
+-- ---- What follows
 
 settled_life : (made : Tenancy) (reads : List Fetched) (gives : ℕ) (calls : List Call)
     → (calls ≡ []) ⊎ IsSettled made reads gives calls → IsWholeLife made reads gives calls
@@ -340,8 +340,8 @@ retired_whole made past orderly new taken =
     all_whole (deals_after made past) (worker_after made past).retired (fine made past orderly new).good.over u.over
     u.ended
 
--- the processors of a worker are called for the given reads of its tenures, in each history in which its actor's turns
--- are the commands of its record with their answers; and no batch of a retired consumer waits
+-- The processors of a worker are called for the given reads of its tenures, in each history in which its actor's turns
+-- are the commands of its record with their answers. No batch of a retired consumer waits to be given.
 pub are_served : (by : ℕ) (h : List Turn) (made : WorkerMade) (past : WorkerPast) → IsOrderly made past
     → IsToldIn by h made past → AreServed by h made past
 are_served by h made past orderly told =

@@ -24,7 +24,7 @@ use Rattle.kcl_defs.specs.Lives.{reads_at, reads_after, gives_at, gives_after, r
 use Rattle.kcl_defs.proofs.LifeLemmas.{Holds, Stands, StandsGiving, StandsSomehow, IsOpenEnding, Open, Open_ended}
 use Rattle.kcl_defs.proofs.LifeLemmas.{with_end, left_ending, given_on, holds}
 
--- a Give was refused
+-- Whether the event is the refusal of a Give.
 abbrev pub refused_at : Phase → Event → Bool
 refused_at (Giving reach waiting asked lost) (Answered (Err r)) = true
 refused_at _ event = false
@@ -33,7 +33,7 @@ abbrev pub was_refused : Tenancy → Past → Bool
 was_refused made [] = false
 was_refused made (event ∷ past) = refused_at (phase_after made past) event || was_refused made past
 
--- nothing is handed that waits
+-- No batch that was handed over waits to be given.
 pub record IsSettled (made : Tenancy) (reads : List Fetched) (gives : ℕ) (calls : List Call) : Type 0 where
   pub waiting : List Fetched
   pub ending : List Call
@@ -66,7 +66,7 @@ fronts made reach (f ∷ waiting) reads gives calls = choice (is_empty f.batch)
     choice true = tt
     choice false = tt
 
--- calls
+-- `Settles` holds after a call.
 called : (made : Tenancy) (asked : Ask) (phase : Phase) (reads : List Fetched) (gives : ℕ) (calls : List Call)
     → Settles made phase reads gives calls
     → Settles made (after_event made (Called asked) phase) reads gives (calls_with made (Called asked) phase calls)
@@ -86,7 +86,7 @@ called made asked (Marking reach waiting to) reads gives calls s = tt
 called made asked Ending reads gives calls s = tt
 called made asked MarkingEnd reads gives calls s = tt
 
--- losses
+-- `Settles` holds after a loss, if a batch that was handed is still given.
 not_handed : (made : Tenancy) (reach : ℕ) (waiting : List Fetched) (to : Option Target) (reads : List Fetched)
     (gives : ℕ) (calls : List Call) → StandsGiving made waiting reads gives calls
     → Settles made (if was_handed waiting then Giving reach waiting to true else Leaving why.Lost) reads gives calls
@@ -116,7 +116,7 @@ lost made MarkingEnd reads gives calls h s =
     leave made h.waiting (call.ShardEnded ∷ []) reads gives calls h.stands Open_ended
 lost made (Leaving why) reads gives calls h s = s
 
--- answers
+-- A fact still holds if no read and no give is added.
 still : (P : List Fetched → ℕ → Type 0) (reads : List Fetched) (gives : ℕ) → P reads gives → P (reads ++ []) (gives + 0)
 still P reads gives h =
     let e : gives ≡ gives + 0 = omega arith in
@@ -212,7 +212,7 @@ answered made answer (Leaving why) reads gives calls r h s =
 answered made answer (Over why) reads gives calls r h s =
     still (λ rs n. Settles made (Over why) rs n calls) reads gives s
 
--- the record
+-- `Settles` holds in the phase after a record.
 abbrev SettlesAfter : Tenancy → Past → Type 0
 SettlesAfter made past =
     Settles made (phase_after made past) (reads_after made past) (gives_after made past) (calls_after made past)
@@ -249,7 +249,7 @@ happens made Losing past r s =
     (lost made (phase_after made past) (reads_after made past) (gives_after made past) (calls_after made past)
     (holds made past) s)
 
--- a consumer that is over, and of which no Give was refused, has no batch that was handed and not given
+-- A consumer that is over, and of which no Give was refused, has no batch that was handed over and not given.
 pub settles : (made : Tenancy) (past : Past) → was_refused made past ≡ false → SettlesAfter made past
 settles made [] r = tt
 settles made (event ∷ past) r =

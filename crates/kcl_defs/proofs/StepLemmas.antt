@@ -19,7 +19,7 @@ use Rattle.kcl_defs.specs.Lives.{Deal, deals_of, reads_of, reads_in, gives_of, g
 use Rattle.kcl_defs.specs.Lives.{gives_at, gives_after, read_in, give_in, IsInStep, IsLife, IsLifeAmong}
 use Rattle.kcl_defs.proofs.LifeLemmas.{life}
 
--- ---- the reads and gives of a command are those of the phase that gives it
+-- ---- The reads and gives of a command are those of the phase in which it comes next
 
 same_command : (a b : Command) → Some a ≡ Some b → a ≡ b
 same_command a b e = cc
@@ -31,7 +31,7 @@ own_read t position limit answer = ap (λ b. if b then read_in answer else []) (
 own_give : (t : ℕ) (answer : Result Reply Refusal) → gives_of t (command.Give t) answer ≡ give_in answer
 own_give t answer = ap (λ b. if b then give_in answer else 0) (is_itself t)
 
--- what the answer to a command adds
+-- What the answer to a command adds.
 pub record Adds (made : Tenancy) (phase : Phase) (what : Command) (answer : Result Reply Refusal) : Type 0 where
   pub reads : reads_of made.tenure what answer ≡ reads_at phase (Answered answer)
   pub gives : gives_of made.tenure what answer ≡ gives_at phase (Answered answer)
@@ -57,9 +57,9 @@ adds made MarkingEnd counter what answer e =
     adds_as made MarkingEnd _ what answer e (record { reads = refl; gives = refl })
 adds made _ counter what answer e = absurd cc
 
--- ---- steps
+-- ---- Steps
 
--- a command that neither reads nor gives the tenure changes nothing
+-- A command that neither reads nor gives the tenure changes nothing.
 pub others_keep : (deal : Deal) (deals : List Deal) (made : Tenancy) (past : Past)
     → reads_of made.tenure deal.what deal.answer ≡ [] → gives_of made.tenure deal.what deal.answer ≡ 0
     → IsInStep deals made past → IsInStep (deal ∷ deals) made past
@@ -69,7 +69,7 @@ others_keep deal deals made past no_read no_give s =
       gives = ap (λ n. gives_in made.tenure deals + n) no_give ∙ plus_none (gives_in made.tenure deals) ∙ s.gives;
     }
 
--- the consumer's own command, whose answer is absorbed
+-- The consumer is still in step after its own command, whose answer it has absorbed.
 pub own_keeps : (deal : Deal) (deals : List Deal) (counter : ℕ) (made : Tenancy) (past : Past)
     → next_command made (phase_after made past) counter ≡ Some deal.what → IsInStep deals made past
     → IsInStep (deal ∷ deals) made (Answered deal.answer ∷ past)
@@ -82,7 +82,7 @@ own_keeps deal deals counter made past next s =
           ∙ ap (λ n. gives_after made past + n) a.gives;
     }
 
--- a call or a loss is no command
+-- A call or a loss adds no read and no give.
 called_reads : (phase : Phase) (asked : Ask) → (reads_at phase (Called asked) ≡ [])
     × (gives_at phase (Called asked) ≡ 0) × (reads_at phase Losing ≡ []) × (gives_at phase Losing ≡ 0)
 called_reads (Filling reach waiting) asked = (refl, refl, refl, refl)
@@ -108,9 +108,9 @@ pub lost_keeps : (deals : List Deal) (made : Tenancy) (past : Past) → IsInStep
 lost_keeps deals made past s =
     let n = called_reads (phase_after made past) ask.None in silent deals made Losing past n.2 n.3 s
 
--- ---- what follows
+-- ---- What follows
 
--- the calls are the given reads of the tenure
+-- The calls are those for the given reads of the tenure.
 pub life_among : (deals : List Deal) (made : Tenancy) (past : Past) → IsInStep deals made past
     → IsLifeAmong deals made (calls_after made past)
 life_among deals made past s =
@@ -118,9 +118,9 @@ life_among deals made past s =
     let Q : ℕ → Type 0 = λ n. IsLife made (reads_after made past) n (calls_after made past) in
     subst P (sym s.reads) (subst Q (sym s.gives) (life made past))
 
--- ---- a history
+-- ---- A history
 
--- a turn of another actor is none of these commands
+-- A turn of another actor adds no command to the actor's.
 pub others_turn : (by : ℕ) (turn : Turn) (h : List Turn) → (turn.by == by) ≡ false
     → deals_of by (turn ∷ h) ≡ deals_of by h
 others_turn by turn h other =

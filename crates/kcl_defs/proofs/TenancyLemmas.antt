@@ -41,9 +41,9 @@ use Rattle.kcl_defs.proofs.DealLemmas.{unborn}
 use Rattle.kcl_defs.proofs.WorkerLemmas.{all_append, all_event, all_filter, all_first, all_map, all_with_known}
 use Rattle.kcl_defs.proofs.WorkerLemmas.{all_without}
 
--- ---- a tenure of the journal keeps its actor, its key and its start
+-- ---- A tenure of the journal keeps its actor, its key and its start
 
--- the tenure is this actor's, of this key, from this start
+-- The tenure is the actor's, and has this key and this start.
 abbrev pub TenureIs : ℕ → Tenancy → Option TenureState → Type 0
 TenureIs by made None = ⊥
 TenureIs by made (Some T) = (T.by ≡ by) × (T.key ≡ made.key) × (T.start ≡ made.start)
@@ -57,7 +57,7 @@ kept_map f by_same key_same start_same by made o false h = h
 kept_map f by_same key_same start_same by made None true h = h
 kept_map f by_same key_same start_same by made (Some T) true h = (by_same T ∙ h.0, key_same T ∙ h.1, start_same T ∙ h.2)
 
--- a tenure that is there isn't begun again
+-- An existing tenure isn't begun again.
 taken_again : (log : Journal) (by t : ℕ) (made : Tenancy) (o : Option TenureState) (b : Bool)
     → (t == taken_count log + 1) ≡ b → TenureIs by made (tenure log t)
     → TenureIs by made (cond b o (tenure log t))
@@ -89,9 +89,9 @@ kept_lines [] log by t made h = h
 kept_lines (line ∷ lines) log by t made h =
     kept_lines lines (line ∷ log) by t made (kept_at log line line.what by t made h)
 
--- ---- an accepted Take begins it
+-- ---- An accepted Take begins a tenure
 
--- this command began the tenure
+-- The command began the tenure.
 pub record IsTaken (made : Tenancy) (what : Command) (answer : Result Reply Refusal) : Type 0 where
   pub counter : ℕ
   pub owner : ℕ
@@ -99,7 +99,7 @@ pub record IsTaken (made : Tenancy) (what : Command) (answer : Result Reply Refu
   pub asked : what ≡ command.Take made.key counter owner
   pub taken : answer ≡ Ok (reply.Taken made.tenure now made.start)
 
--- one of these commands did
+-- One of the commands began the tenure.
 abbrev pub IsBegunIn : List Deal → Tenancy → Type 0
 IsBegunIn [] made = ⊥
 IsBegunIn (deal ∷ deals) made = IsTaken made deal.what deal.answer ⊎ IsBegunIn deals made
@@ -171,7 +171,7 @@ tenure_is : (by : ℕ) (h : List Turn) (made : Tenancy) → IsBegunIn (deals_of 
 tenure_is by [] made is = is
 tenure_is by (turn ∷ h) made is = begun_turn by turn h made (turn.by == by) refl (tenure_is by h made) is
 
--- what an accepted Take of the actor begins is a tenure of the history
+-- What an accepted Take of the actor begins is a tenure of the history.
 pub of_tenancy : (by : ℕ) (h : List Turn) (made : Tenancy) → IsBegunIn (deals_of by h) made → IsOfTenure by h made
 of_tenancy by h made is = go (tenure (journal h) made.tenure) refl (tenure_is by h made is)
   where
@@ -179,12 +179,12 @@ of_tenancy by h made is = go (tenure (journal h) made.tenure) refl (tenure_is by
     go None e t = absurd t
     go (Some T) e t = record { state = T; begun = e; own = t.0; key = t.1; start = t.2 }
 
--- ---- the consumers of a worker
+-- ---- The consumers of a worker
 
 abbrev pub IsBegun : List Deal → Known → Type 0
 IsBegun deals k = IsBegunIn deals k.made
 
--- the command of a taking is a Take of its key
+-- The command of a chore that takes a row is a Take of this row's key.
 abbrev pub IsTakeOf : Chore → Command → Type 0
 IsTakeOf (Taking step takes) what = (counter : ℕ) × (owner : ℕ) × (what ≡ command.Take step.key counter owner)
 IsTakeOf _ what = Unit {0}
@@ -193,7 +193,7 @@ abbrev pub IsTakeWaiting : Option Pending → Type 0
 IsTakeWaiting None = Unit {0}
 IsTakeWaiting (Some p) = IsTakeOf p.chore p.what
 
--- each consumer was begun by a command of these
+-- Each consumer was begun by one of the commands `deals`.
 pub record AreBegun (deals : List Deal) (w : WorkerState) : Type 0 where
   pub live : AllByRecursion (IsBegun deals) w.consumers
   pub over : AllByRecursion (IsBegun deals) w.retired
@@ -213,7 +213,7 @@ settle_begun deals w live over waits = record {
   waits = waits;
 }
 
--- ---- the command that is given
+-- ---- The command that is given
 
 consumer_waits : (id : _) (finishing : Bool) (o : Option Command)
     → IsTakeWaiting (pending_of (cond finishing (Finishing id) (Consuming id)) o)
@@ -231,7 +231,7 @@ chore_waits made w (Some (Consuming id)) = consumer_waits id false (consumer_com
 chore_waits made w (Some (Finishing id)) = tt
 chore_waits made w (Some (Freeing h)) = tt
 
--- ---- answers
+-- ---- Answers
 
 survey_begun : (made : WorkerMade) (now : ℕ) (answer : Result Reply Refusal) (deals : List Deal) (w : WorkerState)
     → w.waiting ≡ None
@@ -345,9 +345,9 @@ release_begun deals None w b = b
 release_begun deals (Some r) w b =
     record { live = all_without (IsBegun deals) (id_of_held r.held) w.consumers b.live; over = b.over; waits = b.waits }
 
--- ---- the record
+-- ---- The record
 
--- by the state before
+-- If each consumer was begun before an event, each was begun after it.
 pub state_begun : (made : WorkerMade) (event : WorkerEvent) (w : WorkerState) (deals : List Deal) → AreBegun deals w
     → AreBegun (deals_with event w deals) (after_worker_event made event w)
 state_begun made (Made_call asked) w deals b =
@@ -366,7 +366,7 @@ are_begun made [] = record { live = tt; over = tt; waits = tt }
 are_begun made (event ∷ past) =
     state_begun made event (worker_after made past) (deals_after made past) (are_begun made past)
 
--- so each consumer of a worker is of a tenure of the history that its record tells
+-- Each consumer of a worker is of a tenure of the history that its record tells.
 pub all_tenures : (by : ℕ) (h : List Turn) (xs : List Known) → AllByRecursion (IsBegun (deals_of by h)) xs
     → AllByRecursion (λ k. IsOfTenure by h k.made) xs
 all_tenures by h xs b =
@@ -377,7 +377,7 @@ pub begun_told : (by : ℕ) (h : List Turn) (made : WorkerMade) (past : WorkerPa
 begun_told by h made past told =
     subst (λ deals. AreBegun deals (worker_after made past)) (sym told) (are_begun made past)
 
--- two facts of all
+-- Two facts that hold of all hold together.
 pub all_both : (P Q : Known → Type 0) (xs : List Known) → AllByRecursion P xs → AllByRecursion Q xs
     → AllByRecursion (λ k. P k × Q k) xs
 all_both P Q [] h g = tt

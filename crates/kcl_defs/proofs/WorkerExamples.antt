@@ -48,15 +48,15 @@ row sh owner counter tenure =
       adjacent = None;
     }
 
--- ---- plans
+-- ---- Plans
 
--- a row is missing, and another one's shard is not listed
+-- One row is missing, and the shard of another row isn't listed.
 sync_example : (from : Origin) → sync_plan (key 0 ∷ key 2 ∷ []) (row 0 None 2 0 ∷ row 1 None 4 0 ∷ []) from
     ≡ (Make (key 2) from ∷ Cut (key 1) 4 ∷ [])
 unfolding key row
 sync_example from = refl
 
--- a third of the failover time
+-- A lease is due after a third of the failover time.
 not_yet_due : is_due (record { key = key 0; tenure = 1; counter = 1; since = 1000 }) 4332 10000 ≡ false
 unfolding key
 not_yet_due = refl
@@ -85,7 +85,7 @@ held sh tenure = record { key = key sh; tenure = tenure; counter = 1; since = 0 
 step : ℕ → TakeStep
 step sh = record { key = key sh; counter = 1 }
 
--- five rows of another worker: one is taken from it, and one more, until a fair share is left to it
+-- Another worker has five rows. They are taken from it one by one, until a fair share is left to it.
 steal_first : take_plan nothing_expired 1 [] of_two ≡ (step 0 ∷ [])
 unfolding nothing_expired of_two row key step
 steal_first = refl
@@ -102,7 +102,7 @@ of_two_and_three : List Row
 of_two_and_three = row 0 (Some 3) 1 1 ∷ row 1 (Some 2) 1 2 ∷ row 2 (Some 3) 1 3 ∷ row 3 (Some 2) 1 4
     ∷ row 4 (Some 2) 1 5 ∷ row 5 (Some 3) 1 6 ∷ []
 
--- of two equals the least number
+-- Of two workers with equal loads, the one with the least number loses a row.
 steal_from_least : take_plan nothing_expired 1 [] of_two_and_three ≡ (step 1 ∷ [])
 unfolding nothing_expired of_two_and_three row key step
 steal_from_least = refl
@@ -118,9 +118,9 @@ is_expired_now : is_expired_since first_seen (row 0 (Some 2) 1 1) 10001 10000 �
 unfolding first_seen row key
 is_expired_now = refl
 
--- ---- a worker
+-- ---- A worker
 
--- what a processor asks: the last number of a batch, or its first
+-- What a processor asks for: the last number of a batch, or its first.
 first_number : List Stored → Ask
 first_number [] = ask.None
 first_number (r ∷ batch) = ask.At r.seq
@@ -137,22 +137,22 @@ asked_at last (Some k) = asked_in (phase_of_known k)
     asked_in (Holding reach waiting) = asked_by last (first_batch waiting)
     asked_in _ = ask.None
 
--- the call that is due, if there is one
+-- The call that is due is made, if there is one.
 call_if : WorkerMade → Bool → Option Known → WorkerState → WorkerState
 call_if made last None w = w
 call_if made last (Some k) w = after_called (asked_at last (Some k)) w
 
--- at most so many calls that are due
+-- At most this many due calls are made.
 with_calls : ℕ → WorkerMade → Bool → WorkerState → WorkerState
 with_calls zero made last w = w
 with_calls (suc n) made last w = with_calls n made last (call_if made last (due_known w) w)
 
--- a command and its answer, as they are told
+-- A command and its answer.
 pub record Told : Type 0 where
   pub what : Command
   pub answer : Result Reply Refusal
 
--- a worker and the history around it
+-- A worker, with the history around it.
 pub record Scene : Type 0 where
   pub history : List Turn
   pub worker : WorkerState
@@ -161,7 +161,7 @@ pub record Scene : Type 0 where
 turn_of : ℕ → ℕ → Command → Turn
 turn_of by at what = record { by = by; at = at; what = what }
 
--- a command, its turn, its answer
+-- A command, its turn and its answer.
 turned : WorkerMade → ℕ → ℕ → Scene → WorkerState → Option Pending → Scene
 turned made by now s w None = record s { worker = w }
 turned made by now s w (Some p) =
@@ -172,7 +172,7 @@ turned made by now s w (Some p) =
       told = record { what = p.what; answer = a } ∷ s.told;
     }
 
--- the due calls come first
+-- The due calls come first.
 stepped : WorkerMade → ℕ → Bool → ℕ → Scene → Scene
 stepped made by last now s =
     let w = after_asked made now (with_calls 2 made last s.worker) in turned made by now s w w.waiting
@@ -184,7 +184,7 @@ steps (suc n) made by last now s = steps n made by last now (stepped made by las
 item : ℕ → NewItem
 item hash = record { key = 97 ∷ []; hash = hash; payload = 104 ∷ 105 ∷ [] }
 
--- one shard with two records
+-- One shard has two records.
 shard_of_two : List Turn
 shard_of_two =
     turn_of 0 3000 (command.Put (115 ∷ []) (item 0)) ∷ turn_of 0 3000 (command.Put (115 ∷ []) (item 0))
@@ -196,11 +196,11 @@ w1 = record { name = 1; settings = usual_settings }
 opening_scene : Scene
 opening_scene = record { history = shard_of_two; worker = new_state; told = [] }
 
--- the commands, in order
+-- The commands, in order.
 commands_of : Scene → List Command
 commands_of s = reverse (map (λ t. t.what) s.told)
 
--- a worker makes the row, takes it, reads and gives
+-- A worker makes the row, takes it, reads and gives.
 first_round : commands_of (steps 10 w1 1000 true 3000 opening_scene) ≡ (
     command.Survey ∷ command.MakeLease (key 0) origin.TrimHorizon
     ∷ command.Survey ∷ command.Take (key 0) 0 1 ∷ command.OpenShard 1
@@ -211,7 +211,7 @@ unfolding refuse◌if◌else◌ with◌or◌then◌ commands_of steps stepped tu
     first_number turn_of w1 opening_scene shard_of_two item key
 first_round = refl
 
--- a worker whose rows begin after the records that are there reads none of them, and gives an empty batch
+-- A worker whose rows begin after the existing records reads none of them, and gives an empty batch.
 from_latest : WorkerMade
 from_latest = record { name = 1; settings = record { failover = 10000; limit = 1000; from = origin.Latest } }
 
@@ -229,14 +229,14 @@ newest : List Told → Option Told
 newest [] = None
 newest (t ∷ ts) = Some t
 
--- a processor that asks for its batch's first number gets its mark
+-- A processor that asks for its batch's first number gets its mark.
 first_number_marked : newest (steps 11 w1 1000 false 3000 opening_scene).told
     ≡ Some (record { what = command.Mark 1 1 (target.At 1); answer = Ok (reply.Counter 2) })
 unfolding refuse◌if◌else◌ with◌or◌then◌ newest steps stepped turned with_calls call_if asked_at asked_by first_number
     turn_of w1 opening_scene shard_of_two item key
 first_number_marked = refl
 
--- a second worker of the same name takes the row again, and the first one's mark is refused
+-- A second worker of the same name takes the row again, and the first one's mark is refused.
 restarted : Scene → Scene
 restarted s = record {
   history = (steps 2 w1 1001 true 3000 (record { history = s.history; worker = new_state; told = [] })).history;
@@ -250,7 +250,7 @@ unfolding refuse◌if◌else◌ with◌or◌then◌ newest restarted steps stepp
     first_number turn_of w1 opening_scene shard_of_two item key
 robbed = refl
 
--- after a stop the lease is freed, and then the worker is idle
+-- After a stop the lease is freed, and then the worker is idle.
 stopped : Scene → Scene
 stopped s = record s { worker = after_stop s.worker }
 

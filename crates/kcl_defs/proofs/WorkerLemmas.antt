@@ -40,7 +40,7 @@ use Rattle.kds_defs.specs.declared.command.Turn.{Turn}
 use Rattle.kcl_defs.specs.WorkerLives.{MayHappen, IsOrderly, IsToldIn}
 use Rattle.kcl_defs.proofs.StepLemmas.{others_keep, own_keeps, called_keeps, lost_keeps, life_among}
 
--- ---- how often a tenure is among consumers
+-- ---- How often a tenure is among consumers
 
 abbrev pub times : ℕ → List Known → ℕ
 times t [] = 0
@@ -60,7 +60,7 @@ times-append t (k ∷ xs) ys =
     plus : (a b c d : ℕ) → d ≡ b + c → a + d ≡ (a + b) + c
     plus a b c d h = omega arith
 
--- a test parts a list
+-- A test divides a list into two parts.
 times-parted : (t : ℕ) (p : Known → Bool) (xs : List Known)
     → times t (filter (λ k. not (p k)) xs) + times t (filter p xs) ≡ times t xs
 times-parted t p [] = refl
@@ -112,7 +112,7 @@ times-with_known t k (x ∷ xs) = head (is_before_id (id_of k) (id_of x)) (times
         swap : (a b c d : ℕ) → d ≡ b + c → a + d ≡ b + (a + c)
         swap a b c d h = omega arith
 
--- ---- what holds of all
+-- ---- What holds of all
 
 pub all_append : (P : Known → Type 0) (xs ys : List Known) → AllByRecursion P xs → AllByRecursion P ys
     → AllByRecursion P (xs ++ ys)
@@ -162,13 +162,13 @@ pub all_map : (P Q : Known → Type 0) (xs : List Known) → ((k : Known) → P 
 all_map P Q [] f h = tt
 all_map P Q (x ∷ xs) f h = (f x h.0, all_map P Q xs f h.1)
 
--- ---- what a command is about
+-- ---- What a command is about
 
--- it reads and gives no tenure
+-- The command reads and gives no tenure.
 abbrev pub IsQuiet : Command → Type 0
 IsQuiet what = (u : ℕ) (a : Result Reply Refusal) → (reads_of u what a ≡ []) × (gives_of u what a ≡ 0)
 
--- none but this one
+-- The command reads and gives no other tenure than this one.
 abbrev pub IsAbout : ℕ → Command → Type 0
 IsAbout t what = (u : ℕ) → (u == t) ≡ false → (a : Result Reply Refusal) → (reads_of u what a ≡ [])
     × (gives_of u what a ≡ 0)
@@ -193,7 +193,7 @@ about made (Marking reach waiting to) counter what e = about_as made.tenure _ wh
 about made MarkingEnd counter what e = about_as made.tenure _ what e (λ u n a. (refl, refl))
 about made _ counter what e = absurd cc
 
--- ---- commands of one consumer
+-- ---- Commands of one consumer
 
 no_more : (m : ℕ) → 1 + m ≡ 0 → ⊥
 no_more m n = omega arith
@@ -201,7 +201,7 @@ no_more m n = omega arith
 rest_none : (m : ℕ) → 0 + m ≡ 0 → m ≡ 0
 rest_none m n = omega arith
 
--- consumers of other tenures keep
+-- Consumers of other tenures stay in step.
 pub others : (t : ℕ) (deal : Deal) (deals : List Deal) (xs : List Known) → IsAbout t deal.what → times t xs ≡ 0
     → AllByRecursion (InStep deals) xs → AllByRecursion (InStep (deal ∷ deals)) xs
 others t deal deals [] is none h = tt
@@ -220,7 +220,7 @@ quiet deal deals xs is h =
     all_map (InStep deals) (InStep (deal ∷ deals)) xs (λ k s. let q = is k.made.tenure deal.answer in
     others_keep deal deals k.made k.past q.0 q.1 s) h
 
--- a consumer that is found is there
+-- A consumer that is found is in the list.
 pub found_times : (id : LeaseId) (k : Known) (xs : List Known) → known_of id xs ≡ Some k → 1 ≤ times id.tenure xs
 found_times id k [] h = absurd cc
 found_times id k (x ∷ xs) h = head (same_id (id_of x) id) refl h (λ g. found_times id k xs g)
@@ -238,7 +238,7 @@ found_times id k (x ∷ xs) h = head (same_id (id_of x) id) refl h (λ g. found_
         (both_right _ (x.made.tenure == id.tenure) e)
     head false e g rest = at_least (if x.made.tenure == id.tenure then 1 else 0) (times id.tenure xs) 0 (rest g)
 
--- the consumer's command and its answer
+-- The consumers are in step after a consumer's command and its answer.
 own : (id : LeaseId) (deal : Deal) (deals : List Deal) (k : Known) (counter : ℕ) (xs : List Known)
     → next_command k.made (phase_of_known k) counter ≡ Some deal.what → IsAbout id.tenure deal.what
     → times id.tenure xs ≤ 1 → known_of id xs ≡ Some k → AllByRecursion (InStep deals) xs
@@ -275,9 +275,9 @@ own id deal deals k counter (x ∷ xs) next is once found h =
         let q = is x.made.tenure n.0 deal.answer in
         (others_keep deal deals x.made x.past q.0 q.1 h.0, rest n.1 g)
 
--- ---- what holds of the consumers of a worker
+-- ---- What holds of the consumers of a worker
 
--- this answer began the tenure
+-- The answer began the tenure.
 abbrev pub begins : ℕ → Result Reply Refusal → Bool
 begins t (Ok (reply.Taken tenure counter start)) = tenure == t
 begins t (Ok _) = false
@@ -287,7 +287,7 @@ abbrev pub was_taken : ℕ → List Deal → Bool
 was_taken t [] = false
 was_taken t (deal ∷ deals) = begins t deal.answer || was_taken t deals
 
--- no command before an answer that begins a tenure was about it
+-- No command before an answer that begins a tenure was about this tenure.
 abbrev pub IsNewTenure : Result Reply Refusal → List Deal → Type 0
 IsNewTenure (Ok (reply.Taken tenure counter start)) deals = (was_taken tenure deals ≡ false)
     × (reads_in tenure deals ≡ []) × (gives_in tenure deals ≡ 0)
@@ -298,14 +298,14 @@ abbrev pub AreNewTenures : List Deal → Type 0
 AreNewTenures [] = Unit {0}
 AreNewTenures (deal ∷ deals) = IsNewTenure deal.answer deals × AreNewTenures deals
 
--- each tenure has one consumer at most, and one only if it was begun; each consumer is in step
+-- Each tenure has at most one consumer, and has one only if the tenure was begun. Each consumer is in step.
 pub record AreGood (deals : List Deal) (consumers retired : List Known) : Type 0 where
   pub apart : (t : ℕ) → times t consumers + times t retired ≤ 1
   pub begun : (t : ℕ) → was_taken t deals ≡ false → times t consumers + times t retired ≡ 0
   pub live : AllByRecursion (InStep deals) consumers
   pub over : AllByRecursion (InStep deals) retired
 
--- consumers that are over are retired
+-- `AreGood` holds after the consumers that are over were retired.
 settle_good : (deals : List Deal) (consumers retired : List Known) → AreGood deals consumers retired
     → AreGood deals (filter (λ k. not (is_over k)) consumers) (retired ++ filter is_over consumers)
 settle_good deals consumers retired g = record {
@@ -334,7 +334,7 @@ settle_good deals consumers retired g = record {
         (times t consumers) (times t retired) (times t (retired ++ filter is_over consumers))
         (times-parted t is_over consumers) (times-append t retired (filter is_over consumers)) o
 
--- an event that is no answer
+-- `AreGood` holds after an event that isn't an answer.
 event_good : (deals : List Deal) (test : Known → Bool) (e : Event) (consumers retired : List Known)
     → ((k : Known) → InStep deals k → InStep deals (with_event e k)) → AreGood deals consumers retired
     → AreGood deals (happens_to test e consumers) retired
@@ -360,7 +360,7 @@ lost_good : (deals : List Deal) (test : Known → Bool) (consumers retired : Lis
 lost_good deals test consumers retired g =
     event_good deals test Losing consumers retired (λ k s. lost_keeps deals k.made k.past s) g
 
--- a command that is about no tenure
+-- `AreGood` holds after a command that is about no tenure.
 pub quiet_good : (deal : Deal) (deals : List Deal) (consumers retired : List Known) → IsQuiet deal.what
     → AreGood deals consumers retired → AreGood (deal ∷ deals) consumers retired
 quiet_good deal deals consumers retired is g = record {
@@ -370,7 +370,7 @@ quiet_good deal deals consumers retired is g = record {
   over = quiet deal deals retired is g.over;
 }
 
--- a tenure begins, and has a new consumer
+-- `AreGood` holds after a tenure has begun and has a new consumer.
 taken_good : (deal : Deal) (deals : List Deal) (k : Known) (consumers retired : List Known) → IsQuiet deal.what
     → k.past ≡ [] → ((t : ℕ) → begins t deal.answer ≡ (k.made.tenure == t)) → was_taken k.made.tenure deals ≡ false
     → reads_in k.made.tenure deals ≡ [] → gives_in k.made.tenure deals ≡ 0 → AreGood deals consumers retired
@@ -413,7 +413,7 @@ taken_good deal deals k consumers retired is no_past begun_by new no_read no_giv
         (times-with_known t k consumers ∙ ap (λ b. (if b then 1 else 0) + times t consumers) (sym (begun_by t) ∙ n.0))
         (g.begun t n.1)
 
--- a consumer's own command
+-- `AreGood` holds after a consumer's own command.
 own_good : (id : LeaseId) (deal : Deal) (deals : List Deal) (k : Known) (counter : ℕ) (consumers retired : List Known)
     → next_command k.made (phase_of_known k) counter ≡ Some deal.what → IsAbout id.tenure deal.what
     → known_of id consumers ≡ Some k → AreGood deals consumers retired
@@ -437,9 +437,9 @@ own_good id deal deals k counter consumers retired next is found g = record {
     second_none : (a b : ℕ) → 1 ≤ a → a + b ≤ 1 → b ≡ 0
     second_none a b h g = omega arith
 
--- ---- the command that waits
+-- ---- The command that waits
 
--- a consumer's command, or else one that is about no tenure
+-- The command is that of a consumer, or is about no tenure.
 abbrev pub IsOwnCommand : Chore → Command → WorkerState → Type 0
 IsOwnCommand (Consuming id) what w = consumer_command w (known_of id w.consumers) ≡ Some what
 IsOwnCommand (Finishing id) what w = consumer_command w (known_of id w.consumers) ≡ Some what
@@ -449,7 +449,7 @@ abbrev pub IsWaitingOk : Option Pending → WorkerState → Type 0
 IsWaitingOk None w = Unit {0}
 IsWaitingOk (Some p) w = IsOwnCommand p.chore p.what w
 
--- the consumer of a chore at a stop is giving
+-- The consumer of a chore at a stop has a batch to give.
 abbrev pub IsFinishOk : Option Chore → WorkerState → Type 0
 IsFinishOk (Some (Finishing id)) w = consumer_command w (known_of id w.consumers) ≡ Some (command.Give id.tenure)
 IsFinishOk _ w = Unit {0}
@@ -460,7 +460,7 @@ own_id a b t = grind (arith, nat_tests)
 same_own_id : (k : Known) → same_id (id_of k) (id_of k) ≡ true
 same_own_id k = own_id k.made.key.stream k.made.key.shard k.made.tenure
 
--- the first that passes a test is found by its id
+-- The first consumer that passes a test is found by its id.
 finds : (p : Known → Bool) (k : Known) (xs : List Known) → times k.made.tenure xs ≤ 1 → find p xs ≡ Some k
     → (known_of (id_of k) xs ≡ Some k) × (p k ≡ true) × (1 ≤ times k.made.tenure xs)
 finds p k [] once h = absurd cc
@@ -521,7 +521,7 @@ found_tenure id k (x ∷ xs) h = head (same_id (id_of x) id) refl h (λ g. found
         ∙ equal_so x.made.tenure id.tenure (both_right _ (x.made.tenure == id.tenure) e)
     head false e g rest = rest g
 
--- ---- what holds along the record
+-- ---- What holds along the record
 
 pub record IsFine (deals : List Deal) (w : WorkerState) : Type 0 where
   pub good : AreGood deals w.consumers w.retired
@@ -534,7 +534,7 @@ apart_consumers deals w g t = first_le (times t w.consumers) (times t w.retired)
     first_le : (a b : ℕ) → a + b ≤ 1 → a ≤ 1
     first_le a b h = omega arith
 
--- the next chore
+-- The next chore of a consumer isn't one of a stop.
 finish_consumers : (w : WorkerState) (o : Option Known) → IsFinishOk (Some (consumer_chore o)) w
 finish_consumers w None = tt
 finish_consumers w (Some k) = tt
@@ -593,7 +593,7 @@ pending_ok made w (Some (Consuming id)) f = pending_consumer w id (consumer_comm
 pending_ok made w (Some (Finishing id)) f = f
 pending_ok made w (Some (Freeing h)) f = λ u a. (refl, refl)
 
--- ---- events
+-- ---- Events
 
 settle_fine : (deals : List Deal) (w : WorkerState) → w.waiting ≡ None → AreGood deals w.consumers w.retired
     → IsFine deals (settled w)
@@ -614,7 +614,7 @@ stop_fine deals w none f =
     settle_fine deals (record w { round = AtStopping; consumers = happens_to (λ k. true) Losing w.consumers }) none
     (lost_good deals (λ k. true) w.consumers w.retired f.good)
 
--- a consumer leaves
+-- A fact about all consumers still holds after one has left.
 pub all_without : (P : Known → Type 0) (id : LeaseId) (xs : List Known) → AllByRecursion P xs
     → AllByRecursion P (without_known id xs)
 all_without P id [] h = tt
@@ -665,7 +665,7 @@ release_fine deals (Some r) w none f = record {
   waits = subst (λ o. IsWaitingOk o (without_release (Some r) w)) (sym none) tt;
 }
 
--- the answer to a consumer's command
+-- `AreGood` holds after the answer to a consumer's command.
 consumer_good : (id : LeaseId) (deal : Deal) (deals : List Deal) (w : WorkerState) (o : Option Known)
     → known_of id w.consumers ≡ o → consumer_command w o ≡ Some deal.what → AreGood deals w.consumers w.retired
     → AreGood (deal ∷ deals) (consumed id deal.answer w.consumers) w.retired
@@ -725,7 +725,7 @@ take_none made now step (Ok (reply.Taken tenure counter start)) w none = none
 take_none made now step (Ok _) w none = none
 take_none made now step (Err r) w none = none
 
--- the answer to the command that waits
+-- `IsFine` holds after the answer to the command that waits.
 chore_fine : (made : WorkerMade) (now : ℕ) (answer : Result Reply Refusal) (deals : List Deal) (chore : Chore)
     (what : Command) (w : WorkerState) → w.waiting ≡ None → IsOwnCommand chore what w → IsNewTenure answer deals
     → AreGood deals w.consumers w.retired
@@ -798,7 +798,7 @@ asked_fine made now deals w f = record {
       (pending_ok made w (chore_at made now w) (finish_chore deals made.settings.failover now w w.round f.good));
 }
 
--- what the deals of a record begin with are deals of the record before
+-- If the tenures of a longer record are new, so are those of the record before.
 pub new_before : (event : WorkerEvent) (w : WorkerState) (deals : List Deal) → AreNewTenures (deals_with event w deals)
     → AreNewTenures deals
 new_before (Got_answer now answer) w deals h = before w.waiting h
@@ -811,7 +811,7 @@ new_before (Gave_command now) w deals h = h
 new_before Stopped w deals h = h
 new_before (Released key) w deals h = h
 
--- by the state before
+-- If `IsFine` holds before an event, it holds after it.
 pub state_fine : (made : WorkerMade) (event : WorkerEvent) (w : WorkerState) (deals : List Deal)
     → MayHappen made event w → AreNewTenures (deals_with event w deals) → IsFine deals w
     → IsFine (deals_with event w deals) (after_worker_event made event w)
@@ -838,7 +838,7 @@ fine made (event ∷ past) orderly new =
     event_fine made event past orderly.0 new
     (fine made past orderly.1 (new_before event (worker_after made past) (deals_after made past) new))
 
--- the processors of a worker's consumers are called for the given reads among its commands
+-- The processors of a worker's consumers are called for the given reads among its commands.
 live_among : (made : WorkerMade) (past : WorkerPast) → IsOrderly made past → AreNewTenures (deals_after made past)
     → AllByRecursion (λ k. IsLifeAmong (deals_after made past) k.made (calls_after k.made k.past))
     (worker_after made past).consumers
@@ -846,7 +846,7 @@ live_among made past orderly new =
     all_map (InStep (deals_after made past)) _ (worker_after made past).consumers
     (λ k s. life_among (deals_after made past) k.made k.past s) (fine made past orderly new).good.live
 
--- and so in each history in which these are the actor's turns
+-- The same holds in each history in which these commands are the actor's turns.
 pub live_served : (by : ℕ) (h : List Turn) (made : WorkerMade) (past : WorkerPast) → IsOrderly made past
     → IsToldIn by h made past → AreNewTenures (deals_of by h)
     → AllByRecursion (λ k. IsLifeIn by h k.made (calls_after k.made k.past)) (worker_after made past).consumers

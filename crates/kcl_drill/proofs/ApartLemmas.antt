@@ -1,4 +1,4 @@
--- The lines that a command of the stream service adds depend on the stream lines alone, clocks aside.
+-- The lines that a command of the stream service adds depend only on the stream lines, without their clocks.
 use Rattle.std.proofs.Common.{◌≡◌, ℕ, ◌+◌, ◌<◌, ◌≤◌, max, Bool, true, false, List, [], ◌∷◌, length, Option, Some, None}
 use Rattle.std.proofs.Common.{refl, sym, ap, subst, ◌∙◌, arith}
 use Rattle.std.specs.Prelude.{◌==◌, ◌&&◌, ◌||◌, not, nat_le, nat_lt, map, cond, is_some, if◌then◌else◌}
@@ -36,7 +36,7 @@ use Rattle.kcl_drill.proofs.Readings.{enforced_same, forget, kept, made_count_sa
 use Rattle.kcl_drill.proofs.Readings.{home_same, length_same, range_same, open_same, live_same, named_same}
 use Rattle.kcl_drill.proofs.Readings.{open_count_same, IsYoung, young_if_legal, listed_same}
 
--- ---- two decisions that add the same lines, clocks aside
+-- ---- Two decisions that add the same lines, clocks aside
 
 pub AddsSame : (ℕ → ℕ) → Decision → Decision → Type 0
 AddsSame f d d' = map (forget f) (lines_of d) ≡ map (forget f) (lines_of d')
@@ -69,9 +69,9 @@ unfolding AddsSame
 queries_same f log log' c c' by by' what query =
     ap (map (forget f)) (query_idle log c by what query ∙ sym (query_idle log' c' by' what query))
 
--- ---- no limits are on
+-- ---- No limits are on
 
--- of no stream
+-- No stream has its limits on.
 abbrev pub IsCalm : Journal → Type 0
 IsCalm log = (s : ℕ) → is_enforced log s ≡ false
 
@@ -82,12 +82,12 @@ not_held log c s item calm =
 calm_kept : (f : ℕ → ℕ) (log : Journal) → IsCalm log → IsCalm (kept f log)
 calm_kept f log calm = λ s. sym (enforced_same f log s) ∙ calm s
 
--- ---- puts
+-- ---- Puts
 
 abbrev put_next : Journal → ℕ → ℕ → ℕ → NewItem → Line
 put_next log c by s item = put_line log c by s (next_number log s) item
 
--- the line of a put at clock 0
+-- The line of a put at clock 0.
 abbrev bare_put : ℕ → ℕ → ℕ → ℕ → NewItem → Line
 bare_put by s sh n item = record {
   clock = 0;
@@ -97,7 +97,7 @@ bare_put by s sh n item = record {
   payload = item.payload;
 }
 
--- the lines of an item that isn't held back, and of those that follow
+-- The lines of an item that isn't held back, and of the items that follow.
 taken : (log : Journal) (c by s : ℕ) (item : NewItem) (items : List NewItem) → IsCalm log
     → put_lines log c by s (item ∷ items) ≡ put_next log c by s item
     ∷ put_lines (put_next log c by s item ∷ log) c by s items
@@ -107,7 +107,7 @@ taken log c by s item items calm =
     (not_held log c s item calm)
 
 module _ (f : ℕ → ℕ) (c by by' : ℕ) (alike : f by ≡ by') (again : f by ≡ f by') where
-  -- the line that a put adds, with what is kept of its actor
+  -- The line that a put adds, with what `f` keeps of its actor.
   line_by : (log : Journal) (s n : ℕ) (item : NewItem) → f by ≡ n
       → forget f (put_next log c by s item)
       ≡ bare_put n s (home (kept f log) s item.hash) (next_number (kept f log) s) item
@@ -139,7 +139,7 @@ module _ (f : ℕ → ℕ) (c by by' : ℕ) (alike : f by ≡ by') (again : f by
 same_length : (f : ℕ → ℕ) (ls ls' : List Line) → map (forget f) ls ≡ map (forget f) ls' → length ls ≡ length ls'
 same_length f ls ls' is = sym (length-map ls (forget f)) ∙ ap length is ∙ length-map ls' (forget f)
 
--- ---- the commands that write
+-- ---- The commands that write
 
 abbrev line_of : ℕ → Entry → Journal
 line_of by e = plain_line 0 by e ∷ []
@@ -238,9 +238,9 @@ module _ (f : ℕ → ℕ) (log : Journal) (c by by' : ℕ) (young : IsYoung log
   decide_same (command.Keep name wanted raise) is basic = in_stream_same name _ _ (λ s. keep_same s wanted raise)
   decide_same what is basic = queries_same f log (kept f log) c 0 by by' what cc
 
--- ---- the kind of the lines that a command adds
+-- ---- The kind of the lines that a command adds
 
--- the line is of a stream, or is not; and it turns no limits on or off
+-- The line is of a stream, or isn't, and doesn't turn limits on or off.
 abbrev IsOf : Bool → Line → Type 0
 IsOf b l = (is_stream_entry l.what ≡ b) × ((s : ℕ) (on : Bool) → enforced_after l.what s on ≡ on)
 
@@ -253,7 +253,7 @@ kind log c by _ _ (Alone _ _ _ (Creates name count fits)) basic = (refl, λ s on
 kind log c by _ _ (Alone _ _ _ (Enforces name is s named)) basic = absurd cc
 kind log c by _ _ _ basic = (refl, λ s on. refl)
 
--- a basic command adds lines of its own kind
+-- A basic command adds lines of its own kind.
 adds_kind : (log : Journal) (c by : ℕ) (what : Command) → is_basic what ≡ true
     → AreOf (is_service what) (lines_of (decide log c by what))
 adds_kind log c by what basic =
@@ -269,7 +269,7 @@ lease_adds : (log : Journal) (c by : ℕ) (what : Command) → is_service what �
 lease_adds log c by what is =
     subst (λ b. AreOf b (lines_of (decide log c by what))) is (adds_kind log c by what (lease_basic what is))
 
--- lines of streams are added to the stream lines, and others are not
+-- Lines of streams are added to the stream lines, and other lines aren't.
 adds_lines : (f : ℕ → ℕ) (ls : List Line) (log : Journal) → AreOf true ls
     → kept f (with_lines ls log) ≡ with_lines (map (forget f) ls) (kept f log)
 adds_lines f [] log are = refl
@@ -288,27 +288,27 @@ calm_lines : (b : Bool) (ls : List Line) (log : Journal) → AreOf b ls → IsCa
 calm_lines b [] log are calm = calm
 calm_lines b (line ∷ ls) log are calm = calm_lines b ls (line ∷ log) are.1 (λ s. are.0.1 s (is_enforced log s) ∙ calm s)
 
--- ---- all turns
+-- ---- All turns
 
--- a command with what is kept of its actor
+-- A command, with what is kept of its actor.
 pub record Asked : Type 0 where
   pub by : ℕ
   pub what : Command
 
--- what the turns of a history ask, and its actors so far as f keeps them
+-- The commands of the turns of a history for the service, with what `f` keeps of their actors.
 abbrev pub asked : (ℕ → ℕ) → List Turn → List Asked
 asked f h = map (λ turn. record { by = f turn.by; what = turn.what }) (service_turns h)
 
--- the stream lines that these leave
+-- The stream lines that these commands leave.
 abbrev left_by : (ℕ → ℕ) → List Asked → Journal
 left_by f [] = []
 left_by f (a ∷ more) = with_lines (map (forget f) (lines_of (decide (left_by f more) 0 a.by a.what))) (left_by f more)
 
--- what is known of the journal of each history
+-- What is known of the journal of each history.
 abbrev pub Reaches : Type 0
 Reaches = (h : List Turn) → IsHistory h → IsReached (journal h) (clock h)
 
--- a turn with a basic command turns no limits on
+-- A turn with a basic command doesn't turn limits on.
 calm_turn : (turn : Turn) (h : List Turn) → is_basic turn.what ≡ true → IsCalm (journal h) → IsCalm (journal (turn ∷ h))
 calm_turn turn h basic calm = either (is_service turn.what) refl
   where
@@ -330,7 +330,8 @@ module _ (reaches : Reaches) (f : ℕ → ℕ) (once : (n : ℕ) → f n ≡ f (
       let reached = reaches h lawful in
       young_if_legal (journal h) reached.legal (omega (arith, reached.order, below))
 
-  -- a turn of the service adds what its command adds to the stream lines alone, and one of the leases nothing
+  -- A turn of the service adds what its command adds to the stream lines alone, and a turn on leases adds no stream
+  -- line.
   service_turn : (turn : Turn) (h : List Turn) → IsHistory h → AreBasic (turn ∷ h) → clock (turn ∷ h) < LEAST_RETENTION
       → is_service turn.what ≡ true
       → kept f (journal (turn ∷ h))
@@ -366,14 +367,14 @@ module _ (reaches : Reaches) (f : ℕ → ℕ) (once : (n : ℕ) → f n ≡ f (
           ∙ ap (λ S. with_lines (map (forget f) (lines_of (decide S 0 (f turn.by) turn.what))) S) so
       either false is so = lease_turn turn h is ∙ so
 
-  -- two histories that ask the service the same leave the same stream lines
+  -- Two histories with the same commands for the service leave the same stream lines.
   pub same_left : (h h' : List Turn) → IsHistory h → IsHistory h' → AreBasic h → AreBasic h' → clock h < LEAST_RETENTION
       → clock h' < LEAST_RETENTION
       → asked f h ≡ asked f h' → kept f (journal h) ≡ kept f (journal h')
   same_left h h' lawful lawful' basic basic' below below' is =
       left h lawful basic below ∙ ap (left_by f) is ∙ sym (left h' lawful' basic' below')
 
--- ---- the turns of the service alone
+-- ---- The turns of the service alone
 
 pub lawful_service : (h : List Turn) → IsHistory h → IsHistory (service_turns h)
 lawful_service h lawful = all_filter IsLawful (λ turn. is_service turn.what) h lawful

@@ -1,4 +1,4 @@
--- The turns of a drill ask the stream service what its generator gives, in that order.
+-- The commands of a drill's turns for the stream service are those of its generator, in order.
 use Rattle.std.proofs.Common.{◌≡◌, ℕ, suc, ◌+◌, Bool, true, false, List, [], ◌∷◌, ◌++◌, length, refl, sym, ap, subst}
 use Rattle.std.proofs.Common.{◌∙◌, arith}
 use Rattle.std.specs.Prelude.{◌==◌, cond, reverse}
@@ -16,9 +16,9 @@ use Rattle.kcl_drill.specs.Fed.{IsFed, commands_in, is_by, turns_by}
 use Rattle.kcl_drill.specs.Generated.{drill_name, first_open, from_record, generated}
 use Rattle.kcl_drill.proofs.Inner.{IsInner, all_reverse, generated_inner}
 
--- ---- filtered lists
+-- ---- Filtered lists
 
--- of one element in a list of one, nothing stands around it
+-- If one element is in a list of one, nothing stands around it.
 none_around : (xs : List Turn) (x : Turn) (ys : List Turn) → length (xs ++ x ∷ ys) ≡ 1 → (xs ≡ []) × (ys ≡ [])
 none_around xs x ys is =
     let n : length (xs ++ x ∷ ys) ≡ length xs + suc (length ys) = length-append xs (x ∷ ys) in
@@ -29,7 +29,7 @@ none_by : (b : Bool) (p : Turn → Bool) (x : Turn) (xs : List Turn) → p x ≡
 none_by true p x xs is none = absurd cc
 none_by false p x xs is none = (is, none)
 
--- ---- which turns ask the service
+-- ---- Which turns are for the service
 
 abbrev OnLeases : ℕ → ℕ → Turn → Type 0
 OnLeases root feeder turn = (turn.by == root) ≡ false → (turn.by == feeder) ≡ false → is_service turn.what ≡ false
@@ -42,7 +42,7 @@ all_right : (P : Turn → Type 0) (xs ys : List Turn) → AllByRecursion P (xs +
 all_right P [] ys are = are
 all_right P (x ∷ xs) ys are = all_right P xs ys are.1
 
--- where the root made none of them, those are the feeder's
+-- If the root made none of the turns, those for the service are the feeder's.
 fed_alone : (root feeder : ℕ) (ts : List Turn) → turns_by root ts ≡ [] → AllByRecursion (OnLeases root feeder) ts
     → AllByRecursion (λ turn. is_service turn.what ≡ true) (turns_by feeder ts) → service_turns ts ≡ turns_by feeder ts
 fed_alone root feeder [] none others are = refl
@@ -60,7 +60,7 @@ fed_alone root feeder (turn ∷ ts) none others are =
     either false is not_root are so =
         ap (λ b. cond b (turn ∷ service_turns ts) (service_turns ts)) (others.0 not_root is) ∙ so are
 
--- ---- the commands of the generator ask the service
+-- ---- The commands of the generator are for the service
 
 inner_service : (what : Command) → IsInner what → is_service what ≡ true
 inner_service (command.Put name item) is = refl
@@ -77,7 +77,7 @@ services_of ts commands is are = by ts (subst (AllByRecursion IsInner) (sym is) 
     by [] are = tt
     by (turn ∷ ts) are = (inner_service turn.what are.0, by ts are.1)
 
--- ---- the order
+-- ---- The order
 
 same_head : (a b : Command) → a ∷ [] ≡ b ∷ [] → a ≡ b
 same_head a b is = cc (is)

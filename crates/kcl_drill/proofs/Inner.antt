@@ -1,4 +1,4 @@
--- A generator's commands after the first put, split and merge; all of them are basic.
+-- A generator's commands after the first one put, split and merge. All of the generator's commands are basic.
 use Rattle.std.proofs.Common.{◌≡◌, ℕ, zero, suc, ◌+◌, Bool, true, false, List, [], ◌∷◌, Option, Some, None, refl, sym}
 use Rattle.std.proofs.Common.{subst}
 use Rattle.std.specs.Prelude.{map, cond, reverse}
@@ -16,7 +16,7 @@ use Rattle.kcl_drill.specs.Apart.{AreBasic, is_basic, service_turns}
 use Rattle.kcl_drill.specs.Generated.{Opens, draw, drill_name, first_open, generated, from_record, plan, opens_then}
 use Rattle.kcl_drill.specs.Generated.{with_plan}
 
--- the command puts, splits or merges
+-- The command puts, splits or merges.
 abbrev pub IsInner : Command → Type 0
 IsInner (command.Put name item) = Unit {0}
 IsInner (command.Split name sh at) = Unit {0}
@@ -43,7 +43,7 @@ all_reverse (x ∷ xs) are =
     subst (AllByRecursion IsInner) (sym (reverse-append (x ∷ []) xs))
     (all_append IsInner (reverse xs) (x ∷ []) (all_reverse xs are.1) (are.0, tt))
 
--- ---- a history in which the service is asked what a generator gives
+-- ---- A history in which the service gets a generator's commands
 
 inner_basic : (what : Command) → IsInner what → is_basic what ≡ true
 inner_basic (command.Put name item) is = refl
@@ -67,7 +67,7 @@ turns_basic : (ts : List Turn) → AreBasicCommands (map (λ turn. turn.what) ts
 turns_basic [] are = tt
 turns_basic (turn ∷ ts) are = (are.0, turns_basic ts are.1)
 
--- a command that does not ask the service is basic
+-- A command that isn't for the service is basic.
 pub lease_basic : (what : Command) → is_service what ≡ false → is_basic what ≡ true
 lease_basic (command.Scale name target) is = cc
 lease_basic _ is = cc

@@ -25,9 +25,9 @@ use Rattle.kcl_drill.proofs.Inner.{IsInner, all_reverse, generated_inner}
 use Rattle.kcl_drill.proofs.Readings.{named_same}
 use Rattle.kcl_drill.proofs.SummedLemmas.{nobody, asked_alone}
 
--- ---- lines and commands within a stream
+-- ---- Lines and commands within a stream
 
--- the line makes and removes no stream
+-- The line makes no stream and removes none.
 abbrev is_inner : Entry → Bool
 is_inner (entry.Put stream shard seq hash bytes key_bytes) = true
 is_inner (entry.Split stream shard at seq low high) = true
@@ -48,7 +48,7 @@ adds_inner : (log : Journal) (c by : ℕ) (what : Command) → IsInner what → 
 adds_inner log c by what is =
     each_line (λ l. is_inner l.what ≡ true) log c by what (λ line added. inner_line log c by what line added is)
 
--- ---- the one stream stays
+-- ---- The one stream stays
 
 record HasDrill (log : Journal) : Type 0 where
   pub made : made_count log ≡ 1
@@ -84,7 +84,7 @@ all_stay (what ∷ commands) are =
     stays (lines_of (decide (journal ts) _ 0 what)) (journal ts) (adds_inner (journal ts) _ 0 what are.0)
     (all_stay commands are.1)
 
--- ---- after the generator's commands
+-- ---- After the generator's commands
 
 named_in : (log : Journal) → HasDrill log → stream_named log drill_name ≡ Some 1
 named_in log has = ap (λ n. find (λ s. same_name (name_of log s) drill_name) (filter (is_live log) (numbers_from 1 n)))

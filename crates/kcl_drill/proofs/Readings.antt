@@ -1,4 +1,4 @@
--- What is read of a journal's streams is read of its stream lines alone, clocks aside.
+-- What is read of a journal's streams depends only on its stream lines, without their clocks.
 use Rattle.std.proofs.Common.{◌≡◌, ◌≢◌, ℕ, ◌+◌, ◌<◌, ◌≤◌, max, Bool, true, false, List, [], ◌∷◌, length, Option, Some}
 use Rattle.std.proofs.Common.{None, refl, sym, ap, ◌∙◌, arith}
 use Rattle.std.specs.Prelude.{◌==◌, ◌*◌, ◌||◌, not, map, cond, slice_get, if◌then◌else◌}
@@ -29,15 +29,15 @@ use Rattle.kcl_drill.proofs.Undated.{split_undated, merged_undated, chosen}
 use Rattle.kcl_drill.proofs.Undated.{open_undated, opens_undated, home_undated, listed_at, listed_undated}
 use Rattle.kcl_drill.specs.Apart.{LEAST_RETENTION, is_stream_entry}
 
--- a line without its clock, and with f of its actor
+-- A line without its clock, and with what `f` keeps of its actor.
 abbrev pub forget : (ℕ → ℕ) → Line → Line
 forget f line = record line { clock = 0; by = f line.by }
 
--- the lines of the streams, so
+-- The lines of the streams, each without its clock and with what `f` keeps of its actor.
 abbrev pub kept : (ℕ → ℕ) → Journal → Journal
 kept f log = map (forget f) (filter (λ line. is_stream_entry line.what) log)
 
--- ---- a reading that goes along the journal
+-- ---- A reading that goes along the journal
 
 module _ {A : Type 0} (f : ℕ → ℕ) (R : Journal → A) (step : Line → A → A) (φ : A → A)
     (along : (line : Line) (log : Journal) → R (line ∷ log) ≡ step line (R log))
@@ -63,7 +63,7 @@ same a = a
 pub no_stream : (e : Entry) (s : ℕ) → is_stream_entry e ≡ false → stream_of e ≢ Some s
 no_stream e s is = of_no_stream e s (of_none (stream_of e) is)
 
--- the next number and the shards of a stream go along the journal together
+-- The next number and the shards of a stream, which are followed along the journal together.
 record Grown : Type 0 where
   pub next : ℕ
   pub all : List ShardState
@@ -88,7 +88,7 @@ grow_other s line g is =
     ap (λ n. record { next = n; all = shards_after line line.what s n g.all }) n
     ∙ ap (λ xs. record { next = g.next; all = xs }) (elsewhere.shards_same line line.what s g.next g.all none)
 
--- each line is below it, with numbers in their ranges
+-- The clock of each line is below `LEAST_RETENTION`, and the numbers of its entry are in their ranges.
 abbrev pub IsYoung : Journal → Type 0
 IsYoung [] = Unit {0}
 IsYoung (line ∷ log) = (line.clock < LEAST_RETENTION) × IsInRange line.what × IsYoung log
@@ -145,7 +145,7 @@ listed_by log c s (Some x) none = ap (λ f. not (not (is_live log s) || is_close
     never true (Some c) = grind (arith, nat_tests)
     never false c = refl
 
--- ---- the readings
+-- ---- The readings
 
 module _ (f : ℕ → ℕ) where
   pub made_count_same : (log : Journal) → made_count log ≡ made_count (kept f log)

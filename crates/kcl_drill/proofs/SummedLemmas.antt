@@ -1,4 +1,4 @@
--- The summary of a drill depends on what the stream service was asked.
+-- The summary of a drill depends on the commands that the stream service got.
 use Rattle.std.proofs.Common.{◌≡◌, ℕ, ◌+◌, ◌<◌, Bool, true, false, List, [], ◌∷◌, length, Option, Some, None, refl, sym}
 use Rattle.std.proofs.Common.{ap, ◌∙◌, arith}
 use Rattle.std.specs.Prelude.{◌==◌, ◌&&◌, not, map, reverse, cond, if◌then◌else◌}
@@ -35,7 +35,7 @@ use Rattle.kcl_drill.proofs.Readings.{both_none, forget, kept, no_stream, reads_
 use Rattle.kcl_drill.proofs.Readings.{untrimmed, young_if_legal}
 use Rattle.kcl_drill.proofs.Undated.{undated_shard, undated_all, open_undated}
 
--- ---- records, of which the moments of their arrivals are left aside
+-- ---- Records, without the moments of their arrivals
 
 abbrev undated_record : Logged → Logged
 undated_record r = record r { arrival = 0 }
@@ -77,7 +77,7 @@ last_records [] = refl
 last_records (r ∷ []) = refl
 last_records (r ∷ q ∷ rs) = last_records (q ∷ rs)
 
--- ---- what is told of a shard at its end
+-- ---- What is told of a shard at its end
 
 final : ShardState → List Logged → Summed
 final x rs = summed x.no rs (final_checkpoint x rs)
@@ -138,7 +138,7 @@ final_kept : (f : ℕ → ℕ) (log : Journal) → final_text (kept f log) ≡ f
 final_kept f log = ap (final_of (kept f log)) (sym (named_same f log drill_name))
     ∙ final_kept_of f log (stream_named log drill_name)
 
--- ---- the summary, where each shard was read to its end
+-- ---- The summary once each shard was read to its end
 
 all_listed : (xs : List ShardState) → listed_among 0 xs ≡ xs
 all_listed [] = refl
@@ -177,7 +177,7 @@ summary_final log c (Some s) is drained none =
     (drained_all log s (listed_shards log c s) (drained s)
     ∙ ap (map (final_at log s)) (listed_all log c s (live_named log drill_name s is) (none s)))
 
--- ---- the commands alone, by nobody at the beginning of time
+-- ---- The commands alone, at moment 0 and by actor 0
 
 abbrev bare : Turn → Turn
 bare turn = record { by = 0; at = 0; what = turn.what }
@@ -225,7 +225,7 @@ bare_turns : (ts : List Turn)
 bare_turns [] = refl
 bare_turns (turn ∷ ts) = ap (λ xs. bare turn ∷ xs) (bare_turns ts)
 
--- a history in which the service was asked what a generator gives leaves what these commands leave
+-- A history in which the service got a generator's commands leaves what these commands alone leave.
 pub asked_alone : Reaches → (h : List Turn) (number count : ℕ) → IsHistory h → clock h < LEAST_RETENTION
     → map (λ turn. turn.what) (service_turns h) ≡ reverse (generated number count)
     → kept nobody (journal h) ≡ kept nobody (journal (turns_of (generated number count)))

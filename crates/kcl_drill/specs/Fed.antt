@@ -1,4 +1,4 @@
--- The turns of a drill, however its passes came after one another.
+-- The turns of a drill, in whatever order its passes took them.
 use Rattle.std.specs.Prelude.{ℕ, ◌<◌, ◌≡◌, Bool, false, ◌==◌, List, [], ◌∷◌, ◌++◌, map, reverse}
 use Rattle.std.specs.List.{AllByRecursion, filter}
 use Rattle.kds_defs.specs.declared.command.Command.{Command}
@@ -14,15 +14,15 @@ use Rattle.kcl_drill.specs.Generated.{drill_name, first_open, from_record, gener
 abbrev pub is_by : ℕ → Turn → Bool
 is_by n turn = turn.by == n
 
--- the turns of an actor
+-- The turns of the actor `n`.
 abbrev pub turns_by : ℕ → List Turn → List Turn
 turns_by n h = filter (is_by n) h
 
 abbrev pub commands_in : List Turn → List Command
 commands_in ts = map (λ turn. turn.what) ts
 
--- The root made the first command, the feeder the others in their order and after the root's, and all other turns
--- are on leases.
+-- The actor `root`, which makes the stream, made the first command. The actor `feeder` made the others in their order
+-- and after the root's, and all other turns are on leases.
 pub record IsFed (number records root feeder : ℕ) (h : List Turn) : Type 0 where
   pub newer : List Turn
   pub first : Turn
@@ -35,7 +35,7 @@ pub record IsFed (number records root feeder : ℕ) (h : List Turn) : Type 0 whe
   pub others : AllByRecursion (λ turn. (turn.by == root) ≡ false → (turn.by == feeder) ≡ false
       → is_service turn.what ≡ false) h
 
--- a history below 24 hours in which the service is asked the generator's commands, in their order
+-- The history is below 24 hours, and its commands for the service are the generator's, in their order.
 pub record IsDrill (h : List Turn) (number records : ℕ) : Type 0 where
   pub lawful : IsHistory h
   pub below : clock h < LEAST_RETENTION

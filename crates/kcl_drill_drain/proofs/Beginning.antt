@@ -1,4 +1,4 @@
--- A row is taken, and its shard opened.
+-- A row is taken, and its shard is opened.
 use Rattle.std.proofs.Common.{◌≡◌, ℕ, ◌+◌, ◌-◌, ◌<◌, ◌≤◌, ◌^◌, max, true, false, List, [], ◌∷◌, ◌++◌, length, Some}
 use Rattle.std.proofs.Common.{refl, sym, ap, subst, ◌∙◌, arith, inl, inr}
 use Rattle.std.specs.Prelude.{◌==◌, min, slice_get, if◌then◌else◌, Result, Ok}
@@ -60,14 +60,14 @@ BegunLaw = (log : Journal) (c d by owner : ℕ) (key : ShardRef) (r : Row) → r
 pub not_last : (n : ℕ) → n < 2 ^ 64 - 1 → (n == last_number) ≡ false
 not_last n below = grind (arith, nat_tests)
 
--- both words for it are one
+-- Both definitions of the shard's end agree.
 pub end_same : (cp : Checkpoint) → base_is_end cp ≡ is_end cp
 end_same TrimHorizon = refl
 end_same (At q) = refl
 end_same ShardEnd = refl
 
 module _ (w : Spot) (at : ℕ) (spot : IsSpot w at) (laws : HasLaws w.history (clock_at w at)) where
-  -- what is left from a place on
+  -- What is left from a position on.
   pub left_is : (p : ℕ) → left_of (journal w.history) (clock_at w at) w.key p
       ≡ from p (records_of (journal w.history) w.key)
   left_is p =
@@ -79,7 +79,7 @@ module _ (w : Spot) (at : ℕ) (spot : IsSpot w at) (laws : HasLaws w.history (c
   pub up : IsUp (start_of (shard_of (journal w.history) w.key)) (records_of (journal w.history) w.key)
   up = up_rising _ _ _ (laws.drawn w.key.stream w.key.shard)
 
-  -- ---- taken
+  -- ---- The row is taken
 
   seen_row : (now : Journal) (r : Row) → AreDrainedTo w.history w.keys w.among w.index now
       → row_in w.among w.key ≡ Some r → (row now w.key ≡ Some r) × IsFresh w.history w.key r
@@ -127,7 +127,7 @@ module _ (w : Spot) (at : ℕ) (spot : IsSpot w at) (laws : HasLaws w.history (c
       }) in
       (taken_count now + 1, r.counter + 1, one.0, one.1)
 
-  -- a row at the end of its shard is drained
+  -- A row at the end of its shard is drained.
   ends_so : (floor : ℕ) (cp : Checkpoint) → is_end cp ≡ true
       → IsStart (shard_of (journal w.history) w.key) (records_of (journal w.history) w.key) floor cp
       → final_of (journal w.history) w.key ≡ cp
@@ -151,7 +151,7 @@ module _ (w : Spot) (at : ℕ) (spot : IsSpot w at) (laws : HasLaws w.history (c
           (ap (option_map (λ (x : Row). x.checkpoint)) f.0
           ∙ ap Some (sym (ends_so r.floor r.checkpoint ends f.1.start)))
 
-  -- ---- opened
+  -- ---- The shard is opened
 
   stays : (before : Journal) (d by : ℕ) (r : Row) (key : ShardRef) → same_key w.key key ≡ false
       → row (taken_line before d by w.key r 1 ∷ before) key ≡ row before key

@@ -1,4 +1,4 @@
--- Once all rows are drained, each listed shard is.
+-- Once all rows are drained, each listed shard is drained.
 use Rattle.std.proofs.Common.{◌≡◌, ℕ, zero, suc, max, Bool, true, false, List, [], ◌∷◌, ◌++◌, length, Some, refl, sym}
 use Rattle.std.proofs.Common.{ap, subst, ◌∙◌, arith}
 use Rattle.std.specs.Prelude.{is_none, not, slice_get, if◌then◌else◌}

@@ -1,4 +1,4 @@
--- The listed keys: each is of a made shard, none stands twice, the shards before one in its stream stand before it, and
+-- The listed keys. Each is of a made shard, none stands twice, the shards before one in its stream stand before it, and
 -- no shard is missing.
 use Rattle.std.proofs.Common.{◌≡◌, ℕ, zero, suc, ◌+◌, ◌<◌, ◌≤◌, Bool, true, false, List, [], ◌∷◌, ◌++◌, length, Some}
 use Rattle.std.proofs.Common.{refl, sym, ap, subst, ◌∙◌, arith, inl, inr}
@@ -18,7 +18,7 @@ use Rattle.kds_defs.specs.Streams.{is_live, numbers_from, trim_floor}
 use Rattle.kds_defs.specs.Tiled.{AreNumbered}
 use Rattle.kcl_drill_drain.specs.Draining.{IsWhole}
 
--- ---- places in joined lists
+-- ---- Places in joined lists
 
 Place : {A : Type 0} → List A → List A → ℕ → A → Type 0
 Place xs ys i x = ((i < length xs) × (slice_get xs i ≡ Some x))
@@ -45,7 +45,7 @@ in_right : {A : Type 0} (xs ys : List A) (j : ℕ) (x : A) → slice_get ys j �
 in_right [] ys j x is = (j, omega arith, is)
 in_right (y ∷ xs) ys j x is = let rest = in_right xs ys j x is in (suc rest.0, omega (arith, rest.1), rest.2)
 
--- ---- the keys of one stream
+-- ---- The keys of one stream
 
 record IsRef (s n i : ℕ) (xs : List ShardState) (key : ShardRef) : Type 0 where
   stream : key.stream ≡ s
@@ -88,7 +88,7 @@ below_there p zero (y ∷ xs) x below is = absurd (omega arith)
 below_there zero (suc i) (y ∷ xs) x below is = (y, refl)
 below_there (suc p) (suc i) (y ∷ xs) x below is = below_there p i xs x (omega arith) is
 
--- ---- the keys of streams
+-- ---- The keys of streams
 
 abbrev pub keys_in : Journal → List ℕ → List ShardRef
 keys_in log [] = []
@@ -123,7 +123,7 @@ filtered p (n ∷ ns) =
     let rest = filtered p ns in
     cond_both (p n) (n ∷ filter p ns) (filter p ns) (AllByRecursion (λ m. p m ≡ true)) (λ is. (is, rest)) (λ not. rest)
 
--- the numbers rise
+-- The numbers rise.
 pub up_numbers : (p : ℕ → Bool) (n count : ℕ) → RiseFrom n (filter p (numbers_from n count))
 up_numbers p n zero = tt
 up_numbers p n (suc count) =
@@ -131,7 +131,7 @@ up_numbers p n (suc count) =
     let rest = up_numbers p (n + 1) count in
     cond_both (p n) (n ∷ ns) ns (RiseFrom n) (λ is. (omega arith, rest)) (λ not. lower n (n + 1) ns (omega arith) rest)
 
--- ---- a key among them
+-- ---- A key among the listed ones
 
 pub record IsKeyOf (log : Journal) (key : ShardRef) : Type 0 where
   pub live : is_live log key.stream ≡ true
@@ -175,7 +175,7 @@ module _ (log : Journal) (numbered : (s : ℕ) → AreNumbered 0 (shards log s))
           omega arith
       either le later (inr at) = let m = later at.0 at.2 in omega arith
 
-  -- the shards before it in its stream stand before it
+  -- The shards before a shard in its stream stand before it among the keys.
   pub older_in : (ss : List ℕ) (i p : ℕ) (key : ShardRef) → p < key.shard → slice_get (keys_in log ss) i ≡ Some key
       → (j : ℕ) × (j < i) × (slice_get (keys_in log ss) j ≡ Some (ref key.stream p))
   unfolding Place
@@ -203,7 +203,7 @@ module _ (log : Journal) (numbered : (s : ℕ) → AreNumbered 0 (shards log s))
           let here = in_right (refs_of s (shards log s)) (keys_in log ss) rest.0 (ref key.stream p) rest.2 in
           (here.0, omega (arith, here.1, at.1, rest.1), here.2)
 
-  -- no key stands twice
+  -- No key stands twice.
   pub unlike_in : (ss : List ℕ) (n i j : ℕ) (a b : ShardRef) → RiseFrom n ss → i < j
       → slice_get (keys_in log ss) i ≡ Some a
       → slice_get (keys_in log ss) j ≡ Some b → (same_key a b ≡ false) × (same_key b a ≡ false)
@@ -240,7 +240,7 @@ module _ (log : Journal) (numbered : (s : ℕ) → AreNumbered 0 (shards log s))
       either later high (inr at) (inl at') = absurd (omega (arith, at.1, at'.0, below))
       either later high (inr at) (inr at') = later at.0 at'.0 (omega (arith, at.1, at'.1, below)) at.2 at'.2
 
-  -- ---- no shard is missing
+  -- ---- No shard is missing
 
   pub IsIn : ℕ → List ℕ → Type 0
   IsIn s [] = ⊥

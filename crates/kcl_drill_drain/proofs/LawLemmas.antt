@@ -21,13 +21,13 @@ use Rattle.kcl_laws.specs.Recorded.{HasFrom}
 use Rattle.kds_defs.specs.Shards.{start_of}
 use Rattle.kcl_laws.proofs.Trims.{made_number}
 
--- a row stands at its shard's end where the shard is closed
+-- A row stands at its shard's end only if the shard is closed.
 pub ended_closed : (log : Journal) → IsLegal log → (c : ℕ) → last_clock log ≤ c → (key : ShardRef) (r : Row)
     → row log key ≡ Some r → r.checkpoint ≡ ShardEnd → is_closed_at (shard_of log key) ≡ true
 ended_closed log legal c le key r there is =
     (subst (CheckpointOk log c key r.floor) is ((all_ok log legal c le).rows key r there).covered).0
 
--- a row from the trim horizon stands so
+-- A row from the trim horizon meets `IsStart`.
 pub starts : (log : Journal) (key : ShardRef) (floor : ℕ) (at : Checkpoint) → floor ≡ start_of (shard_of log key)
     → ((q : ℕ) → at ≡ At q → HasFrom q (records_of log key)) → (at ≡ ShardEnd → is_closed_at (shard_of log key) ≡ true)
     → IsStart (shard_of log key) (records_of log key) floor at
@@ -35,7 +35,7 @@ starts log key floor TrimHorizon first reached ended = first
 starts log key floor (At q) first reached ended = reached q refl
 starts log key floor ShardEnd first reached ended = ended refl
 
--- ---- streams are numbered from 1
+-- ---- Streams are numbered from 1
 
 live_by : (log : Journal) (line : Line) (e : Entry) (reply : Reply) (s : ℕ) → line.what ≡ e
     → told log line e ≡ Accepted (line ∷ []) reply → (is_live log s ≡ true → (1 ≤ s) × (s ≤ made_count log))

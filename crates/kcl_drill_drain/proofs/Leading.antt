@@ -19,7 +19,7 @@ pub own_leases : (by at : ℕ) (more : List Turn) → AreLeased by at more → A
 own_leases by at [] are = tt
 own_leases by at (turn ∷ more) are = (are.0.2, own_leases by at more are.1)
 
--- ---- whatever came of it, the machine has answered turns on leases
+-- ---- Whatever came of the turn, the machine has answered turns on leases
 
 pub leased_on : {E : Type 0} (stands stands' : List Turn → Type 0) (by at : ℕ) (h : List Turn) (what : Command)
     (r : Result (Result Reply Refusal) E) → is_service what ≡ false → IsLawful (turn_of by at what)
@@ -32,7 +32,7 @@ leased_on stands stands' by at h what (Ok a) lease lawful has is kept =
 leased_on stands stands' by at h what (Err e) lease lawful has is kept =
     record { more = has.more; stands_now = kept; are = has.are }
 
--- ---- the answer, and what the turn leaves
+-- ---- The answer, and what the turn leaves
 
 abbrev pub Answered : (List Turn → Type 0) → (List Turn → Type 0) → Turn → Result Reply Refusal → Type 0
 Answered stands stands' turn a = (now : List Turn) → stands now → (a ≡ answer now turn) × stands' (turn ∷ now)
@@ -72,7 +72,7 @@ led stands stands' by at h what a P Q d lease lawful answers l is so =
     led_from stands stands' by at h l.more what a Q d lease lawful answers l.stands_now l.are
     (twice (clock (l.more ++ h)) (clock h) at l.late) is so
 
--- the first of them
+-- The first turn on leases.
 pub led_first : (stands stands' : List Turn → Type 0) (by at : ℕ) (h : List Turn) (what : Command)
     (a : Result Reply Refusal) (Q : Journal → Type 0) (d : Decision)
     → is_service what ≡ false → IsLawful (turn_of by at what) → Answered stands stands' (turn_of by at what) a
@@ -82,7 +82,7 @@ pub led_first : (stands stands' : List Turn → Type 0) (by at : ℕ) (h : List 
 led_first stands stands' by at h what a Q d lease lawful answers now is so =
     led_from stands stands' by at h [] what a Q d lease lawful answers now tt refl is so
 
--- ---- the streams are those of the history before
+-- ---- The streams are those of the history before
 
 pub record IsOver (h : List Turn) (c : ℕ) (log : Journal) : Type 0 where
   pub streams : HasSameStreams log (journal h)
@@ -100,7 +100,7 @@ over stands by at h P laws l =
     le : (n m : ℕ) → n ≡ m → n ≤ m
     le n m is = omega arith
 
--- what holds of the journal may be weakened
+-- What holds of the journal may be weakened.
 pub so_too : (stands : List Turn → Type 0) (by at : ℕ) (h : List Turn) (P Q : Journal → Type 0)
     → (l : Leads stands by at h P) → (P (journal (l.more ++ h)) → Q (journal (l.more ++ h))) → Leads stands by at h Q
 so_too stands by at h P Q l so =

@@ -1,4 +1,4 @@
--- A row is made, where there is none.
+-- A row is made, if there is none.
 use Rattle.std.proofs.Common.{◌≡◌, ℕ, ◌+◌, ◌<◌, ◌^◌, Bool, true, false, List, [], ◌∷◌, ◌++◌, length, Option}
 use Rattle.std.proofs.Common.{Some, None, refl, sym, ap, subst, ◌∙◌, arith, inl, inr}
 use Rattle.std.specs.Prelude.{◌⊎◌, is_some, not, slice_get, if◌then◌else◌, Result}
@@ -33,7 +33,7 @@ use Rattle.kcl_drill_drain.proofs.Leading.{Answered, IsOver, led, over}
 use Rattle.kcl_drill_drain.proofs.Overs.{same_shard}
 use Rattle.kcl_drill_drain.proofs.Spots.{listed, same_here, up_to}
 
--- ---- at the start
+-- ---- At the start
 
 pub made_first : (h : List Turn) (keys : List ShardRef) (c : ℕ) → HasLaws h c
     → AreMade h keys (rows (journal h)) 0 (journal h)
@@ -44,7 +44,7 @@ made_first h keys c laws = record {
   few = laws.tenures;
 }
 
--- once all are made, each waits
+-- Once all rows are made, each of them waits to be drained.
 pub all_wait : (h : List Turn) (keys : List ShardRef) (among : List Row) (log : Journal)
     → AreMade h keys among (length keys) log → AreDrainedTo h keys (rows log) 0 log
 all_wait h keys among log made = record {
@@ -55,7 +55,7 @@ all_wait h keys among log made = record {
   few = omega (arith, made.few);
 }
 
--- ---- one row
+-- ---- One row
 
 module _ (w : Spot) (at : ℕ) (spot : IsSpot w at) (laws : HasLaws w.history (clock_at w at)) where
   origin_is : (log : Journal) (key : ShardRef) → counting_origin log key origin.TrimHorizon ≡ origin.TrimHorizon
@@ -67,7 +67,7 @@ module _ (w : Spot) (at : ℕ) (spot : IsSpot w at) (laws : HasLaws w.history (c
   made_by log before here j key is (inl below) = before j key below is
   made_by log before here j key is (inr same) = subst (HasRow log) (sym (same_here w at spot laws j key same is)) here
 
-  -- where its row is there, one more is
+  -- If the row of the key exists, the rows of one more key are made.
   pub one_made : (log : Journal) → AreMade w.history w.keys w.among w.index log → HasRow log w.key
       → AreMade w.history w.keys w.among (w.index + 1) log
   one_made log made here = record {

@@ -49,7 +49,7 @@ module _ (h : List Turn) (c : ℕ) (log : Journal) (is : IsOver h c log) where
   pub same_keys : listed_in log c (live_streams log) ≡ listed_in (journal h) c (live_streams (journal h))
   same_keys = listed_same (live_streams log) ∙ ap (listed_in (journal h) c) is.streams.live
 
-  -- a made shard of a live stream that isn't closed below the floor is listed
+  -- A made shard of a live stream that isn't closed below the floor is listed.
   pub is_listed_now : (key : ShardRef) (x : ShardState) → is_live (journal h) key.stream ≡ true
       → shard_at (journal h) key.stream key.shard ≡ Some x → is_closed_below (trim_floor (journal h) c key.stream) x
       ≡ false → is_listed_key log c key ≡ true

@@ -73,7 +73,7 @@ abbrev pub MarkedState : Type 0
 MarkedState = (log : Journal) (c : ℕ) (x : Holding) (to : Target) → Holds log x
     → Holds (marked_line c x to ∷ log) (after_mark x to)
 
--- a line that writes no row leaves the others waiting
+-- A line that writes no row leaves the other rows waiting.
 same_others : (w : Spot) (old now : Journal) → ((key : ShardRef) → row now key ≡ row old key)
     → taken_count now ≡ taken_count old → OthersWait w old → OthersWait w now
 same_others w old now rows count others = record {
@@ -83,7 +83,7 @@ same_others w old now rows count others = record {
   few = subst (λ n. n ≤ length w.history + (w.index + 1)) (sym count) others.few;
 }
 
--- ---- a giving
+-- ---- A give
 
 pub gave : (w : Spot) (at : ℕ) (stands stands' : List Turn → Type 0) (by tenure : ℕ) (x : Holding) (r : ReadDone)
     (a : Result Reply Refusal) → GiveLaw → GivenState → at < 2 ^ 62 → x.waiting ≡ r ∷ [] → x.tenure ≡ tenure
@@ -110,7 +110,7 @@ gave w at stands stands' by tenure x r a law state below waits same l answers =
     })).1
 
 module _ (w : Spot) (at : ℕ) (spot : IsSpot w at) (laws : HasLaws w.history (clock_at w at)) where
-  -- ---- a read
+  -- ---- A read
 
   read_is : (now : Journal) (x : Holding) → IsOver w.history (clock_at w at) now → x.key ≡ w.key
       → read_here now (clock_at w at) x READ
@@ -166,7 +166,7 @@ module _ (w : Spot) (at : ℕ) (spot : IsSpot w at) (laws : HasLaws w.history (c
       read_so stands stands' by x held a law state below ready is l answers
   read_result stands stands' by x held (Err e) law state below ready is l answers = tt
 
-  -- ---- a mark
+  -- ---- A mark
 
   pub marked : (stands stands' : List Turn → Type 0) (by tenure counter : ℕ) (to : Target) (x : Holding)
       (a : Result Reply Refusal) → MarkLaw → MarkedState → at < 2 ^ 62 → MayMark x to
@@ -201,7 +201,7 @@ module _ (w : Spot) (at : ℕ) (spot : IsSpot w at) (laws : HasLaws w.history (c
           ap (λ b. if b then option_map (marked_row to) (row now key) else row now key)
           (ap (λ o. is_key o key) s.holds.tenure.took ∙ ap (λ k. same_key k key) s.of_key ∙ other)
 
-  -- ---- what a read brought
+  -- ---- What a read returned
 
   pub data Brought (x : Holding) : Type 0 where
     Nothing : left_of (journal w.history) (clock_at w at) w.key x.place ≡ [] → last_at w at x ≡ None
@@ -272,7 +272,7 @@ module _ (w : Spot) (at : ℕ) (spot : IsSpot w at) (laws : HasLaws w.history (c
   pub brought : (x : Holding) → IsReady w at x → Brought x
   brought x ready = brought_by x (batch_at w at x) refl ready
 
-  -- ---- counters
+  -- ---- Counters
 
   few_counters : (n h left all : ℕ) → n + left ≤ h + 1 + all → all ≤ 500 * h → h < 2 ^ 32 → n < 2 ^ 64 - 1
   few_counters n h left all le le' lt = omega arith
@@ -282,7 +282,7 @@ module _ (w : Spot) (at : ℕ) (spot : IsSpot w at) (laws : HasLaws w.history (c
       (few_counters x.counter (length w.history) _ (length (records_of (journal w.history) w.key)) ready.budget
       (laws.few w.key.stream w.key.shard) spot.can.few)
 
-  -- ---- the row then
+  -- ---- The row after the mark
 
   done_at : (now : Journal) (by : ℕ) (x : Holding) → Stands w by x now
       → final_of (journal w.history) w.key ≡ x.checkpoint → IsDone w.history w.key (row now w.key)
@@ -307,7 +307,7 @@ module _ (w : Spot) (at : ℕ) (spot : IsSpot w at) (laws : HasLaws w.history (c
   none_closed true b e h = absurd (apart b e h)
   none_closed false b e h = refl
 
-  -- where a read brought nothing and didn't end the shard, the shard is open, and its row reads its end
+  -- If a read returned nothing and didn't end the shard, the shard is open, and its row has its final checkpoint.
   pub stopped_final : (x : Holding) → IsReady w at x → left_of (journal w.history) (clock_at w at) w.key x.place ≡ []
       → reach_at w at x ≡ x.place → ended_at w at x ≡ false → final_of (journal w.history) w.key ≡ x.checkpoint
   stopped_final x ready none reach is =
@@ -318,7 +318,7 @@ module _ (w : Spot) (at : ℕ) (spot : IsSpot w at) (laws : HasLaws w.history (c
       (are_none (left_of (journal w.history) (clock_at w at) w.key (reach_at w at x))) (ap are_none left) is)
       ∙ sym (ready.settled none)
 
-  -- ---- the steps
+  -- ---- The steps
 
   abbrev pub MarksOk : (List Turn → Type 0) → (List Turn → Type 0) → ℕ → DrainTenure → Target → ℕ → Type 0
   MarksOk stands stands' by held to n =
@@ -342,7 +342,7 @@ module _ (w : Spot) (at : ℕ) (spot : IsSpot w at) (laws : HasLaws w.history (c
   ended_kept None x = refl
   ended_kept (Some q) x = refl
 
-  -- the mark at the last record, where there is one
+  -- The row is marked at the last record, if there is one.
   pub marks_some : {E : Type 0} (stands stands' : List Turn → Type 0) (by q : ℕ) (held : DrainTenure)
       (result : Result ℕ E) (x : Holding) → Marks stands stands' by at held (target.At q) result → IsReady w at x
       → IsHeld x held → Some q ≡ last_at w at x
@@ -369,7 +369,7 @@ module _ (w : Spot) (at : ℕ) (spot : IsSpot w at) (laws : HasLaws w.history (c
       subst (λ o. ((marked_at o (given_then w at x)).counter == last_number) ≡ false) (sym at_q)
       (some_left (after_mark (given_then w at x) (target.At q)) next)
 
-  -- the end is marked
+  -- The end is marked.
   pub ends : (stands stands' : List Turn → Type 0) (by n : ℕ) (held : DrainTenure) (x : Holding)
       → MarksOk stands stands' by held target.End n → IsReady w at x → ended_at w at x ≡ true
       → IsHeld (marked_then w at x) held
@@ -380,7 +380,7 @@ module _ (w : Spot) (at : ℕ) (spot : IsSpot w at) (laws : HasLaws w.history (c
       drained_at stands' by (after_mark y target.End)
       (marks w y spot may (marked_left x ready (brought x ready)) is.tenure is.counter l).1 (ended_final x ended)
 
-  -- reading goes on
+  -- Reading goes on.
   pub goes_on : (stands : List Turn → Type 0) (by : ℕ) (held : DrainTenure) (x : Holding) → IsReady w at x
       → x.place < held.place → IsHeld (marked_then w at x) held
       → Leads stands by at w.history (Stands w by (marked_then w at x)) → ReadsOn stands w by at held
@@ -397,7 +397,7 @@ module _ (w : Spot) (at : ℕ) (spot : IsSpot w at) (laws : HasLaws w.history (c
       by_brought (Records q at_q next may beyond) =
           subst (λ o. IsReady w at (marked_at o (given_then w at x))) (sym at_q) next
 
-  -- nothing is left in an open shard
+  -- Nothing is left in an open shard.
   pub stops : (stands : List Turn → Type 0) (by : ℕ) (held : DrainTenure) (x : Holding) → IsReady w at x
       → held.place ≤ x.place → ended_at w at x ≡ false → IsHeld (marked_then w at x) held
       → Leads stands by at w.history (Stands w by (marked_then w at x)) → IsDrainedHere stands w by at

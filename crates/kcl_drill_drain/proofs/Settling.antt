@@ -1,5 +1,5 @@
--- Where nothing is left from a place on, the checkpoint is at the last record: at the start of a row, and after each
--- batch that is marked at its last record.
+-- If nothing is left from a position on, the checkpoint is at the last record. This holds at the start of a row, and
+-- after each batch that is marked at its last record.
 use Rattle.std.proofs.Common.{◌≡◌, ℕ, zero, suc, ◌+◌, ◌-◌, ◌<◌, ◌≤◌, max, Bool, true, false, List, [], ◌∷◌, ◌++◌}
 use Rattle.std.proofs.Common.{length, map, Option, Some, refl, sym, ap, subst, ◌∙◌, arith, inl, inr}
 use Rattle.std.specs.Prelude.{nat_le, cond, slice_get}
@@ -17,7 +17,7 @@ use Rattle.kcl_laws.specs.Recorded.{HasFrom}
 use Rattle.kcl_drill_summary.proofs.BatchLemmas.{IsUp, from, all_from, up_weaker, up_from, up_kept, parts, place_up}
 use Rattle.kcl_drill_summary.proofs.BatchLemmas.{from_twice}
 
--- ---- at the start
+-- ---- At the start
 
 none_first : (p : ℕ) (r : Logged) (rs : List Logged) (b : Bool) → nat_le p r.seq ≡ b
     → cond b (r ∷ from p rs) (from p rs) ≡ [] → (r.seq < p) × (from p rs ≡ [])
@@ -43,7 +43,7 @@ settled_at q p (r ∷ s ∷ rs) up (inr has) none =
 pub settled_horizon : (p : ℕ) (rs : List Logged) → IsUp p rs → from 0 rs ≡ [] → TrimHorizon ≡ last_checkpoint rs
 settled_horizon p rs up none = ap last_checkpoint (sym none ∙ all_from 0 rs (up_weaker 0 p rs (omega arith) up))
 
--- ---- after a batch
+-- ---- After a batch
 
 from_head : (p : ℕ) (r : Logged) (rs : List Logged) (x : Logged) (xs : List Logged) (b : Bool) → nat_le p r.seq ≡ b
     → IsUp (r.seq + 1) rs → (from p rs ≡ x ∷ xs → last_checkpoint rs ≡ last_checkpoint (x ∷ xs))
@@ -62,7 +62,7 @@ last_from p m (r ∷ rs) x xs up are =
     from_head p r rs x xs (nat_le p r.seq) refl up.1 (λ so. last_from p (r.seq + 1) rs x xs up.1 so)
     (λ none. ap (from p) none) are
 
--- a batch that is not empty, marked at its last record
+-- If a batch isn't empty and nothing is left after it, its last record is the last record of all.
 settled_batch : (limit room place m : ℕ) (rs : List Logged) (x : Logged) (xs : List Logged) → IsUp m rs
     → beginning limit room (from place rs) ≡ x ∷ xs
     → from (place_after place (numbers_of (beginning limit room (from place rs)))) rs ≡ []
@@ -76,7 +76,7 @@ settled_batch limit room place m rs x xs up is none =
     let all : ls ≡ bs = parts limit room place ls up' ∙ ap (λ ys. bs ++ ys) rest ∙ append-nil bs in
     ap last_checkpoint is ∙ sym (last_from place m rs x xs up (all ∙ is))
 
--- ---- the last record of a batch
+-- ---- The last record of a batch
 
 pub last_seq : Logged → List Logged → ℕ
 last_seq x [] = x.seq

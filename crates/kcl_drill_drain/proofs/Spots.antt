@@ -60,7 +60,7 @@ is_spot h at keys among i key can listed below is few =
     let here = slice_get_read keys (length keys) i key refl below is in
     record { can = can; listed = listed; here = here; few = omega arith }
 
--- ---- the keys of a history
+-- ---- The keys of a history
 
 pub keys_are : (h : List Turn) (at : ℕ)
     → ((s : ℕ) → is_live (journal h) s ≡ true → IsWhole (journal h) (max (clock h) at) s)
@@ -69,7 +69,7 @@ keys_are h at whole =
     keys_same (journal h) (max (clock h) at) (live_streams (journal h)) whole
     (filtered (is_live (journal h)) (numbers_from 1 (made_count (journal h))))
 
--- each shard of a live stream is among them
+-- The key of each shard of a live stream is among the listed ones.
 pub key_there : (h : List Turn) (at : ℕ) (s sh : ℕ) (x : ShardState)
     → ((s : ℕ) → is_live (journal h) s ≡ true → IsWhole (journal h) (max (clock h) at) s) → HasLaws h (max (clock h) at)
     → is_live (journal h) s ≡ true → shard_at (journal h) s sh ≡ Some x
@@ -81,7 +81,7 @@ key_there h at s sh x whole laws live there =
     let found = all_in log laws.numbered (live_streams log) s sh x among there in
     (found.0, ap (λ ks. slice_get ks found.0) (keys_are h at whole) ∙ found.1)
 
--- what is below the next is below this one, or is it
+-- An index below the next one is below this one, or is this one.
 pub up_to : (j i : ℕ) → j < i + 1 → (j < i) ⊎ (j ≡ i)
 up_to j i below = either (nat_lt j i) refl
   where
@@ -111,7 +111,7 @@ module _ (w : Spot) (at : ℕ) (spot : IsSpot w at) (laws : HasLaws w.history (c
   pub whole_is : IsWhole (journal w.history) (clock_at w at) w.key.stream
   whole_is = spot.can.whole w.key.stream key_is.live
 
-  -- the other keys are others
+  -- The keys at other indexes are other keys.
   pub apart : (j : ℕ) (key : ShardRef) → slice_get w.keys j ≡ Some key → (j < w.index) ⊎ (w.index < j)
       → same_key w.key key ≡ false
   apart j key is (inl below) =
@@ -123,20 +123,20 @@ module _ (w : Spot) (at : ℕ) (spot : IsSpot w at) (laws : HasLaws w.history (c
       (up_numbers (is_live (journal w.history)) 1 (made_count (journal w.history))) above
       (in_streams w.index w.key spot.here) (in_streams j key is)).0
 
-  -- the shards before it in its stream stand before it
+  -- The shards before this key's shard in its stream stand before it among the keys.
   pub before : (p : ℕ) → p < w.key.shard → (j : ℕ) × (j < w.index) × (slice_get w.keys j ≡ Some (ref w.key.stream p))
   before p below =
       let o = older_in (journal w.history) laws.numbered (live_streams (journal w.history)) w.index p w.key below
       (in_streams w.index w.key spot.here) in
       (o.0, o.1, ap (λ ks. slice_get ks o.0) all_keys ∙ o.2)
 
-  -- it is listed
+  -- The shard of the key is listed.
   pub listed : (now : Journal) → IsOver w.history (clock_at w at) now → is_listed_key now (clock_at w at) w.key ≡ true
   listed now is = is_listed_now w.history (clock_at w at) now is w.key key_is.state key_is.live key_is.there
       (all_get (λ (x : ShardState). is_closed_below (trim_floor (journal w.history) (clock_at w at) w.key.stream) x
       ≡ false) (shards (journal w.history) w.key.stream) w.key.shard key_is.state whole_is.listed key_is.there)
 
-  -- ---- its parents are past
+  -- ---- The parents of the key's shard are past
 
   ended_row : (o : Option Row) → option_map (λ (r : Row). r.checkpoint) o ≡ Some ShardEnd → reads_end o ≡ true
   ended_row None is = absurd cc
@@ -189,7 +189,7 @@ module _ (w : Spot) (at : ℕ) (spot : IsSpot w at) (laws : HasLaws w.history (c
       plain : (n : ℕ) → 0 + n ≡ n
       plain n = omega arith
 
-  -- ---- the others wait on, while rows of other keys stay
+  -- ---- The others still wait, as long as the rows of other keys stay
 
   pub others_stay : (old now : Journal) → OthersWait w old
       → ((key : ShardRef) → same_key w.key key ≡ false → row now key ≡ row old key) → taken_count now ≡ taken_count old
@@ -215,7 +215,7 @@ module _ (w : Spot) (at : ℕ) (spot : IsSpot w at) (laws : HasLaws w.history (c
   done_by now before here j key is (inr same) =
       subst (λ k. IsDone w.history k (row now k)) (sym (same_here j key same is)) here
 
-  -- with its own row drained, one more is
+  -- Once this key's row is drained, the rows of one more key are drained.
   pub one_more : (now : Journal) → OthersWait w now → IsDone w.history w.key (row now w.key)
       → AreDrainedTo w.history w.keys w.among (w.index + 1) now
   one_more now others here = record {
@@ -224,7 +224,7 @@ module _ (w : Spot) (at : ℕ) (spot : IsSpot w at) (laws : HasLaws w.history (c
     few = others.few;
   }
 
-  -- before its row is drained
+  -- Before this key's row is drained, the others wait.
   pub none_yet : (now : Journal) → AreDrainedTo w.history w.keys w.among w.index now → OthersWait w now
   none_yet now drained = record {
     done = drained.done;

@@ -20,13 +20,13 @@ use Rattle.kcl_drill.specs.Summed.{last_checkpoint}
 use Rattle.kcl_laws.specs.Recorded.{HasFrom}
 use Rattle.kcl_drill_summary.specs.Counting.{AreAbove}
 
--- nothing of the stream is trimmed, and none of its shards is expired
+-- Nothing of the stream is trimmed, and none of its shards is expired.
 pub record IsWhole (log : Journal) (c s : ℕ) : Type 0 where
   pub above : (sh : ℕ) → AreAbove (trim_floor log c s) (records log s sh)
   pub listed : AllByRecursion (λ (x : ShardState). is_closed_below (trim_floor log c s) x ≡ false) (shards log s)
 
--- the history is of fewer than 2^32 turns; at the clock after the moment nothing of a live stream is trimmed or
--- expired; and each row that is there begins at the trim horizon
+-- The history has fewer than 2^32 turns. At the clock after the moment `at`, nothing of a live stream is trimmed or
+-- expired, and the origin of each row is the trim horizon.
 pub record CanDrain (h : List Turn) (at : ℕ) : Type 0 where
   pub lawful : IsHistory h
   pub few : length h < 2 ^ 32
@@ -34,7 +34,7 @@ pub record CanDrain (h : List Turn) (at : ℕ) : Type 0 where
   pub horizon : (key : ShardRef) (r : Row) → row (journal h) key ≡ Some r
       → origin_of (journal h) key ≡ Some origin.TrimHorizon
 
--- ---- the shard of a key
+-- ---- The shard of a key
 
 abbrev pub shard_of : Journal → ShardRef → Option ShardState
 shard_of log key = shard_at log key.stream key.shard
@@ -45,24 +45,24 @@ records_of log key = records log key.stream key.shard
 abbrev pub left_of : Journal → ℕ → ShardRef → ℕ → List Logged
 left_of log c key place = left_from log c key.stream key.shard place
 
--- ---- its row
+-- ---- The row of a key
 
--- where a row may stand: at the trim horizon, with the shard's starting number as its floor; at a number that a record
--- reaches; at the end of a closed shard
+-- Where a row may stand: at the trim horizon, with the shard's starting number as its floor; at a number that isn't
+-- above the last record's; or at the end of a closed shard.
 abbrev pub IsStart : Option ShardState → List Logged → ℕ → Checkpoint → Type 0
 IsStart x rs floor TrimHorizon = floor ≡ start_of x
 IsStart x rs floor (At q) = HasFrom q rs
 IsStart x rs floor ShardEnd = is_closed_at x ≡ true
 
--- the row was not drained yet
+-- The row hasn't been drained yet.
 pub record IsFresh (h : List Turn) (key : ShardRef) (r : Row) : Type 0 where
   pub few : r.counter ≤ length h
   pub start : IsStart (shard_of (journal h) key) (records_of (journal h) key) r.floor r.checkpoint
 
--- the checkpoint of a shard that was read to its end
+-- The checkpoint of a shard that was read to its end.
 abbrev pub final_of : Journal → ShardRef → Checkpoint
 final_of log key = if is_closed_at (shard_of log key) then ShardEnd else last_checkpoint (records_of log key)
 
--- the row is there, and reads it
+-- The row exists, and has the checkpoint of a shard that was read to its end.
 abbrev pub IsDone : List Turn → ShardRef → Option Row → Type 0
 IsDone h key o = option_map (λ r. r.checkpoint) o ≡ Some (final_of (journal h) key)

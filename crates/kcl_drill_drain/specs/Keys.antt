@@ -1,4 +1,4 @@
--- How far the rows of keys are made, and how far they are drained.
+-- How far the rows of the keys are made, and how far they are drained.
 use Rattle.std.specs.Prelude.{ℕ, ◌≡◌, ◌+◌, ◌<◌, ◌≤◌, max, List, length, slice_get, Some}
 use Rattle.kds_base.specs.declared.lease_key.ShardRef.{ShardRef}
 use Rattle.kds_defs.specs.declared.command.Turn.{Turn}
@@ -11,30 +11,29 @@ use Rattle.kds_defs.specs.Streams.{live_streams}
 use Rattle.kcl_drill_summary.specs.Counting.{row_in}
 use Rattle.kcl_drill_drain.specs.Draining.{IsDone, IsFresh}
 
--- the listed shards of a history at the clock after a moment, in the order of their keys
+-- The listed shards of the history at the clock after the moment `at`, in the order of their keys.
 abbrev pub listed_keys : List Turn → ℕ → List ShardRef
 listed_keys h at = listed_in (journal h) (max (clock h) at) (live_streams (journal h))
 
--- there is a row
+-- The key has a row.
 abbrev pub HasRow : Journal → ShardRef → Type 0
 HasRow log key = (r : Row) × (row log key ≡ Some r)
 
--- each row stands where it stood or begins at the trim horizon; those that were there are there, and so are those of
--- the first keys
+-- No row has been drained yet. The rows that were there still exist, and so do those of the first `i` keys.
 pub record AreMade (h : List Turn) (keys : List ShardRef) (among : List Row) (i : ℕ) (log : Journal) : Type 0 where
   pub fresh : (key : ShardRef) (r : Row) → row log key ≡ Some r → IsFresh h key r
   pub kept : (key : ShardRef) (r : Row) → row_in among key ≡ Some r → HasRow log key
   pub made : (j : ℕ) (key : ShardRef) → j < i → slice_get keys j ≡ Some key → HasRow log key
   pub few : taken_count log ≤ length h
 
--- the row of the key is this one among the rows, and was not drained yet
+-- The row of the key is the one among `among`, and hasn't been drained yet.
 pub record Waits (h : List Turn) (among : List Row) (log : Journal) (key : ShardRef) : Type 0 where
   pub now : Row
   pub there : row log key ≡ Some now
   pub seen : row_in among key ≡ Some now
   pub fresh : IsFresh h key now
 
--- the rows of the first keys are drained, and the others wait
+-- The rows of the first `i` keys are drained, and the others wait.
 pub record AreDrainedTo (h : List Turn) (keys : List ShardRef) (among : List Row) (i : ℕ) (log : Journal) : Type 0 where
   pub done : (j : ℕ) (key : ShardRef) → j < i → slice_get keys j ≡ Some key → IsDone h key (row log key)
   pub waits : (j : ℕ) (key : ShardRef) → i ≤ j → slice_get keys j ≡ Some key → Waits h among log key

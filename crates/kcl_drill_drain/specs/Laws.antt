@@ -1,4 +1,4 @@
--- What a drain rests on: facts of the history before it, and what its turns leave.
+-- What a drain depends on: facts about the history before it, and what its turns leave unchanged.
 use Rattle.std.specs.Prelude.{ℕ, ◌≡◌, ◌≤◌, true, List, ◌++◌, length, Some}
 use Rattle.std.specs.List.{AllByRecursion}
 use Rattle.kds_base.specs.declared.lease_key.ShardRef.{ShardRef}

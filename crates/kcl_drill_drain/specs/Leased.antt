@@ -9,13 +9,14 @@ use Rattle.kds_defs.specs.Journal.{Journal}
 use Rattle.kcl_drill.specs.Summed.{AreDrained}
 use Rattle.kcl_drill_laws.specs.Closed.{AreLeased}
 
--- a machine stands for a history and such turns after it
+-- The machine stands for the history `h` with further turns on leases after it.
 pub record HasLeased (stands : List Turn → Type 0) (by at : ℕ) (h : List Turn) : Type 0 where
   pub more : List Turn
   pub stands_now : stands (more ++ h)
   pub are : AreLeased by at more
 
--- it stands for a history and one or more such turns after it, which leave such a journal
+-- The machine stands for the history `h` with further turns on leases after it. They bring the clock to the moment
+-- `at`, and `P` holds for the journal that they leave.
 pub record Leads (stands : List Turn → Type 0) (by at : ℕ) (h : List Turn) (P : Journal → Type 0) : Type 0 where
   pub more : List Turn
   pub stands_now : stands (more ++ h)
@@ -23,7 +24,7 @@ pub record Leads (stands : List Turn → Type 0) (by at : ℕ) (h : List Turn) (
   pub late : clock (more ++ h) ≡ max (clock h) at
   pub so : P (journal (more ++ h))
 
--- it stands for a history and such turns after it, which leave each listed shard's row at the end of the shard
+-- The machine stands for the history `h` with further turns on leases after it, which leave each listed shard drained.
 pub record HasDrained (stands : List Turn → Type 0) (by at : ℕ) (h : List Turn) : Type 0 where
   pub more : List Turn
   pub stands_now : stands (more ++ h)
@@ -33,7 +34,8 @@ pub record HasDrained (stands : List Turn → Type 0) (by at : ℕ) (h : List Tu
 abbrev pub turn_of : ℕ → ℕ → Command → Turn
 turn_of by at what = record { by = by; at = at; what = what }
 
--- the answer is that of the definitions after any history that the machine stood for, and the turn is added to it
+-- The answer is that of the definitions after any history that the machine stood for, and the turn is added to this
+-- history.
 abbrev pub Answers : {E : Type 0} → (List Turn → Type 0) → (List Turn → Type 0) → Turn → Result (Result Reply Refusal) E
     → Type 0
 Answers stands stands' turn result = (now : List Turn) → stands now

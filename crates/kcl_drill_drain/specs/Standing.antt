@@ -23,7 +23,7 @@ use Rattle.kcl_drill_drain.specs.Draining.{CanDrain, IsDone, IsFresh, left_of, r
 use Rattle.kcl_drill_drain.specs.Keys.{AreDrainedTo, Waits, listed_keys}
 use Rattle.kcl_drill_drain.specs.Leased.{Leads}
 
--- a key among the listed ones, in the history before, with the rows that were seen
+-- A key among the listed ones, with the history before the drain and the rows that were seen.
 pub record Spot : Type 0 where
   pub history : List Turn
   pub keys : List ShardRef
@@ -31,7 +31,7 @@ pub record Spot : Type 0 where
   pub index : ℕ
   pub key : ShardRef
 
--- the history can be drained, and the key stands there
+-- The history can be drained, and the key is at its index among the listed ones.
 pub record IsSpot (w : Spot) (at : ℕ) : Type 0 where
   pub can : CanDrain w.history at
   pub listed : w.keys ≡ listed_keys w.history at
@@ -41,13 +41,13 @@ pub record IsSpot (w : Spot) (at : ℕ) : Type 0 where
 abbrev pub clock_at : Spot → ℕ → ℕ
 clock_at w at = max (clock w.history) at
 
--- the rows of the keys before are drained, and those of the keys behind wait
+-- The rows of the keys before are drained, and those of the keys behind wait.
 pub record OthersWait (w : Spot) (log : Journal) : Type 0 where
   pub done : (j : ℕ) (key : ShardRef) → j < w.index → slice_get w.keys j ≡ Some key → IsDone w.history key (row log key)
   pub waits : (j : ℕ) (key : ShardRef) → w.index < j → slice_get w.keys j ≡ Some key → Waits w.history w.among log key
   pub few : taken_count log ≤ length w.history + (w.index + 1)
 
--- the row of the key was taken by the newest line
+-- The row of the key was taken by the newest line.
 pub record IsTaken (w : Spot) (by : ℕ) (r : Row) (held : DrainTenure) (log : Journal) : Type 0 where
   pub before : Journal
   pub clock : ℕ
@@ -59,15 +59,15 @@ pub record IsTaken (w : Spot) (by : ℕ) (r : Row) (held : DrainTenure) (log : J
   pub place : held.place ≡ first_place r.checkpoint
   pub fresh : IsFresh w.history w.key r
 
--- a tenure of the key has come so far
+-- A tenure of the key has come as far as `x` says, and `OthersWait` holds for the other keys.
 pub record Stands (w : Spot) (by : ℕ) (x : Holding) (log : Journal) : Type 0 where
   pub others : OthersWait w log
   pub holds : Holds log x
   pub own : x.by ≡ by
   pub of_key : x.key ≡ w.key
 
--- all that it read is given; where nothing is left, its row's checkpoint is at the last record; a mark at a record that
--- is left is above the least one; and there are counters for all that is left
+-- All that the tenure read is given. If nothing is left, its row's checkpoint is at the last record. A mark at a record
+-- that is left is above the least one, and there are counters for all that is left.
 pub record IsReady (w : Spot) (at : ℕ) (x : Holding) : Type 0 where
   pub none_waits : x.waiting ≡ []
   pub given : x.done ≡ x.place
@@ -78,24 +78,24 @@ pub record IsReady (w : Spot) (at : ℕ) (x : Holding) : Type 0 where
   pub budget : x.counter + length (left_of (journal w.history) (clock_at w at) w.key x.place)
       ≤ length w.history + 1 + length (records_of (journal w.history) w.key)
 
--- its number, its place and its row's counter are known
+-- The tenure's number, its position and its row's counter are those of `held`.
 pub record IsHeld (x : Holding) (held : DrainTenure) : Type 0 where
   pub tenure : x.tenure ≡ held.tenure
   pub place : x.place ≡ held.place
   pub counter : x.counter ≡ held.counter
 
--- a machine leads to a tenure that can read on
+-- The machine stands for a history in which the tenure `held` can read on.
 pub record ReadsOn (stands : List Turn → Type 0) (w : Spot) (by at : ℕ) (held : DrainTenure) : Type 0 where
   pub now : Holding
   pub leads : Leads stands by at w.history (Stands w by now)
   pub ready : IsReady w at now
   pub is : IsHeld now held
 
--- the row of the key is drained as well
+-- The row of the key is drained as well.
 abbrev pub IsDrainedHere : (List Turn → Type 0) → Spot → ℕ → ℕ → Type 0
 IsDrainedHere stands w by at = Leads stands by at w.history (AreDrainedTo w.history w.keys w.among (w.index + 1))
 
--- ---- one read: its batch, where it ends, and whether the shard ends there
+-- ---- One read: its batch, where it ends, and whether the shard ends there
 
 abbrev pub batch_at : Spot → ℕ → Holding → List Logged
 batch_at w at x = batch (journal w.history) (clock_at w at) w.key.stream w.key.shard x.place READ
@@ -115,7 +115,7 @@ last_at w at x = last_number_in (map stored (batch_at w at x))
 abbrev pub reply_at : Spot → ℕ → Holding → Reply
 reply_at w at x = reply.Read (map stored (batch_at w at x)) (reach_at w at x) (ended_at w at x)
 
--- the tenure after the read, after it was given, and after the mark at its last record
+-- The tenure after the read, after this read was given, and after the mark at its last record.
 abbrev pub read_then : Spot → ℕ → Holding → Holding
 read_then w at x = after_read x (read_at w at x)
 

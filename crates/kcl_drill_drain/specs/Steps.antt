@@ -1,4 +1,4 @@
--- What the steps of a drain promise, over any machine.
+-- What the steps of a drain promise for any machine.
 use Rattle.std.specs.Prelude.{ℕ, ◌≡◌, ◌+◌, ◌==◌, Bool, false, List, [], ◌∷◌, length, Option, Some, None, Result, Ok}
 use Rattle.std.specs.Prelude.{IfOk, OnOk}
 use Rattle.kds_base.specs.declared.lease_key.ShardRef.{ShardRef}
@@ -21,9 +21,9 @@ use Rattle.kcl_drill_drain.specs.Leased.{Leads}
 use Rattle.kcl_drill_drain.specs.Standing.{IsDrainedHere, IsHeld, IsReady, IsSpot, IsTaken, ReadsOn, Spot, Stands}
 use Rattle.kcl_drill_drain.specs.Standing.{ended_at, given_then, last_at, marked_then, reach_at, read_then, reply_at}
 
--- ---- one row
+-- ---- One row
 
--- it is taken at its counter
+-- The row of the key is taken at its counter.
 abbrev pub Takes : {E : Type 0} → (List Turn → Type 0) → (List Turn → Type 0) → ℕ → ℕ → ShardRef → ℕ
     → Result (Option DrainTenure) E → Type 0
 Takes stands stands' by at key counter result =
@@ -32,14 +32,14 @@ Takes stands stands' by at key counter result =
     → Leads stands by at w.history (AreDrainedTo w.history w.keys w.among w.index)
     → IfOk result (λ o. (held : DrainTenure) × (o ≡ Some held) × Leads stands' by at w.history (IsTaken w by r held))
 
--- its shard is opened
+-- The shard of the row is opened.
 abbrev pub Opens : {E : Type 0} → (List Turn → Type 0) → (List Turn → Type 0) → ℕ → ℕ → DrainTenure
     → Result (Unit {0}) E → Type 0
 Opens stands stands' by at held result =
     (w : Spot) (r : Row) → IsSpot w at → row_in w.among w.key ≡ Some r → is_end r.checkpoint ≡ false
     → Leads stands by at w.history (IsTaken w by r held) → OnOk result (ReadsOn stands' w by at held)
 
--- a read is answered with the batch at the tenure's place
+-- A read is answered with the batch at the tenure's position.
 abbrev pub Reads : {E : Type 0} → (List Turn → Type 0) → (List Turn → Type 0) → ℕ → ℕ → DrainTenure
     → Result (Result Reply Refusal) E → Type 0
 Reads stands stands' by at held result =
@@ -47,7 +47,7 @@ Reads stands stands' by at held result =
     → Leads stands by at w.history (Stands w by x)
     → IfOk result (λ a. (a ≡ Ok (reply_at w at x)) × Leads stands' by at w.history (Stands w by (read_then w at x)))
 
--- the read that waits is given
+-- The read that waits is given.
 abbrev pub Gives : {E : Type 0} → (List Turn → Type 0) → (List Turn → Type 0) → ℕ → ℕ → DrainTenure
     → Result (Unit {0}) E → Type 0
 Gives stands stands' by at held result =
@@ -55,7 +55,7 @@ Gives stands stands' by at held result =
     → Leads stands by at w.history (Stands w by x)
     → OnOk result (Leads stands' by at w.history (Stands w by (after_give x r [])))
 
--- the row is marked, and its counter told
+-- The row is marked, and its counter is returned.
 abbrev pub Marks : {E : Type 0} → (List Turn → Type 0) → (List Turn → Type 0) → ℕ → ℕ → DrainTenure → Target
     → Result ℕ E → Type 0
 Marks stands stands' by at held to result =
@@ -64,7 +64,7 @@ Marks stands stands' by at held to result =
     → Leads stands by at w.history (Stands w by x)
     → IfOk result (λ n. (n ≡ x.counter + 1) × Leads stands' by at w.history (Stands w by (after_mark x to)))
 
--- it is marked at the last record of the batch, if there is one
+-- The row is marked at the last record of the batch, if there is one.
 abbrev pub MarksLast : {E : Type 0} → (List Turn → Type 0) → (List Turn → Type 0) → ℕ → ℕ → DrainTenure → Option ℕ
     → Result ℕ E → Type 0
 MarksLast stands stands' by at held last result =
@@ -73,12 +73,12 @@ MarksLast stands stands' by at held last result =
     → IfOk result (λ n. (n ≡ (marked_then w at x).counter)
     × Leads stands' by at w.history (Stands w by (marked_then w at x)))
 
--- the row is drained, or its tenure reads on
+-- The row is drained, or its tenure reads on.
 abbrev pub Advances : (List Turn → Type 0) → Spot → ℕ → ℕ → Option DrainTenure → Type 0
 Advances stands w by at None = IsDrainedHere stands w by at
 Advances stands w by at (Some held) = ReadsOn stands w by at held
 
--- after the mark, the end is marked where the read ended the shard
+-- After the mark, the end is marked if the read ended the shard.
 abbrev pub Settles : {E : Type 0} → (List Turn → Type 0) → (List Turn → Type 0) → ℕ → ℕ → ℕ → DrainTenure → Bool
     → Result (Option DrainTenure) E → Type 0
 Settles stands stands' by at place held ended result =
@@ -86,7 +86,7 @@ Settles stands stands' by at place held ended result =
     → IsHeld (marked_then w at x) held
     → Leads stands by at w.history (Stands w by (marked_then w at x)) → IfOk result (Advances stands' w by at)
 
--- what was read is given and marked
+-- What was read is given and marked.
 abbrev pub Delivers : {E : Type 0} → (List Turn → Type 0) → (List Turn → Type 0) → ℕ → ℕ → DrainTenure → Fetch
     → Result (Option DrainTenure) E → Type 0
 Delivers stands stands' by at held fetch result =
@@ -99,13 +99,13 @@ abbrev pub StepsOn : {E : Type 0} → (List Turn → Type 0) → (List Turn → 
 StepsOn stands stands' by at held result = (w : Spot) → IsSpot w at → ReadsOn stands w by at held
     → IfOk result (Advances stands' w by at)
 
--- the shard is read to its end
+-- The shard is read to its end.
 abbrev pub ReadsToEnd : {E : Type 0} → (List Turn → Type 0) → (List Turn → Type 0) → ℕ → ℕ → DrainTenure
     → Result (Unit {0}) E → Type 0
 ReadsToEnd stands stands' by at held result = (w : Spot) → IsSpot w at → ReadsOn stands w by at held
     → OnOk result (IsDrainedHere stands' w by at)
 
--- a row that isn't at its end is taken, and its shard read to the end
+-- A row that isn't at its end is taken, and its shard is read to the end.
 abbrev pub DrainsTaken : {E : Type 0} → (List Turn → Type 0) → (List Turn → Type 0) → ℕ → ℕ → ShardRef → ℕ
     → Result (Unit {0}) E → Type 0
 DrainsTaken stands stands' by at key counter result =
@@ -114,7 +114,7 @@ DrainsTaken stands stands' by at key counter result =
     → Leads stands by at w.history (AreDrainedTo w.history w.keys w.among w.index)
     → OnOk result (IsDrainedHere stands' w by at)
 
--- the row of a key is drained
+-- The row of a key is drained.
 abbrev pub DrainsRow : {E : Type 0} → (List Turn → Type 0) → (List Turn → Type 0) → ℕ → ℕ → ShardRef → Option Row
     → Result (Unit {0}) E → Type 0
 DrainsRow stands stands' by at key row result =
@@ -122,7 +122,7 @@ DrainsRow stands stands' by at key row result =
     → Leads stands by at w.history (AreDrainedTo w.history w.keys w.among w.index)
     → OnOk result (IsDrainedHere stands' w by at)
 
--- ---- all rows
+-- ---- All rows
 
 abbrev pub DrainsKeys : {E : Type 0} → (List Turn → Type 0) → (List Turn → Type 0) → ℕ → ℕ → List ShardRef → List Row
     → Result (Unit {0}) E → Type 0
@@ -136,7 +136,7 @@ MakesKeys stands stands' by at keys among result =
     (h : List Turn) → CanDrain h at → keys ≡ listed_keys h at → Leads stands by at h (AreMade h keys among 0)
     → OnOk result (Leads stands' by at h (AreMade h keys among (length keys)))
 
--- one row is made, where there is none
+-- One row is made, if there is none.
 abbrev pub MakesRow : {E : Type 0} → (List Turn → Type 0) → (List Turn → Type 0) → ℕ → ℕ → ShardRef → Option Row
     → Result (Unit {0}) E → Type 0
 MakesRow stands stands' by at key seen result =
@@ -144,7 +144,7 @@ MakesRow stands stands' by at key seen result =
     → Leads stands by at w.history (AreMade w.history w.keys w.among w.index)
     → OnOk result (Leads stands' by at w.history (AreMade w.history w.keys w.among (w.index + 1)))
 
--- the rows are made that a survey of the history shows none of
+-- A row is made for each listed shard that has none in a survey of the history.
 abbrev pub Makes : {E : Type 0} → (List Turn → Type 0) → (List Turn → Type 0) → ℕ → ℕ → Result Reply Refusal
     → Result (Unit {0}) E → Type 0
 Makes stands stands' by at survey result =
@@ -152,7 +152,7 @@ Makes stands stands' by at survey result =
     → Leads stands by at h (AreMade h (listed_keys h at) (rows (journal h)) 0)
     → OnOk result (Leads stands' by at h (AreMade h (listed_keys h at) (rows (journal h)) (length (listed_keys h at))))
 
--- the rows that a survey shows are drained
+-- The rows that a survey shows are drained.
 abbrev pub Drains : {E : Type 0} → (List Turn → Type 0) → (List Turn → Type 0) → ℕ → ℕ → Result Reply Refusal
     → Result (Unit {0}) E → Type 0
 Drains stands stands' by at survey result =

@@ -1,4 +1,4 @@
--- The turns of a history by the accounts of all its passes.
+-- The turns of a history, in terms of the accounts of all its passes.
 use Rattle.std.proofs.Common.{◌≡◌, ℕ, ◌+◌, ◌<◌, ◌≤◌, max, Bool, true, false, List, [], ◌∷◌, length, refl, sym, ap}
 use Rattle.std.proofs.Common.{subst, ◌∙◌, arith}
 use Rattle.std.specs.Prelude.{◌==◌, cond}
@@ -13,9 +13,9 @@ use Rattle.kds_turn.specs.Passes.{AreAllBy, IsSplitInto}
 same_test : (n m : ℕ) → (n == m) ≡ (m == n)
 same_test n m = grind (arith, nat_tests)
 
--- ---- what holds of each account's turns holds of all
+-- ---- What holds of each account's turns holds of all turns
 
--- it holds of the turns of each account
+-- The fact holds of the turns of each account.
 abbrev pub OfEach : (Turn → Type 0) → List Account → List Turn → Type 0
 OfEach P accounts h = AllByRecursion (λ a. AllByRecursion P (turns_by a.by h)) accounts
 
@@ -65,9 +65,9 @@ pub all_turns : (P : Turn → Type 0) (accounts : List Account) (h : List Turn) 
     → AllByRecursion (λ a. AllByRecursion P a.turns) accounts → AllByRecursion P h
 all_turns P accounts h own all of = all_of P accounts h (each_of P accounts h own of) all
 
--- ---- how many turns there are
+-- ---- How many turns there are
 
--- the turns of the accounts, counted
+-- The number of turns of the accounts.
 abbrev pub count_of : List Account → ℕ
 count_of [] = 0
 count_of (a ∷ rest) = length a.turns + count_of rest
@@ -106,7 +106,7 @@ pub few_turns : (accounts : List Account) (h : List Turn) → IsSplitInto accoun
 few_turns accounts h own all = let same = count_same accounts h own in let few = few_in accounts h all in
     omega arith
 
--- ---- the clock
+-- ---- The clock
 
 pub clock_by : (most : ℕ) (h : List Turn) → AllByRecursion (λ t. t.at ≤ most) h → clock h ≤ most
 clock_by most [] below = omega arith

@@ -38,7 +38,7 @@ still_drill number records by at more h is below are =
       asks = ap commands_in (services_same by at more h are) ∙ is.asks;
     }
 
--- where the floor is 0, no record lies below it
+-- If the floor is 0, no record is below it.
 pub none_below : (floor : ℕ) (rs : List Logged) → floor ≡ 0 → AreAbove floor rs
 none_below floor [] e = tt
 none_below floor (r ∷ rs) e = (above r.arrival floor e, none_below floor rs e)

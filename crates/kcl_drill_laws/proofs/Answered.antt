@@ -1,4 +1,4 @@
--- What a tenure that is held alone is answered.
+-- How commands of a tenure that is held alone are answered.
 use Rattle.std.proofs.Common.{◌≡◌, ℕ, ◌+◌, ◌-◌, ◌<◌, true, false, List, [], ◌∷◌, length, suc, Some, refl, sym, ap, ◌∙◌}
 use Rattle.std.proofs.Common.{arith}
 use Rattle.std.specs.Prelude.{◌==◌, ◌||◌, not, nat_le, nat_lt}
@@ -26,7 +26,7 @@ use Rattle.kcl_drill_laws.specs.Holding.{ArePast, HasCome, HasRow, Holding, Hold
 use Rattle.kcl_drill_laws.specs.Holding.{marked_line, opened_line, read_here, taken_line}
 use Rattle.kcl_drill_laws.proofs.Come.{begun_row, begun_tenure, given_place}
 
--- ---- tests
+-- ---- Tests
 
 same_not : (a b : ℕ) → a ≡ b → not (a == b) ≡ false
 same_not a b is = grind (arith, nat_tests)
@@ -40,7 +40,7 @@ some_wait n m is = grind (arith, nat_tests)
 waiting_is : (log : Journal) (x : Holding) → (has : HasCome log x) → pending has.state ≡ length x.waiting
 waiting_is log x has = sym (length-drop has.state.given has.state.reads) ∙ ap length has.waits
 
--- ---- what follows for an own tenure, and where the row is its own too
+-- ---- What follows for a tenure of the actor's own, and if the row is its own too
 
 own_tenure : (log : Journal) (x : Holding) (next : TenureState → Decision) → (has : HasCome log x)
     → with_tenure log x.by x.tenure next ≡ next has.state
@@ -59,7 +59,7 @@ own_held log x next has held =
     (same_not (tenure_in (row log has.state.key)) x.tenure (ap tenure_in (row_of log x held has.state has.of_key)
     ∙ held.of_tenure))
 
--- ---- a read, a giving, a mark
+-- ---- A read, a give, a mark
 
 pub read_answered : (log : Journal) (c limit : ℕ) (x : Holding) → Holds log x → length x.waiting < PENDING_READS
     → is_listed_key log c x.key ≡ true → read log c x.by x.tenure x.place limit ≡ read_here log c x limit
@@ -120,7 +120,7 @@ mark_answered log c x target.End holds may rest =
     ∙ passed_if refusal.NotAtEnd (not (last_ended (given_reads T))) _ (ap not (has.last ∙ may))
     ∙ passed_if refusal.Spent (counter_in (row log T.key) == last_number) _ (ap (λ m. m == last_number) n ∙ rest)
 
--- ---- a taking, and the opening after it
+-- ---- A take, and the opening after it
 
 pub take_answered : (log : Journal) (c by owner : ℕ) (key : ShardRef) (r : Row) → row log key ≡ Some r → MayTake log r
     → take_lease log c by key r.counter owner

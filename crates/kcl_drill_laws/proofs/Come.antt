@@ -17,7 +17,7 @@ use Rattle.kds_defs.proofs.Keys.{key_itself}
 use Rattle.kcl_drill_laws.specs.Holding.{Holding, Holds, after_give, after_mark, after_read, begun_from, given_line}
 use Rattle.kcl_drill_laws.specs.Holding.{marked_line, opened_line, read_line, taken_line}
 
--- ---- lists of reads
+-- ---- Lists of reads
 
 places_append : (p : ℕ) (rs : List ReadDone) (r : ReadDone)
     → place_after_reads p (rs ++ r ∷ []) ≡ place_after (place_after_reads p rs) r.numbers
@@ -29,7 +29,7 @@ last_one [] r = refl
 last_one (q ∷ []) r = refl
 last_one (q ∷ s ∷ rs) r = last_one (s ∷ rs) r
 
--- one more of them is the first of those after
+-- The first n + 1 reads are the first n and the first one after these.
 take_more : (n : ℕ) (rs : List ReadDone) (r : ReadDone) (rest : List ReadDone) → drop n rs ≡ r ∷ rest
     → take (suc n) rs ≡ take n rs ++ r ∷ []
 take_more zero [] r rest is = absurd cc
@@ -51,7 +51,7 @@ some_more zero (q ∷ rs) r rest is = omega arith
 some_more (suc n) [] r rest is = absurd cc
 some_more (suc n) (q ∷ rs) r rest is = let e = some_more n rs r rest is in omega arith
 
--- ---- the given reads after one more is given
+-- ---- The given reads after one more is given
 
 pub one_more_given : (T : TenureState) (r : ReadDone) (rest : List ReadDone) → drop T.given T.reads ≡ r ∷ rest
     → given_reads (with_given T) ≡ given_reads T ++ r ∷ []
@@ -64,7 +64,7 @@ pub given_place : (T : TenureState) (r : ReadDone) (rest : List ReadDone) → dr
 given_place T r rest is = ap (place_after_reads (place_of T.start)) (one_more_given T r rest is)
     ∙ places_append (place_of T.start) (given_reads T) r
 
--- ---- a taking and an opening
+-- ---- A take and an opening
 
 pub begun_tenure : (log : Journal) (c by owner : ℕ) (key : ShardRef) (r : Row) → row log key ≡ Some r
     → tenure (taken_line log c by key r owner ∷ log) (taken_count log + 1) ≡ Some (new_tenure by key r.checkpoint)
@@ -114,7 +114,7 @@ begun_holds log c d by owner key r there =
       };
     }
 
--- ---- a read, a giving, a mark
+-- ---- A read, a give, a mark
 
 pub read_holds : (log : Journal) (c limit : ℕ) (x : Holding) (r : ReadDone) → Holds log x
     → Holds (read_line c x limit r ∷ log) (after_read x r)

@@ -1,4 +1,4 @@
--- Each turn adds one line of a lease at most, and each such line raises a row's counter by one at most.
+-- Each turn adds at most one line of a lease, and each such line raises a row's counter by at most one.
 use Rattle.std.proofs.Common.{◌≡◌, ℕ, ◌+◌, ◌≤◌, Bool, true, false, List, [], ◌∷◌, length, Option, Some, None, refl}
 use Rattle.std.proofs.Common.{arith}
 use Rattle.std.specs.Prelude.{Result, if◌then◌else◌}
@@ -24,7 +24,7 @@ use Rattle.kds_defs.proofs.Walk.{Outcome, Refuses, Answers, Adds, Stores, Scales
 use Rattle.kcl_drill.specs.Apart.{is_stream_entry}
 use Rattle.kcl_drill_laws.specs.Parents.{AreCounted}
 
--- 1 for a line of a lease
+-- The number is 1 for a line of a lease, and 0 for any other line.
 abbrev weight : Entry → ℕ
 weight e = if is_stream_entry e then 0 else 1
 
@@ -36,9 +36,9 @@ leases_with : (ls : List Line) (log : Journal) → leases (with_lines ls log) �
 leases_with [] log = omega arith
 leases_with (line ∷ ls) log = let n = leases_with ls (line ∷ log) in omega arith
 
--- ---- the lines of a decision
+-- ---- The lines of a decision
 
--- lines that are of no lease
+-- If no line is of a lease, the bound of one such line holds.
 none_of : (ls : List Line) → AllByRecursion (λ line. weight line.what ≡ 0) ls → leases ls ≤ 1
 none_of ls none = let n = none_in ls none in omega arith
   where
@@ -71,7 +71,7 @@ turns_few (turn ∷ h) =
     let n = leases_with (lines_of d) (journal h) in
     omega (arith, n, decided_few (journal h) (clock (turn ∷ h)) turn.by turn.what, turns_few h)
 
--- ---- the counter of a row, and the number of tenures
+-- ---- The counter of a row, and the number of tenures
 
 raised : (f : Row → Row) (b : Bool) (o : Option Row) (n : ℕ) → ((x : Row) → (f x).counter ≡ x.counter + 1)
     → counter_in o ≤ n

@@ -29,7 +29,7 @@ use Rattle.kcl_drill_laws.specs.Closed.{AreDrillTurns, IsClosed, IsDrillCommand,
 use Rattle.kcl_drill_laws.specs.Closed.{all_accounts}
 use Rattle.kcl_drill_laws.proofs.Accounts.{all_turns, clock_by, count_of, few_turns}
 
--- ---- the turns of commands
+-- ---- The turns of commands
 
 commands_of : (by : ℕ) (cs : List Command) → commands_in (map (turn_of by) cs) ≡ cs
 commands_of by [] = refl
@@ -69,7 +69,7 @@ records_are i (suc left) x opens = (
       (records_are (i + 1) left (draw x) (opens_then opens (plan (i + 1) (draw x) opens))),
 )
 
--- ---- the turns of members
+-- ---- The turns of members
 
 at_most : (P : Turn → Type 0) (n : ℕ) (turns : List Turn) → length turns ≤ n → AreOnLeasesAt 50 turns
     → ((t : Turn) → t.at ≤ n * 50 → is_service t.what ≡ false → P t) → AllByRecursion P turns
@@ -99,7 +99,7 @@ are_few : (records : ℕ) (members : List Account) → AllByRecursion (IsMemberA
 are_few records [] ran = tt
 are_few records (a ∷ rest) ran = (ran.0.most, are_few records rest ran.1)
 
--- ---- how many commands there are
+-- ---- The number of commands
 
 with_one : (o : Option Plan) (more : List Command) → length (with_plan o more) ≤ length more + 1
 with_one None more = omega arith
@@ -116,13 +116,13 @@ few_commands i (suc left) x opens =
 length_asked : (by : ℕ) (cs : List Command) → length (turns_of by cs) ≡ length cs
 length_asked by cs = length-map (reverse cs) (turn_of by) ∙ length-reverse cs
 
--- those that were begun are no more than all
+-- The commands that were begun are no more than all.
 few_begun : (by n : ℕ) (cs : List Command) (own : List Turn) → own ≡ turns_of by (take n cs) → length own ≤ length cs
 few_begun by n cs own e =
     let asked : length own ≡ length (take n cs) = ap length e ∙ length_asked by (take n cs) in
     omega (arith, asked, length-take n cs)
 
--- ---- a history that was stopped
+-- ---- A history that was stopped
 
 begun : (cs : List Command) (p : Standing) → HasAsked cs p → HasBegun cs p
 begun cs p asked = (
@@ -130,7 +130,7 @@ begun cs p asked = (
   subst (λ made. HasAsked made p) (sym (take_all (length cs) cs (le_refl (length cs)))) asked,
 )
 
--- those who made all commands have made the first of them
+-- If the root and the feeder made all commands, they made a prefix of them.
 pub fed_so_far : (number records : ℕ) (root feeder : Standing) → HasFed number records root feeder
     → HasFedSoFar number records root feeder
 fed_so_far number records root feeder fed = record {
@@ -151,7 +151,7 @@ is_short_stopped number records root feeder members h is =
     let few = few_commands 0 records number first_open in
     omega (arith, all, first, others, ran, few, is.few, is.limit)
 
--- ---- the closed history
+-- ---- The closed history
 
 none_before : (n : ℕ) (front seen : List Turn) → turns_by n (front ++ seen) ≡ [] → turns_by n seen ≡ []
 none_before n front seen none =

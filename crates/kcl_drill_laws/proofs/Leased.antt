@@ -13,7 +13,7 @@ use Rattle.kds_defs.specs.Subjects.{stream_of}
 use Rattle.kds_defs.proofs.Walk.{IsAdded, Alone, Makes, each_line}
 use Rattle.kcl_drill_laws.specs.Leasing.{AreOnLeases, HasSameStreams}
 
--- the lines are of leases, at this clock
+-- The lines are of leases, and at the clock.
 abbrev AreLeases : ℕ → List Line → Type 0
 AreLeases c ls = AllByRecursion (λ l. (stream_of l.what ≡ None) × (l.clock ≡ c)) ls
 
@@ -29,9 +29,9 @@ lease_adds log c by what is =
     each_line (λ l. (stream_of l.what ≡ None) × (l.clock ≡ c)) log c by what
     (λ line added. lease_line log c by what line added is)
 
--- ---- what such lines leave
+-- ---- What lines of leases leave
 
--- each stream has the readings that it had, and there are as many
+-- Each stream has the same readings in both journals, and there are as many streams.
 record SameReadings (log log' : Journal) : Type 0 where
   count : made_count log ≡ made_count log'
   each : (s : ℕ) → SameStream log log' s
@@ -57,7 +57,7 @@ turns_same (turn ∷ more) h are =
     lines_same at (lines_of (decision log at turn)) log (journal h) (lease_adds log at turn.by turn.what are.0)
     (turns_same more h are.1)
 
--- ---- the streams
+-- ---- The streams
 
 live_same : (log log' : Journal) → SameReadings log log' → live_streams log ≡ live_streams log'
 live_same log log' same = λ i. filter (λ s. (same.each s).live i) (numbers_from 1 (same.count i))
@@ -75,7 +75,7 @@ streams_same more h are =
       hours = λ s. (same.each s).hours_are;
     }
 
--- ---- what is trimmed
+-- ---- What is trimmed
 
 pub live_stays : (more h : List Turn) → AreOnLeases more → (s : ℕ)
     → is_live (journal (more ++ h)) s ≡ is_live (journal h) s

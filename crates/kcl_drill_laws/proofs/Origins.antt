@@ -1,4 +1,4 @@
--- The rows that the commands of a drill make let reading begin at the trim horizon.
+-- The origin of the rows that the commands of a drill make is the trim horizon.
 use Rattle.std.proofs.Common.{◌≡◌, ◌⊎◌, inl, inr, ℕ, Bool, true, false, List, [], ◌∷◌, Option, Some, None, refl, ap}
 use Rattle.std.specs.Prelude.{if◌then◌else◌}
 use Rattle.std.specs.List.{AllByRecursion}
@@ -21,7 +21,7 @@ use Rattle.kds_defs.proofs.Walk.{IsAdded, Alone, each_journal}
 use Rattle.kcl_laws.specs.RowLines.{IsToldRow, Making, last_bound, making}
 use Rattle.kcl_drill_laws.specs.Closed.{AreDrillTurns, AreFromHorizon, IsDrillCommand}
 
--- a row that the line makes lets reading begin at the trim horizon
+-- The origin of a row that the line makes is the trim horizon.
 abbrev IsSoMade : Entry → Type 0
 IsSoMade (entry.LeaseMade key from) = from ≡ origin.TrimHorizon
 IsSoMade _ = Unit {0}
@@ -29,7 +29,7 @@ IsSoMade _ = Unit {0}
 abbrev AreSoMade : List Line → Type 0
 AreSoMade ls = AllByRecursion (λ line. IsSoMade line.what) ls
 
--- ---- what a command adds
+-- ---- What a command adds
 
 pub counts_so : (log : Journal) (key : ShardRef) (from : Origin) → from ≡ origin.TrimHorizon
     → counting_origin log key from ≡ origin.TrimHorizon
@@ -42,7 +42,7 @@ command_adds : (log : Journal) (c by : ℕ) (what : Command) (line : Line) → I
 command_adds log c by _ _ (Alone _ _ _ (walks.Makes key from)) is = counts_so log key from is
 command_adds log c by _ _ _ is = tt
 
--- ---- the journal
+-- ---- The journal
 
 journal_so : (h : List Turn) → AreDrillTurns h → AreSoMade (journal h)
 journal_so h are =
@@ -69,7 +69,7 @@ unfolding IsNoneOrSo
 origin_so [] key are = inl refl
 origin_so (line ∷ log) key are = after_so line.what key (origin_of log key) are.0 (origin_so log key are.1)
 
--- what `rows` says
+-- What the law `rows` says.
 abbrev pub Removes : Type 0
 Removes = (log : Journal) (key : ShardRef) → making (last_bound log key) ≡ None → row log key ≡ None
 

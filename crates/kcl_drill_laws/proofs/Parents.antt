@@ -21,7 +21,7 @@ use Rattle.kds_defs.proofs.Decisions.{passes, holds_so}
 use Rattle.kds_defs.proofs.Numbers.{length-closed}
 use Rattle.kcl_drill_laws.specs.Parents.{AreParentsClosed, IsParentClosed}
 
--- ---- closed shards stay closed
+-- ---- Closed shards stay closed
 
 closed_stays : (n p : ℕ) (closing : Closing) (xs : List ShardState) → is_closed_at (slice_get xs p) ≡ true
     → is_closed_at (slice_get (with_closed n closing xs) p) ≡ true
@@ -37,7 +37,7 @@ closed_more [] ys p is = absurd cc
 closed_more (x ∷ xs) ys zero is = is
 closed_more (x ∷ xs) ys (suc p) is = closed_more xs ys p is
 
--- one that is there is closed by its closing
+-- A shard in the list is closed once it has a closing.
 closed_now : (n : ℕ) (closing : Closing) (xs : List ShardState) → n < length xs
     → is_closed_at (slice_get (with_closed n closing xs) n) ≡ true
 closed_now n closing [] below = absurd (omega arith)
@@ -49,7 +49,7 @@ below_length n [] is = absurd cc
 below_length zero (x ∷ xs) is = omega arith
 below_length (suc n) (x ∷ xs) is = let e = below_length n xs is in omega arith
 
--- ---- the shards of a journal
+-- ---- The shards of a journal
 
 parent_in : (xs ys : List ShardState) (n : ℕ) (o : Option ℕ)
     → ((p : ℕ) → is_closed_at (slice_get xs p) ≡ true → is_closed_at (slice_get ys p) ≡ true) → IsParentClosed xs n o
@@ -80,7 +80,7 @@ all_first : (all : List ShardState) (n start : ℕ) (ranges : List Span) → Are
 all_first all n start [] = tt
 all_first all n start (r ∷ rs) = ((tt, tt), all_first all (n + 1) start rs)
 
--- after a split
+-- The parents are closed after a split.
 split_closed : (xs : List ShardState) (sh at start : ℕ) (closing : Closing) → sh < length xs → AreParentsClosed xs
     → AreParentsClosed (split_shards sh at closing start xs)
 split_closed xs sh at start closing below are =
@@ -93,7 +93,7 @@ split_closed xs sh at start closing below are =
     (all_closed xs sh closing xs are))
     (((below, closed), tt), (((omega arith, closed), tt), tt))
 
--- after a merge
+-- The parents are closed after a merge.
 merged_closed : (xs : List ShardState) (sh other start : ℕ) (closing : Closing) → sh < length xs → other < length xs
     → AreParentsClosed xs → AreParentsClosed (merged_shards sh other closing start xs)
 merged_closed xs sh other start closing below below' are =
@@ -115,7 +115,7 @@ choice : (b : Bool) (xs ys : List ShardState) → (b ≡ true → AreParentsClos
 choice true xs ys new old = new refl
 choice false xs ys new old = old
 
--- an open shard of this stream
+-- The number of an open shard of the stream is below the number of its shards.
 open_below : (log : Journal) (stream s sh : ℕ) → (stream == s) ≡ true → is_open_at (shard_at log stream sh) ≡ true
     → sh < length (shards log s)
 open_below log stream s sh same is =

@@ -1,4 +1,4 @@
--- Each turn adds 500 records at most.
+-- Each turn adds at most 500 records.
 use Rattle.std.proofs.Common.{◌≡◌, ℕ, ◌+◌, ◌≤◌, List, [], ◌∷◌, ◌++◌, length, refl, arith, ◌*◌, suc}
 use Rattle.std.specs.List.{AllByRecursion}
 use Rattle.std.specs.Prelude.{Result, ◌==◌, ◌&&◌}
@@ -21,7 +21,7 @@ use Rattle.kds_defs.specs.StreamCommands.{put_line}
 use Rattle.kds_defs.proofs.Walk.{Outcome, Refuses, Answers, Adds, Stores, Scales, each_step, walk}
 use Rattle.kcl_drill_laws.specs.Parents.{AreFewRecords}
 
--- 1 for a line of a record
+-- The number is 1 for a line of a record, and 0 for any other line.
 abbrev weight : Entry → ℕ
 weight (entry.Put stream shard number hash bytes key_bytes) = 1
 weight _ = 0
@@ -34,7 +34,7 @@ puts_with : (ls : List Line) (log : Journal) → puts (with_lines ls log) ≡ pu
 puts_with [] log = omega arith
 puts_with (line ∷ ls) log = let n = puts_with ls (line ∷ log) in omega arith
 
--- ---- the lines of a decision
+-- ---- The lines of a decision
 
 few_puts : (items : List NewItem) (log : Journal) (c by s : ℕ) → puts (put_lines log c by s items) ≤ length items
 few_puts [] log c by s = omega arith
@@ -77,7 +77,7 @@ turns_few (turn ∷ h) lawful =
     let n = puts_with (lines_of d) (journal h) in
     omega (arith, n, decided_few (journal h) (clock (turn ∷ h)) turn.by turn.what lawful.0.1, turns_few h lawful.1)
 
--- ---- the records of a shard
+-- ---- The records of a shard
 
 records_by : (l : Line) (e : Entry) (s sh n : ℕ) (rs : List Logged) → length rs ≤ n
     → length (records_after l e s sh rs) ≤ weight e + n

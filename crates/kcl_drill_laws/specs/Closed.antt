@@ -1,5 +1,5 @@
--- The history of a drill's hall, once all its passes were joined and it was closed. Lists of turns have the newest
--- first.
+-- The history of a drill's hall, once all its passes were joined and the hall was closed. Lists of turns have the
+-- newest first.
 use Rattle.std.specs.Prelude.{◌≡◌, ℕ, ◌+◌, ◌*◌, ◌/◌, ◌≤◌, ◌==◌, false, List, ◌∷◌, length, Some}
 use Rattle.std.specs.List.{AllByRecursion}
 use Rattle.kds_defs.specs.declared.command.Command.{Command}
@@ -19,7 +19,7 @@ use Rattle.kcl_live.specs.Records.{AreOnLeasesAt}
 use Rattle.kcl_drill_threads.specs.Feeding.{HasFed, HasFedSoFar}
 use Rattle.kcl_drill.specs.declared.limits.TheConstants.{MEMBER_TURNS, MOST_RECORDS, MOST_WORKERS, RECORDS_A_TURN, TICK}
 
--- the command is one of a generator's or on leases, and a row that it makes lets reading begin at the trim horizon
+-- The command is one of a generator's or is on leases, and the origin of a row that it makes is the trim horizon.
 abbrev pub IsDrillCommand : Command → Type 0
 IsDrillCommand (command.Create name count) = Unit {0}
 IsDrillCommand (command.Put name item) = Unit {0}
@@ -28,21 +28,21 @@ IsDrillCommand (command.Merge name sh other) = Unit {0}
 IsDrillCommand (command.MakeLease key from) = from ≡ origin.TrimHorizon
 IsDrillCommand what = is_service what ≡ false
 
--- so are those of these turns
+-- `IsDrillCommand` holds for the command of each turn.
 abbrev pub AreDrillTurns : List Turn → Type 0
 AreDrillTurns h = AllByRecursion (λ turn. IsDrillCommand turn.what) h
 
--- so many turns at most
+-- The account has at most the number of turns that a member may have in a drill of `records` records.
 abbrev pub IsFew : ℕ → Account → Type 0
 IsFew records a = length a.turns ≤ 3 * (MEMBER_TURNS + records / RECORDS_A_TURN)
 
--- the turns of a member are on leases, each a tick after the one before, and so many at most
+-- The turns of a member are on leases, each a tick after the one before, and there are no more than `IsFew` allows.
 pub record IsMemberAccount (records : ℕ) (a : Account) : Type 0 where
   pub moments : AreOnLeasesAt TICK a.turns
   pub most : IsFew records a
   pub horizon : AreDrillTurns a.turns
 
--- the accounts of all passes of a drill
+-- The accounts of all passes of a drill.
 abbrev pub all_accounts : Standing → Standing → List Account → List Account
 all_accounts root feeder members = account root.by root.own ∷ account feeder.by feeder.own ∷ members
 
@@ -60,8 +60,8 @@ pub record IsClosed (number records : ℕ) (root feeder : Standing) (members : L
   pub all : AreAllBy (all_accounts root feeder members) h
   pub own : IsSplitInto (all_accounts root feeder members) h
 
--- The root and the feeder made the first of the generator's commands, the members so many turns at most, and the
--- history has their turns and no others.
+-- The root and the feeder each made a prefix of their commands, the members had no more turns than `IsFew` allows, and
+-- the history has their turns and no others.
 pub record IsStopped (number records : ℕ) (root feeder : Standing) (members : List Account) (h : List Turn) :
     Type 0 where
   pub limit : records ≤ MOST_RECORDS
@@ -71,11 +71,11 @@ pub record IsStopped (number records : ℕ) (root feeder : Standing) (members : 
   pub all : AreAllBy (all_accounts root feeder members) h
   pub own : IsSplitInto (all_accounts root feeder members) h
 
--- lawful turns of an actor at a moment, on leases
+-- The turns are lawful turns on leases, of the actor `by` at the moment `at`.
 abbrev pub AreLeased : ℕ → ℕ → List Turn → Type 0
 AreLeased by at more =
     AllByRecursion (λ turn. (turn.by ≡ by) × (turn.at ≡ at) × (is_service turn.what ≡ false) × IsLawful turn) more
 
--- each row that is there lets reading begin at the trim horizon
+-- The origin of each row is the trim horizon.
 abbrev pub AreFromHorizon : Journal → Type 0
 AreFromHorizon log = (key : ShardRef) (r : Row) → row log key ≡ Some r → origin_of log key ≡ Some origin.TrimHorizon

@@ -19,8 +19,9 @@ use Rattle.kds_defs.specs.Records.{batch, numbers_of, place_after}
 use Rattle.kds_defs.specs.Shards.{shard_at}
 use Rattle.kds_defs.specs.StreamCommands.{last_number}
 
--- a tenure of a key by an actor: the place after its reads, the place after those that are given, those that wait, and
--- whether the last given one ended the shard; the counter, the checkpoint and the floor of its row
+-- A tenure of a key by an actor: the position after its reads, the position after those that are given, the reads that
+-- wait to be given, and whether the last given one ended the shard. The counter, the checkpoint and the floor are those
+-- of its row.
 pub record Holding : Type 0 where
   pub by : ℕ
   pub key : ShardRef
@@ -33,7 +34,7 @@ pub record Holding : Type 0 where
   pub checkpoint : Checkpoint
   pub floor : ℕ
 
--- the row of its key is the tenure's, and reads so
+-- The row of the tenure's key names the tenure, and has the counter, the checkpoint and the floor of `x`.
 pub record HasRow (log : Journal) (x : Holding) : Type 0 where
   pub now : Row
   pub there : row log x.key ≡ Some now
@@ -42,7 +43,7 @@ pub record HasRow (log : Journal) (x : Holding) : Type 0 where
   pub checkpoint : now.checkpoint ≡ x.checkpoint
   pub floor : now.floor ≡ x.floor
 
--- the tenure is the actor's, was opened, and has come so far
+-- The tenure is the actor's, was opened, and has come as far as `x` says.
 pub record HasCome (log : Journal) (x : Holding) : Type 0 where
   pub state : TenureState
   pub begun : tenure log x.tenure ≡ Some state
@@ -60,25 +61,25 @@ pub record Holds (log : Journal) (x : Holding) : Type 0 where
   pub tenure : HasCome log x
   pub row : HasRow log x
 
--- ---- what it may do
+-- ---- What the tenure may do
 
--- a number that was given, at or above the checkpoint or the floor, of a row that is not at the end; or the end, once
--- it was given
+-- The target is a number that was given and isn't below the least one that is allowed, and the row isn't at the end. Or
+-- the target is the end, and the end was given.
 abbrev pub MayMark : Holding → Target → Type 0
 MayMark x (target.At q) = (is_end x.checkpoint ≡ false) × (nat_le x.done q ≡ false)
     × (nat_lt q (least x.checkpoint x.floor) ≡ false)
 MayMark x target.End = x.ended ≡ true
 
--- the row of a key, which is not at its end, can be taken: no counter is spent
+-- The row `r` can be taken: it isn't at its end, and neither its counter nor the number of tenures is spent.
 abbrev pub MayTake : Journal → Row → Type 0
 MayTake log r = (is_end r.checkpoint ≡ false) × ((r.counter == last_number) ≡ false)
     × ((taken_count log == last_number) ≡ false)
 
--- no parent of the key's shard is unread
+-- No parent of the key's shard is unread.
 abbrev pub ArePast : Journal → ℕ → ShardRef → Type 0
 ArePast log c key = (next : Decision) → past_parents log c key.stream (shard_at log key.stream key.shard) next ≡ next
 
--- ---- its lines
+-- ---- The lines of the tenure
 
 abbrev pub taken_line : Journal → ℕ → ℕ → ShardRef → Row → ℕ → Line
 taken_line log c by key r owner = plain_line c by (entry.Taken key (taken_count log + 1) (r.counter + 1) owner)
@@ -95,24 +96,24 @@ given_line c x = plain_line c x.by (entry.Given x.tenure)
 abbrev pub marked_line : ℕ → Holding → Target → Line
 marked_line c x to = plain_line c x.by (entry.Marked x.tenure (x.counter + 1) to)
 
--- a read at its place
+-- The decision on a read at the tenure's position.
 abbrev pub read_here : Journal → ℕ → Holding → ℕ → Decision
 read_here log c x limit =
     read_reply log c x.by x.tenure limit x.key (batch log c x.key.stream x.key.shard x.place limit)
     (place_after x.place (numbers_of (batch log c x.key.stream x.key.shard x.place limit)))
 
--- ---- what it is answered
+-- ---- The answers to the tenure's commands
 
 abbrev pub IsTakenSo : Journal → ℕ → ℕ → ℕ → ShardRef → Row → Type 0
 IsTakenSo log c by owner key r =
     take_lease log c by key r.counter owner
     ≡ Accepted (taken_line log c by key r owner ∷ []) (reply.Taken (taken_count log + 1) (r.counter + 1) r.checkpoint)
 
--- the shard of the key is listed, and no parent of it is unread
+-- The shard of the key is listed, and no parent of it is unread.
 abbrev pub MayOpen : Journal → ℕ → ShardRef → Type 0
 MayOpen log c key = (is_listed_key log c key ≡ true) × ArePast log c key
 
--- right after the taking, at the clock d
+-- The opening is accepted right after the take, which was at the clock `d`.
 abbrev pub IsOpenedSo : Journal → ℕ → ℕ → ℕ → ℕ → ShardRef → Row → Type 0
 IsOpenedSo log c d by owner key r =
     open_shard (taken_line log d by key r owner ∷ log) c by (taken_count log + 1)
@@ -129,9 +130,9 @@ abbrev pub IsMarkedSo : Journal → ℕ → Holding → Target → Type 0
 IsMarkedSo log c x to =
     mark log c x.by x.tenure x.counter to ≡ Accepted (marked_line c x to ∷ []) (reply.Counter (x.counter + 1))
 
--- ---- how far it has come then
+-- ---- How far the tenure has come then
 
--- taken from a row, and opened
+-- The tenure after it was taken from the row `r` and opened.
 abbrev pub begun_from : Journal → ℕ → ShardRef → Row → Holding
 begun_from log by key r =
     record {

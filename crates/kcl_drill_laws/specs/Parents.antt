@@ -10,21 +10,21 @@ use Rattle.kds_defs.specs.Listings.{is_closed_at}
 use Rattle.kds_defs.specs.Records.{records}
 use Rattle.kds_defs.specs.Shards.{ShardState}
 
--- the parent of a shard of this number, if there is one, has a smaller number and is closed
+-- The parent of the shard with the number `n`, if there is one, has a smaller number and is closed.
 abbrev pub IsParentClosed : List ShardState → ℕ → Option ℕ → Type 0
 IsParentClosed xs n None = Unit {0}
 IsParentClosed xs n (Some p) = (p < n) × (is_closed_at (slice_get xs p) ≡ true)
 
--- so it is for both parents of each of these shards
+-- `IsParentClosed` holds for both parents of each shard.
 abbrev pub AreParentsClosed : List ShardState → Type 0
 AreParentsClosed xs =
     AllByRecursion (λ (x : ShardState). IsParentClosed xs x.no x.parent × IsParentClosed xs x.no x.adjacent) xs
 
--- no row's counter, and no tenure's number, is above the number of turns
+-- No row's counter, and no tenure's number, is above the number of turns.
 pub record AreCounted (h : List Turn) : Type 0 where
   pub counters : (key : ShardRef) → counter_in (row (journal h) key) ≤ length h
   pub tenures : taken_count (journal h) ≤ length h
 
--- no shard has more records than one PutRecords may have for each turn
+-- No shard has more records than one PutRecords for each turn may put.
 abbrev pub AreFewRecords : List Turn → Type 0
 AreFewRecords h = (s sh : ℕ) → length (records (journal h) s sh) ≤ MANY_ITEMS * length h

@@ -12,13 +12,13 @@ use Rattle.kcl_drill_laws.specs.Closed.{all_accounts}
 use Rattle.kcl_live.specs.declared.crew.Member.{Member}
 use Rattle.kcl_drill_run.specs.Running.{HavePasses, account_in, accounts_in}
 
--- the numbers of the accounts are those from this one on
+-- The numbers of the accounts are those from the first argument on.
 abbrev pub CountFrom : ℕ → List Account → Type 0
 CountFrom from [] = Unit {0}
 CountFrom from (a ∷ xs) = (a.by ≡ from) × CountFrom (from + 1) xs
 
 module _ {M P F G : Type 0} (hall : Place) where
-  -- no other pass was joined into a worker's
+  -- No other pass was joined into a worker's pass.
   pub each_alone : (from : ℕ) (ms : List (Member M P F G)) → HavePasses hall from ms
       → flat_map accounts_in ms ≡ map account_in ms
   each_alone from [] are = refl
@@ -46,7 +46,7 @@ module _ {M P F G : Type 0} where
   of_accounts Q [] of = tt
   of_accounts Q (m ∷ ms) of = (of.0, of_accounts Q ms of.1)
 
--- ---- each number is there
+-- ---- Each number exists
 
 has_some : (from n : ℕ) (xs : List Account) → CountFrom from xs → from ≤ n → n < from + length xs → 0 < times n xs
 has_some from n [] are least most = absurd (omega arith)
@@ -56,7 +56,7 @@ has_some from n (a ∷ xs) are least most =
     (λ ne. let more = has_some (from + 1) n xs are.1 (omega arith) (omega arith) in
     omega arith)
 
--- the numbers 1, 2 and those of the workers
+-- The numbers are 1, 2 and those of the workers.
 pub has_each : (root feeder : Standing) (xs : List Account) → root.by ≡ 1 → feeder.by ≡ 2 → CountFrom 3 xs
     → (n : ℕ) → 0 < n → n ≤ length xs + 2 → 0 < times n (all_accounts root feeder xs)
 has_each root feeder xs first second are n least most =

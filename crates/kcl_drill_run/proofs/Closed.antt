@@ -18,7 +18,7 @@ use Rattle.kcl_drill_run.specs.Running.{AreShort, HasDrilled, HasTaken, HaveRun,
 use Rattle.kcl_drill_run.specs.declared.participants.Participants.{Participants}
 use Rattle.kcl_drill_run.proofs.Accounts.{count_accounts, counted, each_alone, has_each, of_accounts}
 
--- what the laws `closed` and `stopped` say
+-- What the laws `closed` and `stopped` say.
 pub record HasLaws : Type 0 where
   pub drill : (number records : ℕ) (root feeder : Standing) (members : List Account) (h : List Turn)
       → IsClosed number records root feeder members h
@@ -32,7 +32,7 @@ StoppedIsShort = (number records : ℕ) (root feeder : Standing) (members : List
     → IsStopped number records root feeder members h
     → length h < 2 ^ 32
 
--- what is seen is no longer than what goes on with it
+-- What is seen is no longer than a history that goes on with it.
 short_of : (h seen : List Turn) → Continues h seen → length h < 2 ^ 32 → length seen < 2 ^ 32
 short_of h seen more short = omega (arith, short, ap length more.1, length-append more.0 seen)
 
@@ -47,7 +47,7 @@ short_members h last (m ∷ ms) more short are = (
 
 module _ (hall : Place) (number records : ℕ) (p : Participants) (is : HaveStopped hall number records p)
     (last : Standing) (taken : HasTaken p last) where
-  -- the workers' accounts
+  -- The workers' accounts.
   abbrev xs : List Account
   xs = map account_in p.members.items
 

@@ -1,4 +1,4 @@
--- The passes of a new hall, dealt out.
+-- How the passes of a new hall are dealt out.
 use Rattle.std.proofs.Common.{◌≡◌, ℕ, zero, suc, ◌+◌, ◌≤◌, List, [], ◌∷◌, ◌++◌, length, refl, sym, ap, subst, ◌∙◌}
 use Rattle.std.proofs.Common.{arith}
 use Rattle.std.specs.Prelude.{slice_index_or}
@@ -11,7 +11,7 @@ use Rattle.kcl_drill_run.specs.Participants.{AreDealt, AreMembersOf, IsMemberOf,
 use Rattle.kcl_drill_run.specs.declared.participants.Participants.{Participants}
 
 module _ {M G : Type 0} where
-  -- one more worker, with one more pass
+  -- `AreMembersOf` holds with one more worker and its pass.
   pub one_more : (name : ℕ) (ps : List Standing) (ms : List (Member M Stock Kind G)) (p : Standing)
       (m : Member M Stock Kind G) → AreMembersOf name ps ms
       → IsMemberOf (name + length ms) p m → AreMembersOf name (ps ++ p ∷ []) (ms ++ m ∷ [])
@@ -29,7 +29,7 @@ module _ {M G : Type 0} where
   as_many name (x ∷ ps) [] are = absurd are
   as_many name (x ∷ ps) (y ∷ ms) are = ap suc (as_many (name + 1) ps ms are.1)
 
--- ---- the first two passes, and the others
+-- ---- The first two passes, and the others
 
 first_two : (hall : Place) (n : ℕ) → new_passes hall 1 (n + 2) ≡ new_pass hall.id 1 ∷ new_pass hall.id 2
     ∷ new_passes hall 3 n
@@ -39,7 +39,7 @@ pub count_new : (hall : Place) (from n : ℕ) → length (new_passes hall from n
 count_new hall from zero = refl
 count_new hall from (suc n) = ap suc (count_new hall (from + 1) n)
 
--- the first element was taken out; it is this one, and these are left
+-- The first element, which is `x`, was taken out, and `left` are the others.
 pub record IsTaken (from left : List Standing) (x : Standing) : Type 0 where
   pub value : x ≡ slice_index_or from 0 x
   pub left_are : left ≡ remove from 0

@@ -20,7 +20,7 @@ use Rattle.kcl_drill_laws.specs.Closed.{AreFromHorizon, AreLeased}
 use Rattle.kcl_drill_drain.specs.Draining.{CanDrain}
 use Rattle.kcl_drill_drain.specs.Leased.{HasDrained}
 
--- ---- where the floor is 0, nothing is below it
+-- ---- If the floor is 0, nothing is below it
 
 not_below : (n floor : ℕ) → floor ≡ 0 → nat_lt n floor ≡ false
 not_below n floor is = grind (arith, nat_tests)
@@ -38,7 +38,7 @@ none_closed : (floor : ℕ) (xs : List ShardState) → floor ≡ 0
 none_closed floor [] is = tt
 none_closed floor (x ∷ xs) is = (not_closed floor x.closing is, none_closed floor xs is)
 
--- the clock after a moment that isn't later
+-- The clock stays the same after a moment that isn't later.
 same_clock : (c at : ℕ) → at ≡ 0 → max c at ≡ c
 same_clock c at is = omega arith
 
@@ -59,7 +59,7 @@ module _ (untrimmed : (h : List Turn) (c s : ℕ) → IsHistory h → clock h �
         horizon = horizon;
       }
 
--- what the laws say of a drill's history
+-- What the laws say of a drill's history.
 pub record HasLaws : Type 0 where
   pub drill : (number records by at : ℕ) (more h : List Turn) → IsDrill h number records → at ≤ clock h
       → AreLeased by at more
@@ -68,14 +68,15 @@ pub record HasLaws : Type 0 where
   pub text : (h : List Turn) (number records : ℕ) → IsDrill h number records → AreDrained (journal h) (clock h)
       → summary_text (journal h) (clock h) ≡ drill_text number records
 
--- the machine's history once it was drained can be summed, and its summary is the drill's text
+-- The machine's history can be summed once it was drained, and its summary is the drill's text.
 pub record IsReady (stands : List Turn → Type 0) (by at number records : ℕ) : Type 0 where
   pub turns : List Turn
   pub read : HasRead stands by at turns
   pub can : CanSum turns (max (clock turns) at)
   pub text : summary_text (journal turns) (max (clock turns) at) ≡ drill_text number records
 
--- a machine that stands for a history and further turns, and then answers turns that only read
+-- A machine that stands for a history with further turns, and then answers turns that only read, stands for the history
+-- with all these turns.
 pub later : (stands : List Turn → Type 0) (by at : ℕ) (h more : List Turn) → HasRead stands by at (more ++ h)
     → (all : List Turn) × stands (all ++ h)
 later stands by at h more r = (r.more ++ more, subst stands (sym (append_assoc r.more more h)) r.stands_now)

@@ -1,4 +1,4 @@
--- Where a turn found the hall's history full, its pass has seen as many turns as can be counted.
+-- If a turn found the hall's history full, its pass has seen as many turns as can be counted.
 use Rattle.std.proofs.Common.{◌≡◌, ◌⊎◌, inl, inr, ℕ, suc, List, [], ◌∷◌, length, refl, subst, arith, Err}
 use Rattle.std.specs.Prelude.{IfErr}
 use Rattle.std.specs.List.{AllByRecursion}
@@ -19,7 +19,7 @@ use Rattle.kcl_drill_run.specs.declared.participants.Participants.{Participants}
 no_memory : failed.Spent ≡ failed.Memory → ⊥
 no_memory e = absurd cc
 
--- ---- the root and the feeder
+-- ---- The root and the feeder
 
 ask_full : (before p : Standing) → IsAskErr before p failed.Spent → IsFull p
 ask_full before p (inl memory) = absurd (no_memory memory.0)
@@ -42,7 +42,7 @@ crowd_full before p e err is =
     either (inl root) = inl root
     either (inr feeder) = inr (inl feeder)
 
--- ---- the workers
+-- ---- The workers
 
 module _ {M P F G : Type 0} (stands : P → List Call → Type 0) (turns : ℕ) where
   cut_full : (a : Member M P F G) → WasCut stands a.worker a.pass failed.Spent → IsFull a.pass
@@ -64,7 +64,7 @@ module _ {M P F G : Type 0} (stands : P → List Call → Type 0) (turns : ℕ) 
       inr (members_full e before after is (omega arith) (λ i m below. ended (suc i) m (omega arith))
       more)
 
--- ---- passes that have seen few turns are not full
+-- ---- Passes that have seen few turns aren't full
 
 few_not_full : (p : Standing) → IsShort p → IsFull p → ⊥
 few_not_full p short full = absurd (omega arith)

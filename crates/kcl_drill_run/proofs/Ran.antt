@@ -24,7 +24,7 @@ use Rattle.kcl_drill_run.specs.Participants.{AreDealt, AreMembersOf, IsMemberOf,
 use Rattle.kcl_drill_run.specs.Running.{HasPass, HavePasses, HaveRun, HaveStopped, account_in}
 use Rattle.kcl_drill_run.specs.declared.participants.Participants.{Participants}
 
--- what the law `horizon` says
+-- What the law `horizon` says.
 abbrev pub FromHorizon : Type 0
 FromHorizon = (by : ℕ) (made : WorkerMade) (past : WorkerPast) → made.settings.from ≡ origin.TrimHorizon
     → AreDrillTurns (turns_in by made past)
@@ -33,7 +33,7 @@ of_ok : {A E : Type 0} (r : Result A E) (X : Type 0) → IsOk r → OnOk r X →
 of_ok (Ok a) X is x = x
 of_ok (Err e) X is x = absurd cc
 
--- what follows from how a call ended
+-- What follows from how a call ended.
 pub then_ok : {A E : Type 0} (r : Result A E) (X Y : Type 0) → (X → Y) → OnOk r X → OnOk r Y
 then_ok (Ok a) X Y f x = f x
 then_ok (Err e) X Y f x = tt
@@ -42,10 +42,10 @@ pub then_err : {A E : Type 0} (r : Result A E) (P Q : E → Type 0) → ((e : E)
 then_err (Ok a) P Q f p = tt
 then_err (Err e) P Q f p = f e p
 
--- ---- the workers
+-- ---- The workers
 
 module _ {M G : Type 0} (hall : Place) where
-  -- they may be run
+  -- The workers may be run.
   pub all_ready : (name from n : ℕ) (ms : List (Member M Stock Kind G)) → AreMembersOf name (new_passes hall from n) ms
       → All (IsReady StockStandsFor hall) ms
   all_ready name from n [] are k d below = absurd (omega arith)
@@ -56,7 +56,7 @@ module _ {M G : Type 0} (hall : Place) where
       all_ready (name + 1) (from + 1) n ms are.1 k d (omega arith)
 
   module _ (records : ℕ) where
-    -- it ran, or is as it was
+    -- The worker ran, or is as it was.
     abbrev EndedOrNot : Member M Stock Kind G → Member M Stock Kind G → Type 0
     EndedOrNot b a = HasEnded StockStandsFor (200 + records / 100) 50 b a ⊎ (a ≡ b)
 
@@ -126,7 +126,7 @@ module _ {M G : Type 0} (hall : Place) where
             (λ i m below. ended (suc i) m (omega arith)),
       )
 
--- ---- all of them
+-- ---- All threads
 
 module _ (hall : Place) (number records : ℕ) (before after : Participants) (dealt : AreDealt hall before)
     (limit : records ≤ 1000000)

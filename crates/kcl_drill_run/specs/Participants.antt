@@ -12,24 +12,25 @@ use Rattle.kcl_worker.specs.Standing.{StandsFor}
 use Rattle.kds_turn.specs.Passes.{Place, Standing, new_pass}
 use Rattle.kcl_drill_run.specs.declared.participants.Participants.{Participants}
 
--- the worker of this name as it is made, which tallies and reads each shard from its beginning, with this pass
+-- The member is the worker of the name `name` as it is made, with the pass `pass`. Its processors tally, and it reads
+-- each shard from its beginning.
 pub record IsMemberOf {M G : Type 0} (name : ℕ) (pass : Standing) (m : Member M Stock Kind G) : Type 0 where
   pub pass_is : m.pass ≡ pass
   pub made : m.worker.made ≡ record { name = name; settings = usual_settings }
   pub tallies : m.worker.maker ≡ kind.Tally
   pub stands : StandsFor StockStandsFor m.worker []
 
--- a worker for each pass; their names are the numbers from this one on
+-- There is a worker for each pass. The workers' names are the numbers from `name` on.
 abbrev pub AreMembersOf : {M G : Type 0} → ℕ → List Standing → List (Member M Stock Kind G) → Type 0
 AreMembersOf name [] [] = Unit {0}
 AreMembersOf name (p ∷ ps) (m ∷ ms) = IsMemberOf name p m × AreMembersOf (name + 1) ps ms
 AreMembersOf name _ _ = ⊥
 
--- the new passes of a hall with so many numbers from one on
+-- The new passes of a hall with `count` numbers from `from` on.
 abbrev pub new_passes : Place → ℕ → ℕ → List Standing
 new_passes hall from count = map (new_pass hall.id) (range_with_len from count)
 
--- the root has the hall's first pass, the feeder the second, and each worker another one
+-- The root has the hall's first pass, the feeder the second, and each worker another one.
 pub record AreDealt (hall : Place) (p : Participants) : Type 0 where
   pub root : p.root ≡ new_pass hall.id 1
   pub feeder : p.feeder ≡ new_pass hall.id 2

@@ -16,23 +16,23 @@ use Rattle.kds_turn.specs.declared.pass.TurnErr.{TurnErr}
 use Rattle.kcl_drill_run.specs.Ends.{SomeFailed}
 use Rattle.kcl_drill_run.specs.declared.participants.Participants.{Participants}
 
--- the number and the turns of a worker's pass
+-- The number and the turns of a worker's pass.
 abbrev pub account_in : {M P F G : Type 0} → Member M P F G → Account
 account_in m = account m.pass.by m.pass.own
 
--- the worker's pass is the hall's of this number, into which no other was joined
+-- The worker's pass is the hall's with the number `n`, and no other pass was joined into it.
 pub record HasPass {M P F G : Type 0} (hall : Place) (n : ℕ) (m : Member M P F G) : Type 0 where
   pub at : m.pass.hall ≡ hall.id
   pub by : m.pass.by ≡ n
   pub alone : m.pass.joined ≡ []
 
--- so are those of these workers; their numbers are those from this one on
+-- The workers' passes are the hall's with the numbers from `from` on.
 abbrev pub HavePasses : {M P F G : Type 0} → Place → ℕ → List (Member M P F G) → Type 0
 HavePasses hall from [] = Unit {0}
 HavePasses hall from (m ∷ ms) = HasPass hall from m × HavePasses hall (from + 1) ms
 
--- The root and the feeder made the first of the generator's commands, and the workers so many turns at most. The hall
--- has their passes and no others.
+-- The root and the feeder each made a prefix of their commands, and the workers had no more turns than `IsFew` allows.
+-- The hall has their passes and no others.
 pub record HaveStopped (hall : Place) (number records : ℕ) (p : Participants) : Type 0 where
   pub limit : records ≤ MOST_RECORDS
   pub at : (p.root.hall ≡ hall.id) × (p.feeder.hall ≡ hall.id)
@@ -44,48 +44,49 @@ pub record HaveStopped (hall : Place) (number records : ℕ) (p : Participants) 
   pub all : hall.passes ≡ length p.members.items + 2
   pub few : length p.members.items ≤ MOST_WORKERS
 
--- They made all of the generator's commands, and the workers ran to their ends.
+-- The root and the feeder made all of the generator's commands, and the workers ran to their ends.
 pub record HaveRun (hall : Place) (number records : ℕ) (p : Participants) : Type 0 where
   pub stopped : HaveStopped hall number records p
   pub fed : HasFed number records p.root p.feeder
   pub made : AllByRecursion (λ m. IsMemberAccount records (account_in m)) p.members.items
 
--- why they left off: by what befell the root or the feeder, or by the error of a worker
+-- The reason why the threads stopped early: the root or the feeder failed, or a worker ended by an error.
 abbrev pub HaveFailed : Participants → Participants → TurnErr → Type 0
 HaveFailed before after e = IsCrowdErr before.root after.root after.feeder e ⊎ SomeFailed e after.members.items
 
--- ---- how many turns the passes have seen
+-- ---- How many turns the passes have seen
 
--- as many as can be counted
+-- The pass has seen as many turns as can be counted.
 abbrev pub IsFull : Standing → Type 0
 IsFull p = length p.seen + 1 ≡ 2 ^ 64
 
--- a worker's pass has
+-- The pass of a worker is full.
 abbrev pub SomeIsFull : {M P F G : Type 0} → List (Member M P F G) → Type 0
 SomeIsFull [] = ⊥
 SomeIsFull (m ∷ ms) = IsFull m.pass ⊎ SomeIsFull ms
 
--- one of the passes has
+-- One of the passes is full.
 abbrev pub AreFull : Participants → Type 0
 AreFull p = IsFull p.root ⊎ IsFull p.feeder ⊎ SomeIsFull p.members.items
 
--- fewer than 2^32
+-- The pass has seen fewer than 2^32 turns.
 abbrev pub IsShort : Standing → Type 0
 IsShort p = length p.seen < 2 ^ 32
 
--- each of the passes has seen so few
+-- Each of the passes has seen fewer than 2^32 turns.
 pub record AreShort (p : Participants) : Type 0 where
   pub root : IsShort p.root
   pub feeder : IsShort p.feeder
   pub members : AllByRecursion (λ m. IsShort m.pass) p.members.items
 
--- ---- the end of the hall
+-- ---- The end of the hall
 
--- the numbers and the turns of a worker's pass and of those that were joined into it
+-- The numbers and the turns of a worker's pass and of the passes that were joined into it.
 abbrev pub accounts_in : {M P F G : Type 0} → Member M P F G → List Account
 accounts_in m = accounts_of m.pass
 
--- the pass is the root's, which has taken in the feeder's and then those of the workers, and has seen what they had
+-- The pass `last` is the root's, which has taken in the feeder's and then those of the workers, and has seen what they
+-- had seen.
 pub record HasTaken (p : Participants) (last : Standing) : Type 0 where
   pub by : last.by ≡ p.root.by
   pub own : last.own ≡ p.root.own
@@ -94,7 +95,8 @@ pub record HasTaken (p : Participants) (last : Standing) : Type 0 where
   pub seen : Continues last.seen p.feeder.seen
   pub seen_members : AllByRecursion (λ m. Continues last.seen m.pass.seen) p.members.items
 
--- the machine stands for a drill's history, which has fewer than 2^32 turns, and whose rows begin at the trim horizon
+-- The machine stands for a drill's history, which has fewer than 2^32 turns, and in which the origin of each row is the
+-- trim horizon.
 pub record HasDrilled (number records : ℕ) (w : WorldValue) : Type 0 where
   pub turns : List Turn
   pub stands : StandsFor w turns

@@ -7,7 +7,7 @@ use Rattle.kds_ends.specs.declared.status.Status.{Status}
 use Rattle.kds_ends.specs.declared.status.Status.TheVariants.{Done, Write, Memory}
 use Rattle.kcl_drill.specs.Summed.{drill_text}
 
--- With Done the text of the drill was written, with Write a front of it, with Memory nothing. A drill ends with no
+-- With Done the text of the drill was written, with Write a prefix of it, and with Memory nothing. A drill ends with no
 -- other status.
 abbrev pub DrillTells : Status → ℕ → ℕ → Option (List ℕ) → Option (List ℕ) → Type 0
 DrillTells Done number records held now = Appends held now (drill_text number records)

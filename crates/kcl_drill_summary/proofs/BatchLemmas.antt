@@ -14,12 +14,12 @@ use Rattle.kcl_drill.specs.Summed.{bytes_of}
 abbrev pub AreSized : List Logged → Type 0
 AreSized rs = AllByRecursion IsSized rs
 
--- the numbers rise from p on
+-- The numbers of the records rise from the first argument on.
 abbrev pub IsUp : ℕ → List Logged → Type 0
 IsUp p [] = Unit {0}
 IsUp p (r ∷ rs) = (p ≤ r.seq) × IsUp (r.seq + 1) rs
 
--- the records from a number on
+-- The records from a number on.
 abbrev pub from : ℕ → List Logged → List Logged
 from p rs = filter (λ (r : Logged). nat_le p r.seq) rs
 
@@ -69,7 +69,7 @@ part_head p r rs bs true le up above rest =
     (sym (is_above place r.seq (omega arith)))
 part_head p r rs bs false le up above rest = sym (all_from p (r ∷ rs) (le, up))
 
--- a batch, and those from the place after it on, are all
+-- A batch and the records from the place after it on are all records.
 pub parts : (limit room p : ℕ) (rs : List Logged) → IsUp p rs
     → rs ≡ beginning limit room rs ++ from (place_after p (numbers_of (beginning limit room rs))) rs
 parts zero room p rs up = sym (all_from p rs up)
@@ -93,14 +93,14 @@ from_twice p place [] le = refl
 from_twice p place (r ∷ rs) le =
     twice_head p place r rs le (nat_le p r.seq) (nat_le place r.seq) refl refl (from_twice p place rs le)
 
--- where nothing of them is trimmed, those that are left are those from a number on
+-- If no record is trimmed, the records that are left are those from a number on.
 pub left_all : (floor p : ℕ) (rs : List Logged) → AreAbove floor rs → left_among floor p rs ≡ from p rs
 left_all floor p [] are = refl
 left_all floor p (r ∷ rs) are =
     ap (λ b. cond (not b && nat_le p r.seq) (r ∷ left_among floor p rs) (left_among floor p rs)) are.0
     ∙ ap (λ xs. cond (nat_le p r.seq) (r ∷ xs) xs) (left_all floor p rs are.1)
 
--- ---- where a read comes no further, nothing is left
+-- ---- If a read comes no further, nothing is left
 
 pub sized_from : (p : ℕ) (rs : List Logged) → AreSized rs → AreSized (from p rs)
 sized_from p rs are = all_filter IsSized (λ (r : Logged). nat_le p r.seq) rs are
@@ -121,7 +121,7 @@ stuck limit p (r ∷ rs) up are is =
         no : (p q : ℕ) → p < q → nat_lt p q ≡ false → ⊥
         no p q below h = grind (arith, nat_tests)
 
--- ---- counts
+-- ---- Counts
 
 pub bytes_append : (xs ys : List Logged) → bytes_of (xs ++ ys) ≡ bytes_of xs + bytes_of ys
 bytes_append [] ys = omega arith

@@ -1,4 +1,4 @@
--- One read further: what is counted and what is left stay all the records.
+-- After one more read, what is counted and what is left are still all records.
 use Rattle.std.proofs.Common.{◌≡◌, ℕ, ◌+◌, ◌*◌, ◌<◌, ◌≤◌, ◌^◌, Bool, true, false, List, [], ◌∷◌, ◌++◌, length, map}
 use Rattle.std.proofs.Common.{Option, Some, None, refl, sym, ap, subst, ◌∙◌, arith}
 use Rattle.std.specs.Prelude.{not, nat_lt, if◌then◌else◌, Result, Ok}
@@ -30,7 +30,7 @@ use Rattle.kcl_drill_summary.proofs.BatchLemmas.{AreSized, IsUp, from, up_from, 
 use Rattle.kcl_drill_summary.proofs.BatchLemmas.{sized_from, stuck, up_weaker, all_from}
 use Rattle.kcl_drill_summary.proofs.BatchLemmas.{bytes_append, bytes_stored}
 
--- ---- what holds of the records of each shard
+-- ---- What holds of the records of each shard
 
 pub up_rising : (p : ℕ) (rs : List Logged) (q : ℕ) → RiseBetween p rs q → IsUp p rs
 up_rising p [] q is = tt
@@ -54,7 +54,7 @@ few_bytes : (log : Journal) (c s sh : ℕ) → CanCount log c s sh → bytes_of 
 few_bytes log c s sh can = let n = few_records log c s sh can in let m = bytes_few (records log s sh) can.sized in
     omega arith
 
--- ---- the answer
+-- ---- The answer
 
 young : (c issued : ℕ) → issued ≡ c → is_old c issued ≡ false
 young c issued is = grind (arith, nat_tests)
@@ -69,7 +69,7 @@ replied log c iter limit can is =
     ∙ passed_if refusal.NoStream (not (is_live log iter.stream)) _ (ap not can.live)
     ∙ passed_if refusal.NoShard (not (is_listed log c iter.stream iter.shard)) _ (ap not can.listed)
 
--- ---- what is left
+-- ---- What is left
 
 pub left_is : (log : Journal) (c s sh p : ℕ) → CanCount log c s sh → left_from log c s sh p ≡ from p (records log s sh)
 left_is log c s sh p can =
@@ -80,7 +80,7 @@ none_so : (rs : List Logged) → are_none rs ≡ true → rs ≡ []
 none_so [] is = refl
 none_so (r ∷ rs) is = absurd cc
 
--- ---- the sums
+-- ---- The sums
 
 abbrev Adds : ℕ → ℕ → ℕ → ℕ → Type 0
 Adds bound old more new = old + more < bound → new ≡ old + more
@@ -114,7 +114,7 @@ all_counted count bytes rest all none counts = (
     zeros : (n m k : ℕ) → m ≡ 0 → n + m ≡ k → n ≡ k
     zeros n m k is so = omega arith
 
--- ---- a read
+-- ---- A read
 
 ended : (log : Journal) (c s sh p place count bytes count' bytes' : ℕ) (next' : Option Iter) → CanCount log c s sh
     → ends_at log c s sh place ≡ true → CountsTo count' bytes' (from place (records log s sh)) (records log s sh)
@@ -194,7 +194,7 @@ read_on log c by iter count bytes count' bytes' next' a can goes is absorbs =
         (behind c (left_from log c s sh place)) [])) ends) in
         goes_on log c s sh p place count' bytes' next' (nat_lt p place) can refl stops (on f.0 f.1) f.2
 
--- ---- from the first record on
+-- ---- From the first record on
 
 pub begins : (log : Journal) (c s sh : ℕ) (iter : Iter) → CanCount log c s sh → iter ≡ iterator_at c s sh 0
     → GoesOn log c s sh 0 0 (Some iter)

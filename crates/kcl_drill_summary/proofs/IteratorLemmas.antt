@@ -42,7 +42,7 @@ iterated log c by s sh name a is named can told =
     ∙ with_some (shard_at log s sh) refusal.NoShard _ x.0 x.1
     ∙ passed_if refusal.BadNumber false _ refl)
 
--- ---- the iterator, where it is of the key's stream
+-- ---- The iterator, if it is of the key's stream
 
 turned : (a b : ℕ) (d : Bool) → (a == b) ≡ d → (b == a) ≡ d
 turned a b true h = grind (arith, nat_tests)
@@ -69,7 +69,7 @@ none_here k c s sh p other = ap (λ b. if b then Some (iterator_at c s sh p) els
 none_there : (log : Journal) (k c s sh : ℕ) → (s == k) ≡ false → NoneIn k (get_iterator log c s sh start.TrimHorizon)
 none_there log k c s sh other = none_if k _ _ _ (none_with k _ _ _ (λ x. none_if k _ _ _ (none_here k c s sh 0 other)))
 
--- of another stream there is none
+-- An answer has no iterator of another stream than the drill's.
 elsewhere : (log : Journal) (c by s k sh : ℕ) (name : List ℕ) (a : Result Reply Refusal) → name ≡ drill_name
     → stream_named log drill_name ≡ Some s → (k == s) ≡ false
     → a ≡ answer_of (decide log c by (command.GetIterator name sh start.TrimHorizon)) → iterator_in a k ≡ None
@@ -91,7 +91,7 @@ here log c by s k sh name a is named same can told =
 none_some : (i : Iter) → None ≡ Some i → ⊥
 none_some i h = cc
 
--- none is found where the key is of another stream, and only there
+-- If no iterator is found, the key is of another stream.
 pub not_counted : (log : Journal) (c by s : ℕ) (key : ShardRef) (name : List ℕ) (a : Result Reply Refusal)
     → name ≡ drill_name → stream_named log drill_name ≡ Some s → ((key.stream == s) ≡ true → CanCount log c s key.shard)
     → a ≡ answer_of (decide log c by (command.GetIterator name key.shard start.TrimHorizon))
@@ -104,7 +104,7 @@ not_counted log c by s key name a is named can told none = either (key.stream ==
         (none_some (iterator_at c s key.shard 0) (sym none
         ∙ here log c by s key.stream key.shard name a is named same (can same) told))
 
--- one that is found is that of the key's shard, and what is counted from it is
+-- An iterator that is found is that of the key's shard, and so is what is counted from it.
 pub counted : (log : Journal) (c by s : ℕ) (key : ShardRef) (name : List ℕ) (a : Result Reply Refusal) (iter : Iter)
     (n : Count) → name ≡ drill_name → stream_named log drill_name ≡ Some s
     → ((key.stream == s) ≡ true → CanCount log c s key.shard)

@@ -1,4 +1,4 @@
--- Turns that only read leave the journal, and are answered as if nothing were read before them.
+-- Turns that only read leave the journal as it is, and are answered as if there were no reads before them.
 use Rattle.std.proofs.Common.{◌≡◌, ℕ, true, List, [], ◌∷◌, ◌++◌, refl, ap, ◌∙◌, arith}
 use Rattle.std.specs.Prelude.{max, Result, Ok, Err, IfOk, OnErr}
 use Rattle.kds_defs.specs.declared.command.Command.{Command}
@@ -10,7 +10,7 @@ use Rattle.kds_defs.specs.Journal.{Journal, Line, with_lines}
 use Rattle.kds_defs.proofs.Walk.{Outcome, Refuses, Answers, Adds, Creates, walk}
 use Rattle.kcl_drill_summary.specs.Reading.{AreReads, HasRead, is_reading}
 
--- such a turn adds no line
+-- A turn that only reads adds no line.
 none_by : (log : Journal) (c by : ℕ) (what : Command) (lines : List Line) (answer : Result Reply Refusal)
     → Outcome log c by what lines answer
     → is_reading what ≡ true → lines ≡ []
@@ -52,7 +52,7 @@ pub asked : {E : Type 0} (stands : List Turn → Type 0) (stands' : List Turn �
 asked stands stands' by at h what (Ok a) has is = is.0 ∙ answer_is by at has.more h what has.are
 asked stands stands' by at h what (Err e) has is = tt
 
--- whatever came of it, the machine has read
+-- Whatever came of the turn, the machine has read.
 pub has_read : {E : Type 0} (stands : List Turn → Type 0) (stands' : List Turn → Type 0) (by at : ℕ) (h : List Turn)
     (what : Command) (r : Result (Result Reply Refusal) E) → is_reading what ≡ true → (has : HasRead stands by at h)
     → IfOk r (λ a. (a ≡ answer (has.more ++ h) (turn_of by at what)) × stands' (turn_of by at what ∷ (has.more ++ h)))

@@ -18,7 +18,7 @@ mapped : (f : Row → Row) (o : Option Row) (y : Row) → option_map f o ≡ Som
 mapped f None y h = absurd cc
 mapped f (Some x) y h = (x, refl, cc)
 
--- ---- a row has its key
+-- ---- A row has its key
 
 changed : (f : Row → Row) (b : Bool) (o : Option Row) (key : ShardRef) (r : Row) → ((x : Row) → (f x).key ≡ x.key)
     → ((x : Row) → o ≡ Some x → x.key ≡ key) → (if b then option_map f o else o) ≡ Some r → r.key ≡ key
@@ -55,7 +55,7 @@ keyed : (log : Journal) (key : ShardRef) (r : Row) → row log key ≡ Some r �
 keyed [] key r there = absurd cc
 keyed (line ∷ log) key r there = keyed_after log line line.what key (row log key) r (keyed log key) there
 
--- ---- among the keys
+-- ---- Among the keys
 
 abbrev is_in : ShardRef → List ShardRef → Bool
 is_in key [] = false
@@ -122,7 +122,7 @@ in_keys : (log : Journal) (key : ShardRef) (r : Row) → row log key ≡ Some r 
 in_keys [] key r there = absurd cc
 in_keys (line ∷ log) key r there = in_by log line line.what key (row log key) r (row_keys log) (in_keys log key) there
 
--- ---- the first row
+-- ---- The first row
 
 none_either : (b : Bool) (o : Option Row) → o ≡ None → (if b then o else None) ≡ o
 none_either true o is = refl

@@ -30,7 +30,7 @@ same_sum : (n count count' bytes bytes' : ℕ) (at at' : Checkpoint) → count �
     → sum n count bytes at ≡ sum n count' bytes' at'
 same_sum n count count' bytes bytes' at at' p q r = λ i. record { no = n; count = p i; bytes = q i; checkpoint = r i }
 
--- what is told of a key that is first: its sum, where it is of the stream
+-- What is told of the first key: its sum, if the key is of the stream.
 abbrev first_of : Journal → ℕ → ShardRef → List Summed
 first_of log s key = map (summed_key log) (of_stream s (key ∷ []))
 

@@ -1,4 +1,4 @@
--- The keys of a survey that are of the drill's stream: its listed shards, each of which can be counted.
+-- The keys of a survey that are of the drill's stream are its listed shards. Each of them can be counted.
 use Rattle.std.proofs.Common.{◌≡◌, ℕ, zero, suc, ◌+◌, ◌<◌, ◌≤◌, Bool, true, false, List, [], ◌∷◌, ◌++◌, length, map}
 use Rattle.std.proofs.Common.{Some, refl, sym, ap, subst, ◌∙◌, arith}
 use Rattle.std.specs.Prelude.{◌==◌, ◌||◌, cond, not, slice_get, if◌then◌else◌, Result, Ok, Err, IfOk}
@@ -25,9 +25,9 @@ use Rattle.kcl_drill.specs.Summed.{Summed, bytes_of, sum_of, summary_of, summary
 use Rattle.kcl_drill_summary.specs.Counting.{AreAbove, AreCountable, AreFew, CanCount, of_stream, summed_key}
 use Rattle.kcl_drill_summary.proofs.Totals.{bytes_in, few_bytes_in, few_in, records_in}
 
--- ---- a listed shard stands at its number
+-- ---- A listed shard stands at its number
 
--- it was not closed below the floor, and stands there
+-- The shard wasn't closed below the floor, and stands at its number.
 abbrev Stands : Journal → ℕ → ℕ → ShardState → Type 0
 Stands log c s x = (shard_at log s x.no ≡ Some x) × (not (is_closed_below (trim_floor log c s) x) ≡ true)
 
@@ -55,7 +55,7 @@ listed_stand log c s (x ∷ xs) are =
     cond_both (not (is_closed_below (trim_floor log c s) x)) (x ∷ ys) ys (AllByRecursion (Stands log c s))
     (λ is. ((are.0, is), rest)) (λ not. rest)
 
--- so it is listed
+-- Such a shard is listed.
 is_listed_at : (log : Journal) (c s : ℕ) (x : ShardState) → is_live log s ≡ true → Stands log c s x
     → is_listed log c s x.no ≡ true
 is_listed_at log c s x live stands =
@@ -63,7 +63,7 @@ is_listed_at log c s x live stands =
     ∙ ap (λ b. not (not b || is_closed_below (trim_floor log c s) x)) live
     ∙ stands.1
 
--- ---- the facts of a history that counting stands on
+-- ---- The facts of a history on which counting depends
 
 pub record Facts (log : Journal) : Type 0 where
   pub numbered : (s : ℕ) → AreNumbered 0 (shards log s)
@@ -111,7 +111,7 @@ module _ (log : Journal) (facts : Facts log) (c s : ℕ) (whole : (sh : ℕ)
           rest
       either false dead rest = rest
 
--- ---- those of one stream
+-- ---- The keys of one stream
 
 none_of : (s t : ℕ) (xs : List ShardState) (rest : List ShardRef) → (t == s) ≡ false
     → of_stream s (refs_of t xs ++ rest) ≡ of_stream s rest
@@ -184,7 +184,7 @@ picked log c p q n (suc count) s h = either (q n) (p n) refl (λ k. picked log c
         apart_above : n + 1 ≤ s → (n == s) ≡ false
         apart_above h = grind (arith, nat_tests)
 
--- ---- the summary
+-- ---- The summary
 
 keys_summed : (log : Journal) (s : ℕ) (xs : List ShardState)
     → map (summed_key log) (refs_of s xs) ≡ map (summed_at log s) xs

@@ -1,4 +1,4 @@
--- The records of a stream's shards together are fewer than its numbers.
+-- The shards of a stream have together fewer records than the stream's next number.
 use Rattle.std.proofs.Common.{◌≡◌, ℕ, ◌+◌, ◌*◌, ◌<◌, ◌≤◌, ◌^◌, Bool, true, false, List, [], ◌∷◌, ◌++◌, length, refl, ap}
 use Rattle.std.proofs.Common.{arith}
 use Rattle.std.specs.Prelude.{◌==◌, ◌&&◌, if◌then◌else◌}
@@ -14,7 +14,7 @@ use Rattle.kcl_drill.specs.Summed.{bytes_of}
 use Rattle.kcl_drill_summary.proofs.BatchLemmas.{AreSized}
 use Rattle.kcl_drill_summary.proofs.CountLemmas.{bytes_few}
 
--- how many records these shards have
+-- The number of records of the shards.
 abbrev pub records_in : Journal → ℕ → List ℕ → ℕ
 records_in log s [] = 0
 records_in log s (sh ∷ shs) = length (records log s sh) + records_in log s shs
@@ -23,9 +23,9 @@ abbrev pub bytes_in : Journal → ℕ → List ℕ → ℕ
 bytes_in log s [] = 0
 bytes_in log s (sh ∷ shs) = bytes_of (records log s sh) + bytes_in log s shs
 
--- ---- one more line
+-- ---- One more line
 
--- the same for a list of lengths
+-- The sum of a function over a list of numbers.
 abbrev sums : (ℕ → ℕ) → List ℕ → ℕ
 sums f [] = 0
 sums f (x ∷ xs) = f x + sums f xs
@@ -111,7 +111,7 @@ pub few_in : (log : Journal) (s m : ℕ) (shs : List ℕ) → next_number log s 
     → records_in log s shs < 2 ^ 64
 few_in log s m shs fits rise = omega (arith, in_sums log s shs, below_next log s m shs rise, fits)
 
--- ---- bytes
+-- ---- Bytes
 
 pub few_bytes_in : (log : Journal) (s : ℕ) (shs : List ℕ) → ((sh : ℕ) → AreSized (records log s sh))
     → bytes_in log s shs ≤ 10485760 * records_in log s shs

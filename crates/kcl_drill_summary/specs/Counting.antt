@@ -1,4 +1,4 @@
--- What is counted of a shard, and what is told of all.
+-- What is counted of a shard, and what is told of all shards.
 use Rattle.std.specs.Prelude.{ℕ, ◌≡◌, ◌+◌, ◌<◌, ◌≤◌, ◌^◌, ◌==◌, true, false, nat_lt, if◌then◌else◌, List, [], ◌∷◌}
 use Rattle.std.specs.Prelude.{length, Option, Some, None, Result, Ok}
 use Rattle.std.specs.List.{AllByRecursion, filter, find}
@@ -25,21 +25,21 @@ use Rattle.kcl_drill.specs.Generated.{drill_name}
 use Rattle.kcl_drill.specs.Summed.{Summed, summed, sum_of, bytes_of}
 use Rattle.kcl_drill_summary.specs.declared.counting.Count.{Count}
 
--- so many records and bytes, and further records, are all the records
+-- `count` records with `bytes` payload bytes, together with the records `rest`, are all the records.
 pub record CountsTo (count bytes : ℕ) (rest all : List Logged) : Type 0 where
   pub records : count + length rest ≡ length all
   pub payload : bytes + bytes_of rest ≡ bytes_of all
 
--- where reading goes on, if that is above a position
+-- The iterator where reading goes on, if it is above the position `position`.
 abbrev pub next_above : ℕ → Option Iter → Option Iter
 next_above position None = None
 next_above position (Some next) = if nat_lt position next.position then Some next else None
 
--- they arrived at or above the floor
+-- The records arrived at or above the floor.
 abbrev pub AreAbove : ℕ → List Logged → Type 0
 AreAbove floor rs = AllByRecursion (λ (r : Logged). nat_lt r.arrival floor ≡ false) rs
 
--- the shard is listed, and nothing of it is trimmed; and what holds of each shard in a history
+-- The shard is listed, and nothing of it is trimmed. The other parts hold for each shard in a history.
 pub record CanCount (log : Journal) (c s sh : ℕ) : Type 0 where
   pub live : is_live log s ≡ true
   pub listed : is_listed log c s sh ≡ true
@@ -48,55 +48,55 @@ pub record CanCount (log : Journal) (c s sh : ℕ) : Type 0 where
   pub fits : next_number log s ≤ last_number
   pub sized : AllByRecursion IsSized (records log s sh)
 
--- where reading of a shard goes on after so many records and bytes, if anywhere: those from there on are left, and else
--- none is
+-- Where reading of a shard goes on after `count` records with `bytes` payload bytes. The records from there on are
+-- left, and none is left if reading goes on nowhere.
 abbrev pub GoesOn : Journal → ℕ → ℕ → ℕ → ℕ → ℕ → Option Iter → Type 0
 GoesOn log c s sh count bytes None = (count ≡ length (records log s sh)) × (bytes ≡ bytes_of (records log s sh))
 GoesOn log c s sh count bytes (Some next) =
     (next ≡ iterator_at c s sh next.position)
     × CountsTo count bytes (left_from log c s sh next.position) (records log s sh)
 
--- the iterator of an answer, where it is of this stream
+-- The iterator of an answer, if it is of the stream `s`.
 abbrev pub iterator_in : Result Reply Refusal → ℕ → Option Iter
 iterator_in (Ok (reply.Iterator iter)) s = if iter.stream == s then Some iter else None
 iterator_in _ s = None
 
--- the count is that of the key's shard, and there is one exactly where the key is of this stream
+-- The count is that of the key's shard, and there is one exactly if the key is of the stream `s`.
 abbrev pub CountsKey : Journal → ℕ → ShardRef → Option Count → Type 0
 CountsKey log s key None = (key.stream == s) ≡ false
 CountsKey log s key (Some n) =
     ((key.stream == s) ≡ true) × (n.count ≡ length (records log s key.shard))
     × (n.bytes ≡ bytes_of (records log s key.shard))
 
--- each of these keys that is of this stream can be counted
+-- Each of the keys that is of the stream `s` can be counted.
 abbrev pub AreCountable : Journal → ℕ → ℕ → List ShardRef → Type 0
 AreCountable log c s keys =
     AllByRecursion (λ (key : ShardRef). (key.stream == s) ≡ true → CanCount log c s key.shard) keys
 
--- those of them
+-- The keys that are of the stream `s`.
 abbrev pub of_stream : ℕ → List ShardRef → List ShardRef
 of_stream s keys = filter (λ (key : ShardRef). key.stream == s) keys
 
--- what is told of a shard by its key
+-- What is told of the shard with a key.
 abbrev pub summed_key : Journal → ShardRef → Summed
 summed_key log key = summed key.shard (records log key.stream key.shard) (checkpoint_in (row log key))
 
--- a shard is told with this count and checkpoint, if it was counted
+-- A shard is told with its count and its checkpoint, if it was counted.
 abbrev pub told_of : ShardRef → Option Count → Checkpoint → List Summed
 told_of key None at = []
 told_of key (Some n) at = record { no = key.shard; count = n.count; bytes = n.bytes; checkpoint = at } ∷ []
 
--- the sums are below 2^128
+-- The sums over the shards are below 2^128.
 abbrev pub AreFew : List Summed → Type 0
 AreFew xs = (sum_of (λ x. x.count) xs < 2 ^ 128) × (sum_of (λ x. x.bytes) xs < 2 ^ 128)
 
--- the drill's stream is live, and nothing of it is trimmed
+-- The drill's stream is live, and nothing of it is trimmed.
 pub record CanSum (h : List Turn) (c : ℕ) : Type 0 where
   pub lawful : IsHistory h
   pub stream : ℕ
   pub named : stream_named (journal h) drill_name ≡ Some stream
   pub whole : (sh : ℕ) → AreAbove (trim_floor (journal h) c stream) (records (journal h) stream sh)
 
--- the first row of a key among rows
+-- The first row of a key among the rows.
 abbrev pub row_in : List Row → ShardRef → Option Row
 row_in rows key = find (λ (r : Row). same_key r.key key) rows

@@ -1,4 +1,4 @@
--- What the steps of a summary promise, over any machine.
+-- What the steps of a summary promise for any machine.
 use Rattle.std.specs.Prelude.{ℕ, ◌≡◌, ◌+◌, ◌<◌, ◌^◌, ◌==◌, true, max, List, length, map, Option, Some, Result, Ok, IfOk}
 use Rattle.kds_base.specs.declared.lease_key.ShardRef.{ShardRef}
 use Rattle.kds_defs.specs.declared.command.Turn.{Turn}
@@ -22,7 +22,7 @@ use Rattle.kcl_drill_summary.specs.Counting.{AreCountable, CanCount, CountsKey, 
 use Rattle.kcl_drill_summary.specs.Counting.{summed_key}
 use Rattle.kcl_drill_summary.specs.Reading.{HasRead}
 
--- what a batch makes of a count, and where reading goes on
+-- What a batch makes of a count, and where reading goes on.
 abbrev pub Absorbs : ℕ → ℕ → ℕ → Result Reply Refusal → ℕ → ℕ → Option Iter → Type 0
 Absorbs count bytes position a count' bytes' next' =
     (batch : List Stored) (next : Option Iter) (behind : ℕ) (children : List Shard)
@@ -31,7 +31,7 @@ Absorbs count bytes position a count' bytes' next' =
     × (bytes + bytes_of (map logged batch) < 2 ^ 128 → bytes' ≡ bytes + bytes_of (map logged batch))
     × (next' ≡ next_above position next)
 
--- one read further, what is counted and what is left stay all the records of the iterator's shard
+-- After one more read, what is counted and what is left are still all the records of the iterator's shard.
 abbrev pub ReadsOn : {E : Type 0} → (List Turn → Type 0) → ℕ → ℕ → Iter → Count → Result (Count × Option Iter) E
     → Type 0
 ReadsOn stands by at iter count result =
@@ -39,7 +39,7 @@ ReadsOn stands by at iter count result =
     → GoesOn (journal h) (max (clock h) at) iter.stream iter.shard count.count count.bytes (Some iter)
     → IfOk result (λ r. GoesOn (journal h) (max (clock h) at) iter.stream iter.shard r.0.count r.0.bytes r.1)
 
--- from the beginning of a shard on, its records and their payload bytes are counted
+-- From the beginning of a shard on, all its records and their payload bytes are counted.
 abbrev pub CountsFrom : {E : Type 0} → (List Turn → Type 0) → ℕ → ℕ → Iter → Result Count E → Type 0
 CountsFrom stands by at from result =
     (h : List Turn) → HasRead stands by at h → CanCount (journal h) (max (clock h) at) from.stream from.shard
@@ -47,14 +47,15 @@ CountsFrom stands by at from result =
     → IfOk result (λ n. (n.count ≡ length (records (journal h) from.stream from.shard))
     × (n.bytes ≡ bytes_of (records (journal h) from.stream from.shard)))
 
--- a key is counted, where it is of the drill's stream
+-- The shard of a key is counted if the key is of the drill's stream.
 abbrev pub FindsCount : {E : Type 0} → (List Turn → Type 0) → ℕ → ℕ → ShardRef → Result (Option Count) E → Type 0
 FindsCount stands by at key result =
     (h : List Turn) (s : ℕ) → HasRead stands by at h → stream_named (journal h) drill_name ≡ Some s
     → ((key.stream == s) ≡ true → CanCount (journal h) (max (clock h) at) s key.shard)
     → IfOk result (λ found. CountsKey (journal h) s key found)
 
--- the machine has read, these are all rows, and those of the keys that are of the drill's stream can be counted
+-- The machine has read, `among` are all rows, and the shards of those keys that are of the drill's stream can be
+-- counted.
 pub record CanTell (stands : List Turn → Type 0) (by at : ℕ) (h : List Turn) (s : ℕ) (keys : List ShardRef)
     (among : List Row) : Type 0 where
   pub read : HasRead stands by at h
@@ -62,6 +63,6 @@ pub record CanTell (stands : List Turn → Type 0) (by at : ℕ) (h : List Turn)
   pub named : stream_named (journal h) drill_name ≡ Some s
   pub countable : AreCountable (journal h) (max (clock h) at) s keys
 
--- what is told are those of the keys that are of this stream
+-- What is told are the shards of those keys that are of the stream `s`.
 abbrev pub IsTold : Journal → ℕ → List ShardRef → List Summed → Type 0
 IsTold log s keys xs = xs ≡ map (summed_key log) (of_stream s keys)

@@ -14,9 +14,9 @@ use Rattle.kcl_drill_threads.specs.Feeding.{Feeds, HasFed, HasFedSoFar, IsAfter,
 use Rattle.kcl_drill_threads.proofs.Passing.{asked_more, asked_same, begun_by, kept_all, kept_same, none_before}
 use Rattle.kcl_drill_threads.proofs.Passing.{none_before_one}
 
--- ---- the root
+-- ---- The root
 
--- its turn is the first command, and what it has seen begins with it
+-- The root's turn is the first command, and what the root has seen begins with it.
 pub record HasMadeFirst (coming left : List Command) (p : Standing) : Type 0 where
   pub asked : HasAsked (take 1 coming) p
   pub left_are : left ≡ drop 1 coming
@@ -42,7 +42,7 @@ made_first false coming left a b new kept (first, none, same) =
       seen = ap (λ ts. ts ++ b.seen) (sym own);
     }
 
--- a feeder that learned of it
+-- The feeder has learned of the root's turn.
 pub learned : (root feeder : Standing) (older : List Turn) → root.seen ≡ root.own ++ older
     → Continues feeder.seen root.seen → feeder.own ≡ [] → IsAfter root feeder
 learned root feeder older seen later none =
@@ -53,7 +53,7 @@ learned root feeder older seen later none =
       none = λ some. absurd (omega (arith, some, ap length none));
     }
 
--- ---- the feeder
+-- ---- The feeder
 
 pub record IsFeeding (all left : List Command) (before now : Standing) : Type 0 where
   pub kept : IsKept before now
@@ -105,7 +105,7 @@ feeding_more all coming left before a b inv next (what, first, answer, is) =
       last = inr (record { last = turn_of a.by what; place = is.place; before = a.own; seen = is.seen; own = is.own });
     }
 
--- an error
+-- After an error, the feeder has made a prefix of its commands.
 pub fed_some : (all coming : List Command) (before a b : Standing) → IsFeeding all coming before a → IsKept a b
     → b.own ≡ a.own → HasBegun all b
 fed_some all coming before a b inv next own =
@@ -122,7 +122,7 @@ feed_err all coming before a b e inv (inl (is, same)) =
     inl (is, subst (λ (p : Standing). (p.own ≡ []) ⊎ IsAtOwn p) (sym same) inv.last)
 feed_err all coming before a b e inv (inr is) = inr is
 
--- what is then said of the whole
+-- ---- What is then said of the whole
 
 pub feeds_some : (all coming : List Command) (before a b : Standing) (e : TurnErr) → IsFeeding all coming before a
     → IsKept a b → b.own ≡ a.own → IsAskErr a b e → Feeds {A = Unit {0}} all before b (Err e)
@@ -135,7 +135,7 @@ feeds_some all coming before a b e inv next own is =
       err = feed_err all coming before a b e inv is;
     }
 
--- ---- both
+-- ---- The root and the feeder
 
 pub after_feeding : (root mid feeder : Standing) → IsAfter root mid → IsKept mid feeder
     → (0 < length feeder.own → turns_by feeder.by mid.seen ≡ []) → IsAfter root feeder

@@ -12,9 +12,9 @@ use Rattle.kds_turn.specs.Passes.{Standing}
 use Rattle.kds_turn.proofs.Turns.{continues_all, no_length}
 use Rattle.kcl_drill_threads.specs.Asking.{HasAsked, HasBegun, IsKept, turn_of, turns_of}
 
--- ---- lists of turns that go on with one another
+-- ---- Lists of turns of which one goes on with another
 
--- an actor without turns had none before
+-- An actor without turns had none before.
 pub none_before : (n : ℕ) (h seen : List Turn) → Continues h seen → turns_by n h ≡ [] → turns_by n seen ≡ []
 none_before n h seen c none =
     let cut : turns_by n h ≡ turns_by n c.0 ++ turns_by n seen =
@@ -22,7 +22,7 @@ none_before n h seen c none =
     let total : length (turns_by n c.0 ++ turns_by n seen) ≡ 0 = ap length (sym cut ∙ none) in
     no_length (turns_by n seen) (omega (arith, total, length-append (turns_by n c.0) (turns_by n seen)))
 
--- before an actor's only turn it has none
+-- Before an actor's only turn, the actor had no turn.
 pub none_before_one : (n : ℕ) (turn : Turn) (place : List Turn) → turn.by ≡ n → turns_by n (turn ∷ place) ≡ turn ∷ []
     → turns_by n place ≡ []
 none_before_one n turn place by one =
@@ -31,7 +31,7 @@ none_before_one n turn place by one =
     let count = ap length two in
     no_length (turns_by n place) (omega arith)
 
--- ---- passes that were kept
+-- ---- Passes that were kept
 
 pub kept_same : (p : Standing) → IsKept p p
 kept_same p = record { hall = refl; by = refl; joined = refl; seen = ([], refl) }
@@ -45,7 +45,7 @@ kept_all a b c p q =
       seen = continues_all c.seen b.seen a.seen q.seen p.seen;
     }
 
--- ---- commands that were asked
+-- ---- Commands that were asked
 
 pub asked_more : (made : List Command) (what : Command) (a b : Standing) → b.by ≡ a.by → HasAsked made a
     → b.own ≡ turn_of a.by what ∷ a.own → HasAsked (made ++ what ∷ []) b

@@ -10,41 +10,42 @@ use Rattle.kds_turn.specs.declared.pass.TurnErr.TheVariants as failed
 use Rattle.kds_turn.specs.Known.{Continues}
 use Rattle.kds_turn.specs.Passes.{Standing, IsAnswered}
 
--- a pass keeps its hall, its number and what was joined into it, and what it had seen is a beginning of what it has
--- seen
+-- The pass keeps its hall, its number and what was joined into it, and what it had seen is a beginning of what it has
+-- seen now.
 pub record IsKept (before after : Standing) : Type 0 where
   pub hall : after.hall ≡ before.hall
   pub by : after.by ≡ before.by
   pub joined : after.joined ≡ before.joined
   pub seen : Continues after.seen before.seen
 
--- a command as a turn at moment 0
+-- The command as a turn of the actor `by` at moment 0.
 abbrev pub turn_of : ℕ → Command → Turn
 turn_of by what = record { by = by; at = 0; what = what }
 
--- commands as turns at moment 0, one after another
+-- The commands as turns of the actor `by` at moment 0, one after another.
 abbrev pub turns_of : ℕ → List Command → List Turn
 turns_of by commands = map (turn_of by) (reverse commands)
 
--- the pass's own turns are these commands
+-- The pass's own turns are the commands.
 abbrev pub HasAsked : List Command → Standing → Type 0
 HasAsked commands p = p.own ≡ turns_of p.by commands
 
--- they are the first of these commands
+-- The pass's own turns are a prefix of the commands.
 abbrev pub HasBegun : List Command → Standing → Type 0
 HasBegun commands p = (n : ℕ) × HasAsked (take n commands) p
 
--- the first of the commands to come was the pass's next turn, or there was none
+-- The first of the commands `coming` was the pass's next turn, or there was no command.
 abbrev pub Asks : Bool → List Command → List Command → Standing → Standing → Type 0
 Asks true coming left before after =
     (what : Command) × (coming ≡ what ∷ left) × (a : Result Reply Refusal)
     × IsAnswered (turn_of before.by what) a before after
 Asks false coming left before after = (coming ≡ []) × (left ≡ []) × (after ≡ before)
 
--- the error of a turn of the pass: Spent exactly where it has then seen as many turns as can be counted
+-- The error of a turn of the pass. It is Spent exactly if the pass has then seen as many turns as can be counted.
 abbrev pub IsTurnErr : Standing → TurnErr → Type 0
 IsTurnErr p e = (e ≡ failed.Spent) ↔ (length p.seen + 1 ≡ 2 ^ 64)
 
--- why no turn was taken: the generator ran out of memory, which leaves the pass as it was, or the error of the turn
+-- The reason why no turn was taken: the generator ran out of memory, which leaves the pass as it was, or the turn
+-- failed.
 abbrev pub IsAskErr : Standing → Standing → TurnErr → Type 0
 IsAskErr before after e = ((e ≡ failed.Memory) × (after ≡ before)) ⊎ IsTurnErr after e

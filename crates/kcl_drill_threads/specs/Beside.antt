@@ -1,15 +1,15 @@
--- What a function is given that runs beside the generator.
+-- The argument of the function that runs beside the generator.
 use Rattle.std.specs.Prelude.{◌≡◌, List}
 use denote.Ref.{MutBor}
 use denote.Param.Members.{Shared}
 
 module _ {F T : Type 0} (g : Shared F (MutBor (List T) × Unit {0}) (Unit {0} × (MutBor (List T) × Unit {0})))
     (f : F) where
-  -- it may be called with a reference to these
+  -- The function may be called with a reference to `xs`.
   abbrev pub Accepts : List T → Type 0
   Accepts xs = (p : MutBor (List T)) → p.now ≡ xs → g.pre f (p, tt)
 
-  -- a call of it with these may leave those
+  -- A call of the function with `xs` may leave `ys`.
   pub record Leaves (xs ys : List T) : Type 0 where
     pub argument : MutBor (List T)
     pub argument_is : argument.now ≡ xs

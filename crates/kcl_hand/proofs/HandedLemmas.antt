@@ -1,4 +1,4 @@
--- What was given in a tenure whose row was freed by a hand-off is marked.
+-- What was given in a tenure whose row a hand-off has freed is marked.
 use Rattle.std.proofs.Common.{◌≡◌, ℕ, ◌+◌, ◌≤◌, true, List, [], ◌∷◌, ◌++◌, take, drop, Option, Some, None, refl, sym}
 use Rattle.std.proofs.Common.{ap, subst, ◌∙◌, arith, inl, inr}
 use Rattle.std.proofs.Common.{append_assoc}
@@ -37,7 +37,7 @@ use Rattle.kcl_hand.proofs.MarkLemmas.{HasMarked, marked_in}
 use Rattle.kcl_hand.proofs.ReadLemmas.{read_among, read_once}
 use Rattle.kcl_hand.proofs.Serving.{all_served, joint_ok}
 
--- ---- the greatest of rising numbers is the last one
+-- ---- The greatest of rising numbers is the last one
 
 abbrev numbers : List Stored → List ℕ
 numbers rs = map (λ r. r.seq) rs
@@ -63,7 +63,7 @@ none_last : (n : ℕ) (rs : List Stored) → last_of rs ≡ None → IsAmong n (
 none_last n [] is among = among
 none_last n (r ∷ rs) is among = no_last r rs is
 
--- ---- the given reads of a tenure, by the record of its consumer
+-- ---- The given reads of a tenure, in terms of the record of its consumer
 
 numbers-append : (rs ss : List ReadDone) → all_numbers (rs ++ ss) ≡ all_numbers rs ++ all_numbers ss
 numbers-append [] ss = refl
@@ -81,7 +81,7 @@ rise_given T rise =
     (subst (RiseFrom 0) (ap all_numbers (sym (take-append-drop T.given T.reads))
     ∙ numbers-append (given_reads T) (drop T.given T.reads)) rise)
 
--- ---- what is marked
+-- ---- What is marked
 
 less_up : (n q : ℕ) (c : Checkpoint) → n ≤ q → IsUpTo q c → IsUpTo n c
 less_up n q TrimHorizon le up = up
@@ -119,7 +119,7 @@ one_marked by h lawful x step lease marked T r begun own there = λ n given.
     lease begun there marked
     (subst (RiseFrom 0) done rise) (subst (IsAmong n) done (read_among n (given_reads T) given))
 
--- the tenure is the actor's
+-- The tenure is the actor's.
 own_tenure : (by : ℕ) (h : List Turn) (made : Tenancy) (T : TenureState) → tenure (journal h) made.tenure ≡ Some T
     → IsOfTenure by h made → (T.by == by) ≡ true
 own_tenure by h made T begun of =
@@ -154,7 +154,7 @@ all_handed by h made past lawful orderly told =
     (subst (λ deals. AllByRecursion (InStep deals) (map known_in (hands_after made past))) (sym told) steps)
     (all_served by h made past orderly told).handed
 
--- ---- a later tenure
+-- ---- A later tenure
 
 one_again : (by : ℕ) (h before : List Turn) → IsHistory h → (x : HandOff) → IsHandedOffIfFreed by before x
     → IsNeverReadAgain by h before x

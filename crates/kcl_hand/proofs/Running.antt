@@ -27,7 +27,7 @@ use Rattle.kcl_hand.specs.Standing.{IsGoing, IsLeaving, turns_left}
 use Rattle.kcl_hand.proofs.Handings.{answered_few, at_its_consumer, answered_leaves, called_few, called_leaves, few}
 use Rattle.kcl_hand.proofs.Handings.{freed_few, freed_goes, goes, lost_leaves, marked_few, marked_goes}
 
--- ---- the last of several hand-offs
+-- ---- The last of several hand-offs
 
 pub command_last : (hands : List HandOff) (x : HandOff)
     → command_in (length hands) (hands ++ (x ∷ [])) ≡ hand_command x.held x.made (state_of x)
@@ -47,7 +47,7 @@ hands_with key made past r which (event ∷ since) =
     ap (with_hand_event (length (hands_after made past)) event) (hands_with key made past r which since)
     ∙ event_last (hands_after made past) (hand_of r since) event
 
--- its answered command is the next of the worker and its hand-offs
+-- The answered command of the hand-off is the newest one of the worker and its hand-offs.
 pub deals_with_hand : (key : ShardRef) (made : WorkerMade) (past : JointPast) (r : Release)
     → released key (worker_in made past) ≡ Some r → (since : HandPast) (what : Command) (answer : Result Reply Refusal)
     → hand_command r.held r.known.made (state_of (hand_of r since)) ≡ Some what
@@ -58,7 +58,7 @@ deals_with_hand key made past r which since what answer is =
     (ap (command_in (length (hands_after made past))) (hands_with key made past r which since)
     ∙ command_last (hands_after made past) (hand_of r since) ∙ is)
 
--- ---- it ends
+-- ---- The hand-off ends
 
 pub record IsOnWay (s : HandState) (phase : Phase) (n : ℕ) : Type 0 where
   pub going : IsGoing s.stand phase
@@ -71,7 +71,7 @@ OnWay x n = IsOnWay (state_of x) (phase_after x.made (state_of x).past) n
 Q : HandOff → ℕ → HandState → Type 0
 Q x n s = IsOnWay s (phase_after x.made s.past) n × (due_call (phase_after x.made s.past) ≡ None)
 
--- the call that is due is made at its consumer
+-- The due call is made at the consumer.
 called_here : (x : HandOff) (n : ℕ) (s : HandState) → IsOnWay s (phase_after x.made s.past) n
     → IsSome (due_call (phase_after x.made s.past)) → s.stand ≡ stand.Consumer
     → Q x n (called_at x.held x.made ask.None s stand.Consumer)
@@ -99,7 +99,7 @@ called_way x n w (Some due) e =
     subst (λ k. Q x n (called_at x.held x.made ask.None (state_of x) k)) (sym at)
     (called_here x n (state_of x) w is_due at)
 
--- where no call is due and no command comes next it has ended
+-- If no call is due and no command comes next, the hand-off has ended.
 stops : (x : HandOff) (phase : Phase) (s : Stand) → IsGoing s phase → IsLeaving phase → due_call phase ≡ None
     → command_at x.held x.made phase s ≡ None → IsSome (left_at s)
 stops x (Giving reach waiting asked lost) stand.Consumer going l due none = absurd cc
@@ -110,7 +110,7 @@ stops x phase (stand.Mark q) going l due none = absurd cc
 stops x phase (stand.Free counter) going l due none = absurd cc
 stops x phase (stand.Ended left) going l due none = refl
 
--- an answer leaves fewer
+-- After an answer, fewer turns are left.
 answered_way : (x : HandOff) (n : ℕ) (s : HandState) (st : Stand) (what : Command) (a : Result Reply Refusal)
     → s.stand ≡ st → IsOnWay s (phase_after x.made s.past) (suc n) → due_call (phase_after x.made s.past) ≡ None
     → command_at x.held x.made (phase_after x.made s.past) st ≡ Some what
@@ -144,7 +144,7 @@ answered_way x n s (stand.Free counter) what a at w due is =
     }
 answered_way x n s (stand.Ended left) what a at w due is = absurd cc
 
--- none is left at its end
+-- If no turn is left, the hand-off has ended.
 none_left : (s : Stand) (phase : Phase) → turns_left s phase ≤ 0 → IsSome (left_at s)
 none_left (stand.Ended left) phase l = refl
 none_left stand.Consumer (Giving reach waiting asked lost) l = absurd (omega arith)

@@ -32,7 +32,7 @@ use Rattle.kcl_hand.proofs.Jointly.{JointFine, all_left, all_right, found_all, h
 use Rattle.kcl_hand.proofs.Tenancies.{AreAllBegun, IsBegunHand, all_begun}
 use Rattle.kcl_hand.proofs.Widened.{wide_consumer, widened}
 
--- ---- no Give was refused
+-- ---- No Give was refused
 
 one_unrefused : (x : HandOff) (event : HandEvent) (o : Option Command) (deals : List Deal)
     → hand_command x.held x.made (state_of x) ≡ o → MayHand event o → AreGivesTaken (hand_deals event o deals)
@@ -74,7 +74,7 @@ more_unrefused w (Released key) u =
     u.live)
 more_unrefused w _ u = tt
 
--- ---- the worker alone
+-- ---- The worker alone
 
 narrow : (deals : List Deal) (ks : List Known) (w : WorkerState) → IsFine deals (widened ks w)
     → AreGood deals w.consumers w.retired
@@ -103,7 +103,7 @@ own_waits hands w (Some p) h = own p.chore h
     own (Finishing id) h = sym (wide_consumer (map known_in hands) w (known_of id w.consumers)) ∙ h
     own _ h = h
 
--- ---- the record
+-- ---- The record
 
 pub record JointOk (deals : List Deal) (hands : List HandOff) (w : WorkerState) : Type 0 where
   pub fine : JointFine deals hands w
@@ -180,9 +180,9 @@ joint_ok made (Of_hand n event ∷ past) orderly new taken =
     hand_ok n event hands (worker_in made past) deals orderly.0 taken
     (joint_ok made past orderly.1 (new_hand event o deals new) (taken_hand event o deals taken))
 
--- ---- what follows
+-- ---- What follows
 
--- by the commands of all
+-- What holds of a hand-off's calls, given the commands of all.
 abbrev IsHandLife : List Deal → HandOff → Type 0
 IsHandLife deals x =
     IsLifeAmong deals x.made (calls_after x.made (state_of x).past)

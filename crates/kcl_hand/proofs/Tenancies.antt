@@ -1,4 +1,4 @@
--- What the consumers of a worker, and of what it released, are made with was begun by its commands.
+-- What the consumers of a worker, and of what it released, are made with was begun by the worker's commands.
 use Rattle.std.proofs.Common.{◌≡◌, ℕ, zero, suc, List, [], ◌∷◌, ◌++◌, Option, Some, None, refl, sym, subst, inr}
 use Rattle.std.specs.Prelude.{Result}
 use Rattle.std.specs.List.{AllByRecursion}
@@ -17,11 +17,11 @@ use Rattle.kcl_hand.specs.Joints.{HandOff, JointPast, Of_hand, Of_worker, begun,
 use Rattle.kcl_hand.specs.Joints.{hands_after, joint_deals, with_hand_event, worker_in}
 use Rattle.kcl_hand.proofs.Jointly.{found_all, release_is}
 
--- the consumer of a hand-off was begun by one of these commands
+-- The consumer of a hand-off was begun by one of the commands `deals`.
 abbrev pub IsBegunHand : List Deal → HandOff → Type 0
 IsBegunHand deals x = IsBegunIn deals x.made
 
--- so was each
+-- Each consumer of the worker and of the hand-offs was begun by one of the commands `deals`.
 pub record AreAllBegun (deals : List Deal) (hands : List HandOff) (w : WorkerState) : Type 0 where
   pub worker : AreBegun deals w
   pub handed : AllByRecursion (IsBegunHand deals) hands
@@ -36,7 +36,7 @@ hands_append : (deals : List Deal) (xs ys : List HandOff) → AllByRecursion (Is
 hands_append deals [] ys h g = g
 hands_append deals (x ∷ xs) ys h g = (h.0, hands_append deals xs ys h.1 g)
 
--- ---- what happens to the worker
+-- ---- What happens to the worker
 
 with_answer : (o : Option Pending) (answer : Result Reply Refusal) (deals : List Deal) (hands : List HandOff)
     → AllByRecursion (IsBegunHand deals) hands → AllByRecursion (IsBegunHand (with_deal o answer deals)) hands
@@ -66,7 +66,7 @@ worker_hands (Released key) w deals hands b h =
     (λ r e. found_all (IsBegun deals) (id_of_held r.held) r.known w.consumers
     (release_is w.consumers (leaving key w) r e) b.live))
 
--- ---- what happens to a hand-off
+-- ---- What happens to a hand-off
 
 hand_event : (n : ℕ) (event : HandEvent) (deals : List Deal) (hands : List HandOff)
     → AllByRecursion (IsBegunHand deals) hands → AllByRecursion (IsBegunHand deals) (with_hand_event n event hands)
@@ -95,7 +95,7 @@ hand_begun n (Hand_answered answer) (Some what) deals hands w b =
       handed = hand_event n (Hand_answered answer) (deal ∷ deals) hands (more_hands deal deals hands b.handed);
     }
 
--- ---- the record
+-- ---- The record
 
 pub all_begun : (made : WorkerMade) (past : JointPast)
     → AreAllBegun (joint_deals made past) (hands_after made past) (worker_in made past)

@@ -14,18 +14,18 @@ use Rattle.kcl_hand.specs.declared.stand.Left.TheVariants as left
 use Rattle.kcl_hand.specs.declared.stand.Stand.TheVariants as stand
 use Rattle.kcl_hand.specs.Joints.{HandOff, known_in, state_of}
 
--- the number is at or below the checkpoint
+-- The number `n` is at or below the checkpoint.
 abbrev pub IsUpTo : ℕ → Checkpoint → Type 0
 IsUpTo n TrimHorizon = ⊥
 IsUpTo n (At q) = n ≤ q
 IsUpTo n ShardEnd = Unit {0}
 
--- each number in the given reads of the tenure is so
+-- Each number in the given reads of the tenure is at or below the checkpoint.
 abbrev pub IsMarked : TenureState → Checkpoint → Type 0
 IsMarked T checkpoint = (n : ℕ) → IsRead n (given_reads T) → IsUpTo n checkpoint
 
--- the u-th tenure is U. Right before the line by which it began, the t-th tenure was T, of the same key, and each
--- number in its given reads was at or below the row's checkpoint
+-- The tenure `u` has the state `U`. Right before the line by which it began, the tenure `t` had the state `T` and the
+-- same key, and each number in the given reads of `T` was at or below the row's checkpoint.
 pub record FollowsMarked (log : Journal) (t u : ℕ) (T U : TenureState) : Type 0 where
   pub begun : Told
   pub began : taking log u ≡ Some begun
@@ -34,26 +34,27 @@ pub record FollowsMarked (log : Journal) (t u : ℕ) (T U : TenureState) : Type 
   pub of_key : T.key ≡ U.key
   pub marked : IsMarked T (checkpoint_in (row begun.before T.key))
 
--- no number in the given reads of one is in a read of the other
+-- No number in the given reads of `T` is in a read of `U`.
 abbrev pub IsReadOnce : TenureState → TenureState → Type 0
 IsReadOnce T U = (n : ℕ) → IsRead n (given_reads T) → IsRead n U.reads → ⊥
 
--- ---- a hand-off that freed its row
+-- ---- A hand-off that freed its row
 
--- no batch of its consumer waits to be given, and each number in the given reads of its tenure is at or below the
--- checkpoint of the row
+-- No batch of the hand-off's consumer waits to be given, and each number in the given reads of its tenure is at or
+-- below the row's checkpoint.
 pub record IsHandedOff (by : ℕ) (h : List Turn) (x : HandOff) : Type 0 where
   pub whole : IsServedWhole by h (known_in x)
   pub marked : (T : TenureState) (r : Row) → tenure (journal h) x.made.tenure ≡ Some T → row (journal h) T.key ≡ Some r
       → IsMarked T r.checkpoint
 
--- where it ended so
+-- `IsHandedOff` holds if the hand-off has freed its row.
 abbrev pub IsHandedOffIfFreed : ℕ → List Turn → HandOff → Type 0
 IsHandedOffIfFreed by h x = (counter : ℕ) → (state_of x).stand ≡ stand.Ended (left.Handed counter) → IsHandedOff by h x
 
--- ---- a later tenure
+-- ---- A later tenure
 
--- the u-th tenure is U; right before the line by which it began the turns were these, and its key had a row
+-- The tenure `u` has the state `U`. Right before the line by which it began, the journal was that of the turns
+-- `before`, and the tenure's key had a row.
 pub record BeginsAfter (h before : List Turn) (u : ℕ) (U : TenureState) : Type 0 where
   pub begun : Told
   pub began : taking (journal h) u ≡ Some begun
@@ -62,8 +63,8 @@ pub record BeginsAfter (h before : List Turn) (u : ℕ) (U : TenureState) : Type
   pub taken : Row
   pub there : row (journal before) U.key ≡ Some taken
 
--- where the hand-off freed its row before, no number in the given reads of its tenure is in a read of such a tenure of
--- the key
+-- If the hand-off has freed its row, no number in the given reads of its tenure after the turns `before` is in a read
+-- of a tenure of the key that begins then.
 abbrev pub IsNeverReadAgain : ℕ → List Turn → List Turn → HandOff → Type 0
 IsNeverReadAgain by h before x = (counter : ℕ) → (state_of x).stand ≡ stand.Ended (left.Handed counter)
     → (u : ℕ) (T U : TenureState) → tenure (journal before) x.made.tenure ≡ Some T → BeginsAfter h before u U

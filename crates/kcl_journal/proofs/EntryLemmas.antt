@@ -30,7 +30,7 @@ worker_is n v = (v.0, omega (arith, v.1))
 is_worker : (n : ℕ) → IsWorkerNo n → IsWorker n
 is_worker n v = (v.0, omega (arith, v.1))
 
--- ---- a word, and what follows it
+-- ---- A word, and what follows it
 
 abbrev Spells : ℕ → List ℕ → List ℕ → Entry → Type 0
 Spells version word text e = IsTellable version e × (word ++ 32 ∷ text ≡ entry_text version e)
@@ -87,7 +87,7 @@ by_spells v word text e h =
     (spelled v (codes "enforced") word enforced_form _ (λ a v. (v.0, refl)) text e)
     (lease_spells v word text e)))))))
 
--- what follows the actor
+-- The entry that follows the actor.
 abbrev reading : ℕ → List ℕ → Option Entry
 reading v text = field text >>= λ p. entry_by v p.0 p.1
 
@@ -127,12 +127,12 @@ what_again v (entry.Marked n counter to) t =
 what_again v (entry.LeaseCut key counter) t =
     ap (λ o. option_map (λ a. entry.LeaseCut a.0 a.1) o) (cut_form.again (key, counter) t)
 
--- ---- lines
+-- ---- Lines
 
 abbrev actor_form : IsForm (IsWithin 0 greatest32) (within_of 0 greatest32) decimal
 actor_form = within_form 0 greatest32 (omega arith)
 
--- what is read is spelled so
+-- A text that is read as a line is the spelling of this line.
 pub entry_spells : (v : ℕ) (text : List ℕ) (line : EntryLine) → entry_of v text ≡ Some line → IsEntryLine v line
     × (text ≡ entry_spelling v line)
 unfolding entry_of
@@ -163,7 +163,7 @@ bound_again : {A B C : Type 0} (o : Option A) (f : A → Option B) (g : B → C)
 bound_again None f g y h = absurd (cc)
 bound_again (Some x) f g y h = ap (λ (w : _). w >>= λ z. Some (g z)) h
 
--- and what is spelled so is read
+-- The spelling of a line is read as this line.
 pub entry_again : (v : ℕ) (line : EntryLine) → IsEntryLine v line → entry_of v (entry_spelling v line) ≡ Some line
 unfolding entry_of
 entry_again v line t =
@@ -178,7 +178,7 @@ entry_again v line t =
     ) (bound_again (field (entry_text v line.what)) (λ p. entry_by v p.0 p.1) make line.what
     (what_again v line.what t.what))
 
--- ---- the last line
+-- ---- The last line
 
 pub end_spells : (text : List ℕ) (clock : ℕ) → end_of text ≡ Some clock → (clock < 2 ^ 62) × (text ≡ end_spelling clock)
 unfolding end_of
@@ -202,7 +202,7 @@ pub end_apart : (v : ℕ) (text : List ℕ) (clock : ℕ) → end_of text ≡ So
 unfolding entry_of
 end_apart v text clock h = ap (entry_of v) (end_spells text clock h).1
 
--- ---- the first line
+-- ---- The first line
 
 pub heading_apart : (v : ℕ) → (entry_of v heading ≡ None) × (end_of heading ≡ None)
 unfolding entry_of end_of

@@ -24,7 +24,7 @@ use Rattle.kcl_journal.proofs.TextForms.{hash_without, name_without}
 abbrev not_feed : ℕ → Bool
 not_feed b = not (b == 10)
 
--- a fixed word
+-- A fixed word has no line feed in it.
 word : (text : List ℕ) → list_all not_feed text ≡ true → Lacks 10 text
 word text h = kind_lacks not_feed 10 text refl h
 

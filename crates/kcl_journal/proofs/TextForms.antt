@@ -21,7 +21,7 @@ use Rattle.kcl_journal.specs.Entries.{counter_of, fitting, greatest64, hash_of, 
 use Rattle.kcl_journal.specs.Entries.{switch_text, within, within_of}
 use Rattle.kcl_journal.specs.Ranges.{AreSizesBy, Is64, IsHash}
 
--- ---- numbers in a range
+-- ---- Numbers in a range
 
 abbrev pub IsWithin : ℕ → ℕ → ℕ → Type 0
 IsWithin least most n = (least ≤ n) × (n ≤ most)
@@ -66,7 +66,7 @@ counter_lacks n v = within_lacks 1 greatest64 (omega arith) n v
 pub number_lacks : (n : ℕ) → Is64 n → Lacks 32 (decimal n)
 number_lacks n v = decimal_lacks 32 n refl v
 
--- ---- hash keys
+-- ---- Hash keys
 
 pub hash_form : IsForm IsHash hash_of decimal
 hash_form = record {
@@ -74,7 +74,7 @@ hash_form = record {
   again = λ n v. reads 128 n (omega arith) v;
 }
 
--- a byte that is no digit
+-- The text of a hash key has no byte that isn't a digit.
 pub hash_without : (sep n : ℕ) → is_ascii_digit sep ≡ false → IsHash n → Lacks sep (decimal n)
 hash_without sep n other small =
     kind_lacks is_ascii_digit sep (decimal n) other
@@ -83,7 +83,7 @@ hash_without sep n other small =
 pub hash_lacks : (n : ℕ) → IsHash n → Lacks 32 (decimal n)
 hash_lacks n small = hash_without 32 n refl small
 
--- ---- names
+-- ---- Names
 
 name_is : (c : Bool) (text name : List ℕ) → is_name text ≡ c → (if c then Some text else None) ≡ Some name
     → IsName name × (text ≡ name)
@@ -105,7 +105,7 @@ name_without sep name other v = kind_lacks is_name_byte sep name other (and_part
 pub name_lacks : (name : List ℕ) → IsName name → Lacks 32 name
 name_lacks name v = name_without 32 name refl v
 
--- ---- switches
+-- ---- Switches
 
 abbrev pub IsSwitch : Bool → Type 0
 IsSwitch on = Unit {0}
@@ -124,7 +124,7 @@ switch_again false v = refl
 pub switch_form : IsForm IsSwitch switch_of switch_text
 switch_form = record { spells = switch_spells; again = switch_again }
 
--- ---- the sizes of a put
+-- ---- The sizes of a put
 
 fitting_is : (o : Option (ℕ × ℕ)) (p : ℕ × ℕ) → option_and_then fitting o ≡ Some p
     → (o ≡ Some p) × (p.0 + p.1 ≤ RECORD_BYTES)

@@ -1,4 +1,4 @@
--- The words of a text, which single spaces part.
+-- The words of a text, which are separated by single spaces.
 use Rattle.std.proofs.Common.{◌≡◌, ℕ, ◌<◌, List, [], ◌∷◌, ◌++◌, length, map, arith, Bool, true, false, Option, Some}
 use Rattle.std.proofs.Common.{None, refl, sym, ap, ◌∙◌, codes, decimal, subst}
 use Rattle.std.proofs.lemmas.List.{append_assoc, append-nil, length-append}
@@ -22,7 +22,7 @@ pub words_whole : (a : List ℕ) → Lacks 32 a → words a ≡ a ∷ []
 words_whole [] n = refl
 words_whole (x ∷ a) n = rw (n.0, words_whole a n.1) refl
 
--- where no space stands
+-- The parts of a text after the byte `b`, which isn't a space, was put before the text.
 abbrev onto : ℕ → Option (List ℕ × List ℕ) → Option (List ℕ × List ℕ)
 onto b o = option_map (λ (q : List ℕ × List ℕ). let p : List ℕ × List ℕ = (b ∷ q.0, q.1) in p) o
 
@@ -49,7 +49,7 @@ words_parted text p h =
 pub words_nowhere : (text : List ℕ) → parted 32 text ≡ None → words text ≡ text ∷ []
 words_nowhere text h = words_whole text (nowhere_lacks text h)
 
--- ---- numbers
+-- ---- Numbers
 
 numbers_spell : (ws : List (List ℕ)) (ns : List ℕ) → numbers_of ws ≡ Some ns → AllByRecursion Is64 ns
     × (ws ≡ map decimal ns)
@@ -67,7 +67,7 @@ numbers_again : (ns : List ℕ) → AllByRecursion Is64 ns → numbers_of (map d
 numbers_again [] v = refl
 numbers_again (n ∷ ns) v = rw (number_form.again n v.0, numbers_again ns v.1) refl
 
--- ---- whether a read ended the shard
+-- ---- Whether a read ended the shard
 
 ended_spells : (w : List ℕ) (ended : Bool) → ended_of w ≡ Some ended → w ≡ ended_text ended
 ended_spells w ended h = choose (bytes_eq w (codes "end")) _ _ ended h
@@ -84,7 +84,7 @@ ended_lacks : (ended : Bool) → Lacks 32 (ended_text ended)
 ended_lacks true = (refl, (refl, (refl, tt)))
 ended_lacks false = (refl, (refl, (refl, (refl, tt))))
 
--- ---- a batch
+-- ---- A batch
 
 joined : (w : List ℕ) (ns : List ℕ) → join_with_byte 32 (w ∷ map decimal ns) ≡ w ++ numbers_text ns
 joined w [] = sym (append-nil w)
@@ -124,9 +124,9 @@ batch_form = record {
       ∙ rw (ended_again a.0, numbers_again a.1 v) refl;
 }
 
--- ---- as a loop finds them
+-- ---- The words as a loop finds them
 
--- numbers that were read, and those that are left
+-- The numbers that were read, followed by those that are left.
 abbrev pub with_front : List ℕ → Option (List ℕ) → Option (List ℕ)
 with_front ns o = option_map (λ ms. ns ++ ms) o
 
@@ -140,7 +140,7 @@ pub more_numbers : (ns : List ℕ) (n : ℕ) (text : List ℕ) (p : List ℕ × 
     → with_front ns (numbers_of (words text)) ≡ with_front (ns ++ n ∷ []) (numbers_of (words p.1))
 more_numbers ns n text p h is = rw (words_parted text p h, is) (fronts ns n (numbers_of (words p.1)))
 
--- a word that is no number
+-- If a word isn't a number, there are no numbers.
 pub no_numbers : (ns : List ℕ) (text : List ℕ) (p : List ℕ × List ℕ) → parted 32 text ≡ Some p → number p.0 ≡ None
     → with_front ns (numbers_of (words text)) ≡ None
 no_numbers ns text p h is = rw (words_parted text p h, is) refl
@@ -158,7 +158,7 @@ shorter text p h =
     let s = parted_spells 32 text p h in
     subst (λ (z : List ℕ). length p.1 < length z) (sym s.0) (omega (arith, length-append p.0 (32 ∷ p.1)))
 
--- ---- a batch by its first word
+-- ---- A batch by its first word
 
 pub batch_alone : (text : List ℕ) (o : Option Bool) → parted 32 text ≡ None → ended_of text ≡ o
     → batch_of text ≡ option_map (λ (b : Bool). let a : Bool × List ℕ = (b, []) in a) o

@@ -1,4 +1,4 @@
--- The lines of a journal as text, in its first version and in the second.
+-- The lines of a journal as text, in its first version and in its second.
 use Rattle.std.specs.Prelude.{◌≡◌, ◌⊎◌, ℕ, ◌+◌, ◌-◌, ◌^◌, List, [], ◌∷◌, ◌++◌, codes, decimal, flat_map, Bool, true}
 use Rattle.std.specs.Prelude.{false, ◌&&◌, ◌==◌, nat_le, if◌then◌else◌, Option, Some, None, option_map, option_and_then}
 use Rattle.std.specs.List.{slice_split}
@@ -17,34 +17,34 @@ use Rattle.kcl_journal.specs.declared.line.EntryLine.{EntryLine}
 use Rattle.kcl_journal.specs.declared.line.TheConstants.{FIRST_RECORD_BYTES, FIRST_VERSION, KEY_BYTES, VERSION}
 use Rattle.kcl_journal.specs.Ranges.{is_first}
 
--- the versions that there are
+-- The text has one of the existing versions.
 abbrev pub IsVersion : ℕ → Type 0
 IsVersion version = (version ≡ FIRST_VERSION) ⊎ (version ≡ VERSION)
 
--- the first line of a text of the second version, without its line feed; the first version has none
+-- The first line of a text of the second version, without its line feed. A text of the first version has no such line.
 abbrev pub heading : List ℕ
 heading = codes "journal 2"
 
--- ---- numbers in a range, and the number of a hash key
+-- ---- Numbers in a range, and the number of a hash key
 
 abbrev pub within : ℕ → ℕ → ℕ → Option ℕ
 within least most n = if nat_le least n && nat_le n most then Some n else None
 
--- a number that lies between these, both included
+-- The number from `least` to `most`, both included, that a text denotes.
 abbrev pub within_of : ℕ → ℕ → List ℕ → Option ℕ
 within_of least most text = option_and_then (within least most) (number text)
 
 abbrev pub greatest64 : ℕ
 greatest64 = 2 ^ 64 - 1
 
--- a row's counter after it was written
+-- A row's counter after the row was written.
 abbrev pub counter_of : List ℕ → Option ℕ
 counter_of text = within_of 1 greatest64 text
 
 abbrev pub hash_of : List ℕ → Option ℕ
 hash_of text = number_of 128 text
 
--- ---- the sizes of a put: `BYTES` in the first version, `BYTES KEYBYTES` in the second
+-- ---- The sizes of a put: `BYTES` in the first version, `BYTES KEYBYTES` in the second
 
 abbrev pub fitting : ℕ × ℕ → Option (ℕ × ℕ)
 fitting p = if nat_le (p.0 + p.1) RECORD_BYTES then Some p else None
@@ -63,7 +63,7 @@ sizes_text_by false p = decimal p.0 ++ 32 ∷ decimal p.1
 abbrev pub sizes_text : ℕ → ℕ × ℕ → List ℕ
 sizes_text version p = sizes_text_by (is_first version) p
 
--- ---- whether limits are on
+-- ---- Whether limits are on
 
 abbrev pub switch_of : List ℕ → Option Bool
 switch_of text =
@@ -74,7 +74,7 @@ switch_of text =
 abbrev pub switch_text : Bool → List ℕ
 switch_text on = if on then codes "on" else codes "off"
 
--- ---- the batch of a read: `more` or `end`, and each number of a record
+-- ---- The batch of a read: `more` or `end`, and each number of a record
 
 abbrev pub is_space : ℕ → Bool
 is_space b = b == 32
@@ -105,83 +105,83 @@ ended_text ended = if ended then codes "end" else codes "more"
 abbrev pub numbers_text : List ℕ → List ℕ
 numbers_text ns = flat_map (λ n. 32 ∷ decimal n) ns
 
--- ---- entries
+-- ---- Entries
 
--- `made STREAM NAME SHARDS`
+-- The entry `made STREAM NAME SHARDS`. Here and below, `text` is what follows the first word.
 abbrev pub made_of : List ℕ → Option Entry
 made_of text = option_map (λ a. entry.Made a.0 a.1.0 a.1.1)
     (two 32 number (two 32 name_of (within_of LEAST_SHARDS MOST_SHARDS)) text)
 
--- `gone STREAM`
+-- The entry `gone STREAM`.
 abbrev pub gone_of : List ℕ → Option Entry
 gone_of text = option_map (λ s. entry.Gone s) (number text)
 
--- `put STREAM SHARD SEQ HASH BYTES`, and KEYBYTES from the second version on
+-- The entry `put STREAM SHARD SEQ HASH BYTES`, with KEYBYTES from the second version on.
 abbrev pub put_of : ℕ → List ℕ → Option Entry
 put_of version text =
     option_map (λ a. entry.Put a.0 a.1.0 a.1.1.0 a.1.1.1.0 a.1.1.1.1.0 a.1.1.1.1.1)
     (two 32 number (two 32 number (two 32 number (two 32 hash_of (sizes_of version)))) text)
 
--- `split STREAM SHARD AT SEQ LOW HIGH`
+-- The entry `split STREAM SHARD AT SEQ LOW HIGH`.
 abbrev pub split_of : List ℕ → Option Entry
 split_of text =
     option_map (λ a. entry.Split a.0 a.1.0 a.1.1.0 a.1.1.1.0 a.1.1.1.1.0 a.1.1.1.1.1)
     (two 32 number (two 32 number (two 32 hash_of (two 32 number (two 32 number number)))) text)
 
--- `merged STREAM SHARD OTHER SEQ CHILD`
+-- The entry `merged STREAM SHARD OTHER SEQ CHILD`.
 abbrev pub merged_of : List ℕ → Option Entry
 merged_of text =
     option_map (λ a. entry.Merged a.0 a.1.0 a.1.1.0 a.1.1.1.0 a.1.1.1.1)
     (two 32 number (two 32 number (two 32 number (two 32 number number))) text)
 
--- `kept STREAM HOURS`
+-- The entry `kept STREAM HOURS`.
 abbrev pub kept_of : List ℕ → Option Entry
 kept_of text = option_map (λ a. entry.Kept a.0 a.1) (two 32 number (within_of LEAST_HOURS MOST_HOURS) text)
 
--- `enforced STREAM on` or `enforced STREAM off`
+-- The entry `enforced STREAM on` or `enforced STREAM off`.
 abbrev pub enforced_of : List ℕ → Option Entry
 enforced_of text = option_map (λ a. entry.Enforced a.0 a.1) (two 32 number switch_of text)
 
--- `lease KEY`, `lease KEY latest` or `lease KEY time M`
+-- The entry `lease KEY`, `lease KEY latest` or `lease KEY time M`.
 abbrev pub lease_of : List ℕ → Option Entry
 lease_of text = option_map (λ a. entry.LeaseMade a.0 a.1) (row_of text)
 
--- `taken KEY TENURE COUNTER wN`
+-- The entry `taken KEY TENURE COUNTER wN`.
 abbrev pub taken_of : List ℕ → Option Entry
 taken_of text =
     option_map (λ a. entry.Taken a.0 a.1.0 a.1.1.0 a.1.1.1)
     (two 32 key_of (two 32 number (two 32 counter_of worker_of)) text)
 
--- `renewed T C`
+-- The entry `renewed T C`.
 abbrev pub renewed_of : List ℕ → Option Entry
 renewed_of text = option_map (λ a. entry.Renewed a.0 a.1) (two 32 number counter_of text)
 
--- `freed T C`
+-- The entry `freed T C`.
 abbrev pub freed_of : List ℕ → Option Entry
 freed_of text = option_map (λ a. entry.Freed a.0 a.1) (two 32 number counter_of text)
 
--- `opened T`
+-- The entry `opened T`.
 abbrev pub opened_of : List ℕ → Option Entry
 opened_of text = option_map (λ t. entry.Opened t) (number text)
 
--- `read T LIMIT more` or `read T LIMIT end`, then each number
+-- The entry `read T LIMIT more` or `read T LIMIT end`, followed by each number.
 abbrev pub read_of : List ℕ → Option Entry
 read_of text =
     option_map (λ a. entry.Read a.0 a.1.0 a.1.1.0 a.1.1.1) (two 32 number (two 32 (within_of 1 MOST) batch_of) text)
 
--- `given T`
+-- The entry `given T`.
 abbrev pub given_of : List ℕ → Option Entry
 given_of text = option_map (λ t. entry.Given t) (number text)
 
--- `marked T C Q` or `marked T C end`
+-- The entry `marked T C Q` or `marked T C end`.
 abbrev pub marked_of : List ℕ → Option Entry
 marked_of text = option_map (λ a. entry.Marked a.0 a.1.0 a.1.1) (two 32 number (two 32 counter_of target_of) text)
 
--- `cut KEY COUNTER`
+-- The entry `cut KEY COUNTER`.
 abbrev pub cut_of : List ℕ → Option Entry
 cut_of text = option_map (λ a. entry.LeaseCut a.0 a.1) (two 32 key_of number text)
 
--- an entry of a lease by its word, and what follows it
+-- The entry of a lease that begins with the word `word`, where `text` is what follows it.
 abbrev pub lease_by : List ℕ → List ℕ → Option Entry
 lease_by word text =
     if bytes_eq word (codes "lease") then lease_of text
@@ -195,7 +195,7 @@ lease_by word text =
     else if bytes_eq word (codes "cut") then cut_of text
     else None
 
--- an entry by its word, and what follows it
+-- The entry that begins with the word `word`, where `text` is what follows it.
 abbrev pub entry_by : ℕ → List ℕ → List ℕ → Option Entry
 entry_by version word text =
     if bytes_eq word (codes "made") then made_of text
@@ -207,7 +207,7 @@ entry_by version word text =
     else if bytes_eq word (codes "enforced") then enforced_of text
     else lease_by word text
 
--- the one text of an entry
+-- The one text of an entry.
 abbrev pub entry_text : ℕ → Entry → List ℕ
 entry_text version (entry.Made s name count) = codes "made " ++ (decimal s ++ 32 ∷ (name ++ 32 ∷ decimal count))
 entry_text version (entry.Gone s) = codes "gone " ++ decimal s
@@ -236,9 +236,9 @@ entry_text version (entry.Marked t counter to) =
     codes "marked " ++ (decimal t ++ 32 ∷ (decimal counter ++ 32 ∷ target_text to))
 entry_text version (entry.LeaseCut key counter) = codes "cut " ++ (key_text key ++ 32 ∷ decimal counter)
 
--- ---- lines
+-- ---- Lines
 
--- the line of a journal that a text of this version is, if it is one: `CLOCK BY ENTRY`
+-- The line `CLOCK BY ENTRY` of a journal that a text of this version stands for, if there is one.
 unfoldable pub entry_of : ℕ → List ℕ → Option EntryLine
 entry_of version text = do
   first ← field text
@@ -249,11 +249,11 @@ entry_of version text = do
   what ← entry_by version third.0 third.1
   Some (record { clock = clock; by = by; what = what })
 
--- its one text in this version
+-- The one text of a line in this version.
 abbrev pub entry_spelling : ℕ → EntryLine → List ℕ
 entry_spelling version line = decimal line.clock ++ 32 ∷ (decimal line.by ++ 32 ∷ entry_text version line.what)
 
--- ---- the last line: `end CLOCK`
+-- ---- The last line: `end CLOCK`
 
 unfoldable pub end_of : List ℕ → Option ℕ
 end_of text = do

@@ -1,4 +1,4 @@
--- The entries that a line of a journal can tell: their numbers have the bits of their types, and lie in their ranges.
+-- The entries that a line of a journal can tell. Their numbers have the bits of their types, and lie in their ranges.
 use Rattle.std.specs.Prelude.{◌≡◌, ℕ, ◌+◌, ◌^◌, ◌<◌, ◌≤◌, Bool, true, false, ◌==◌, is_none, IfSome}
 use Rattle.std.specs.List.{AllByRecursion}
 use Rattle.kds_base.specs.Names.{IsName}
@@ -15,23 +15,23 @@ use Rattle.kcl_journal.specs.declared.line.TheConstants.{FIRST_RECORD_BYTES, FIR
 abbrev pub is_first : ℕ → Bool
 is_first version = version == FIRST_VERSION
 
--- a number of 64 bits
+-- The number is below 2^64.
 abbrev pub Is64 : ℕ → Type 0
 Is64 n = n < 2 ^ 64
 
--- the number of a hash key
+-- The number is that of a hash key.
 abbrev pub IsHash : ℕ → Type 0
 IsHash n = n < 2 ^ 128
 
--- a row's counter after it was written
+-- The number can be a row's counter after the row was written.
 abbrev pub IsCounter : ℕ → Type 0
 IsCounter n = (1 ≤ n) × Is64 n
 
--- a worker's number
+-- The number can be a worker's.
 abbrev pub IsWorkerNo : ℕ → Type 0
 IsWorkerNo n = (1 ≤ n) × (n < 2 ^ 32)
 
--- the bytes of a payload and of its key, which the first version of the text doesn't tell
+-- The byte counts can be those of a record's payload and key. The first version of the text has no count for the key.
 abbrev pub AreSizesBy : Bool → ℕ → ℕ → Type 0
 AreSizesBy true bytes key_bytes = (bytes ≤ FIRST_RECORD_BYTES) × (key_bytes ≡ 0)
 AreSizesBy false bytes key_bytes = ((1 ≤ key_bytes) × (key_bytes ≤ KEY_BYTES)) × (bytes + key_bytes ≤ RECORD_BYTES)
@@ -39,7 +39,7 @@ AreSizesBy false bytes key_bytes = ((1 ≤ key_bytes) × (key_bytes ≤ KEY_BYTE
 abbrev pub AreSizes : ℕ → ℕ → ℕ → Type 0
 AreSizes version bytes key_bytes = AreSizesBy (is_first version) bytes key_bytes
 
--- a text of this version can tell the entry, of which the last ones have no number but their stream's
+-- A text of this version can tell the entry. The entries of the last clause have no number but their stream's.
 abbrev pub IsTellable : ℕ → Entry → Type 0
 IsTellable version (entry.Made s name count) = Is64 s × (IsName name × IsShardCount count)
 IsTellable version (entry.Put s sh number hash bytes key_bytes) =
@@ -60,11 +60,11 @@ IsTellable version (entry.Marked t counter to) = Is64 t × (IsCounter counter ×
 IsTellable version (entry.LeaseCut key counter) = IsKey key × Is64 counter
 IsTellable version what = IfSome (stream_of what) Is64
 
--- the entry is of a lease, else of a stream
+-- The entry is of a lease, and not of a stream.
 abbrev pub is_lease_entry : Entry → Bool
 is_lease_entry what = is_none (stream_of what)
 
--- the entry is of a tenure
+-- The entry is of a tenure.
 abbrev pub is_tenure_entry : Entry → Bool
 is_tenure_entry (entry.Renewed t counter) = true
 is_tenure_entry (entry.Freed t counter) = true
@@ -74,13 +74,13 @@ is_tenure_entry (entry.Given t) = true
 is_tenure_entry (entry.Marked t counter to) = true
 is_tenure_entry _ = false
 
--- the entry is a split or a merge
+-- The entry is a split or a merge.
 abbrev pub is_resharding : Entry → Bool
 is_resharding (entry.Split s sh at number low high) = true
 is_resharding (entry.Merged s sh other number child) = true
 is_resharding _ = false
 
--- a text of this version can have the line
+-- A text of this version can have the line.
 pub record IsEntryLine (version : ℕ) (line : EntryLine) : Type 0 where
   pub clock : line.clock < 2 ^ 62
   pub by : line.by < 2 ^ 32

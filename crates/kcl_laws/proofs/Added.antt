@@ -1,4 +1,4 @@
--- Lines that are added to a legal journal, and what a decision is once its tests passed.
+-- Lines that are added to a legal journal, and the result of a decision whose tests were passed.
 use Rattle.std.proofs.Common.{◌≡◌, ℕ, suc, ◌+◌, ◌≤◌, true, false, List, ap, arith}
 use Rattle.std.specs.Prelude.{◌==◌, not, nat_lt, if◌then◌else◌}
 use Rattle.std.proofs.lemmas.Bool.Decides.{nat_tests}
@@ -9,7 +9,7 @@ use Rattle.kds_defs.specs.Legal.{in_stream, IsLegal, last_clock}
 use Rattle.kds_defs.specs.Streams.{is_live}
 use Rattle.kds_defs.proofs.Decisions.{passed_if}
 
--- the journal with these lines is legal, and its clock is at most c
+-- The journal with the lines added is legal, and its clock is at most `c`.
 pub record Adds (log : Journal) (lines : List Line) (c : ℕ) : Type 0 where
   pub legal : IsLegal (with_lines lines log)
   pub clock : last_clock (with_lines lines log) ≤ c

@@ -1,4 +1,4 @@
--- Which records are left, which make a batch, their numbers and arrivals: no key and no payload is looked at.
+-- Which records are left, which of them make a batch, and their numbers and arrivals don't depend on keys and payloads.
 use Rattle.std.proofs.Common.{◌≡◌, ℕ, zero, suc, ◌-◌, Bool, true, false, List, [], ◌∷◌, map, refl, ap}
 use Rattle.std.specs.Prelude.{cond, nat_le, if◌then◌else◌}
 use Rattle.kds_defs.specs.Listings.{are_none}

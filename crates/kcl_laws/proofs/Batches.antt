@@ -1,4 +1,5 @@
--- The records of a shard rise, and a batch has all of them between its place and the place after it, save the trimmed.
+-- The numbers of a shard's records rise, and a batch has all records between its place and the place after it, except
+-- the trimmed ones.
 use Rattle.std.proofs.Common.{◌≡◌, ℕ, zero, suc, ◌+◌, ◌-◌, ◌<◌, ◌≤◌, Bool, true, false, List, [], ◌∷◌, ◌++◌, Some, refl}
 use Rattle.std.proofs.Common.{sym, ap, subst, ◌∙◌, arith, inl, inr}
 use Rattle.std.specs.Prelude.{◌==◌, ◌&&◌, ◌||◌, ◌⊎◌, not, nat_le, nat_lt, cond, if◌then◌else◌}
@@ -19,7 +20,7 @@ use Rattle.kds_defs.specs.Shards.{ShardState, shard_at, is_open}
 use Rattle.kds_defs.specs.Streams.{is_live, is_trimmed, trim_floor}
 use Rattle.kcl_laws.proofs.Numbering.{all_placed}
 
--- ---- all of a list
+-- ---- All items of a list
 
 pub all_map : {A : Type 0} (P Q : A → Type 0) (xs : List A) → ((x : A) → P x → Q x) → AllByRecursion P xs
     → AllByRecursion Q xs
@@ -53,15 +54,15 @@ none_head : {A : Type 0} (f : A → Bool) (x : A) (xs : List A) (b : Bool) → f
 none_head f x xs true is rest h = absurd cc
 none_head f x xs false is rest h = (is, rest h)
 
--- nothing passes where nothing is left
+-- No item of a list passes the test if nothing is left by the filter.
 pub none_pass : {A : Type 0} (f : A → Bool) (xs : List A) → are_none (filter f xs) ≡ true
     → AllByRecursion (λ y. f y ≡ false) xs
 none_pass f [] h = tt
 none_pass f (x ∷ xs) h = none_head f x xs (f x) refl (none_pass f xs) h
 
--- ---- rising records
+-- ---- Rising records
 
--- the numbers rise from p on, and stay below q
+-- The numbers rise from the first argument on, and stay below the last.
 abbrev pub IsRising : ℕ → List Logged → ℕ → Type 0
 IsRising p [] q = p ≤ q
 IsRising p (r ∷ rs) q = (p ≤ r.seq) × IsRising (r.seq + 1) rs q
@@ -99,7 +100,7 @@ from_cond : (f : Logged → Bool) (b : Bool) (m : ℕ) (r : Logged) (rs : List L
 from_cond f true m r rs q is g h k = (g r is, h)
 from_cond f false m r rs q is g h k = k
 
--- from m on, where each that passes is at least m
+-- Filtered records rise from `m` on if each record that passes has at least the number `m`.
 pub rising_filter_from : (f : Logged → Bool) (p m : ℕ) (rs : List Logged) (q : ℕ) → IsRising p rs q → m ≤ q
     → ((x : Logged) → f x ≡ true → m ≤ x.seq) → IsRising m (filter f rs) q
 rising_filter_from f p m [] q h le g = le
@@ -107,12 +108,12 @@ rising_filter_from f p m (r ∷ rs) q h le g =
     from_cond f (f r) m r (filter f rs) q refl g (rising_filter f (r.seq + 1) rs q h.1)
     (rising_filter_from f (r.seq + 1) m rs q h.1 le g)
 
--- ---- the beginning of rising records
+-- ---- The beginning of rising records
 
 abbrev pub taken_numbers : ℕ → ℕ → List Logged → List ℕ
 taken_numbers limit room rs = numbers_of (beginning limit room rs)
 
--- the numbers rise from p to q, q the place after them
+-- The numbers rise from the first argument to the last, which is the place after them.
 abbrev pub RisesTo : ℕ → List ℕ → ℕ → Type 0
 RisesTo p [] q = p ≤ q
 RisesTo p (n ∷ ns) q = (p ≤ n) × RisesTo (n + 1) ns q
@@ -126,7 +127,7 @@ pub rises_from : (p : ℕ) (ns : List ℕ) (q : ℕ) → RisesTo p ns q → Rise
 rises_from p [] q h = tt
 rises_from p (n ∷ ns) q h = (h.0, rises_from (n + 1) ns q h.1)
 
--- what holds of a beginning
+-- What holds of a prefix of rising records.
 pub record Begins (p : ℕ) (ns : List ℕ) (rs : List Logged) (q : ℕ) : Type 0 where
   pub rises : RisesTo p ns (place_after p ns)
   pub place : place_after p ns ≤ q
@@ -173,9 +174,9 @@ begins (suc limit) room p (r ∷ rs) q h =
     begin_cond (nat_le r.bytes room) p r _ (beginning limit (room - r.bytes) rs) rs q h.0 h refl
     (begins limit (room - r.bytes) (r.seq + 1) rs q h.1)
 
--- ---- the records of a shard
+-- ---- The records of a shard
 
--- what one more line does to them
+-- What one more line does to the records of a shard.
 pub data RecordsStep (log : Journal) (line : Line) (s sh : ℕ) : Type 0 where
   SameRecords : records (line ∷ log) s sh ≡ records log s sh → RecordsStep log line s sh
   NewRecord : (r : Logged) (x : ShardState) → records (line ∷ log) s sh ≡ records log s sh ++ (r ∷ [])
@@ -233,18 +234,18 @@ rising_by log line s sh (NewRecord r x is seq next there open_now) h =
     (subst (IsRising 1 (records log s sh ++ (r ∷ []))) (ap (λ k. k + 1) (sym seq) ∙ sym next)
     (rising_push 1 _ (next_number log s) r h seq))
 
--- the numbers of a shard's records rise, below the next number
+-- The numbers of a shard's records rise, and are below the stream's next number.
 pub rising : (log : Journal) → IsLegal log → (s sh : ℕ) → IsRising 1 (records log s sh) (next_number log s)
 rising [] legal s sh = omega arith
 rising (line ∷ log) legal s sh = rising_by log line s sh (records_step log line legal s sh) (rising log legal.1 s sh)
 
--- ---- a batch
+-- ---- A batch
 
--- what a record is, at a place, beside the numbers that were read
+-- A record was read, is trimmed, or is below the place, given the numbers that were read.
 abbrev pub IsTaken : Journal → ℕ → ℕ → ℕ → List ℕ → Logged → Type 0
 IsTaken log c s place ns r = (r.seq < place) ⊎ (IsAmong r.seq ns ⊎ (is_trimmed log c s r.arrival ≡ true))
 
--- what a read at a place gives: ns are the numbers of its batch
+-- What a read at a place gives. `ns` are the numbers of its batch.
 pub record IsBatch (log : Journal) (c s sh place : ℕ) (ns : List ℕ) : Type 0 where
   pub rises : RisesTo place ns (place_after place ns)
   pub next : place_after place ns ≤ next_number log s
@@ -255,7 +256,7 @@ passes_above : (t : Bool) (p n : ℕ) → (not t && nat_le p n) ≡ true → p �
 passes_above true p n h = absurd cc
 passes_above false p n h = grind (arith, nat_tests)
 
--- a record passes the test, or is trimmed, or stands below the place
+-- A record passes the test, is trimmed, or is below the place.
 taken_or : (log : Journal) (c s place : ℕ) (ns : List ℕ) (r : Logged) (t : Bool) → is_trimmed log c s r.arrival ≡ t
     → ((not t && nat_le place r.seq) ≡ true → r.seq < place_after place ns → IsAmong r.seq ns) → (b : Bool)
     → nat_le place r.seq ≡ b → r.seq < place_after place ns → IsTaken log c s place ns r
@@ -263,7 +264,7 @@ taken_or log c s place ns r true is g b at below = inr (inr is)
 taken_or log c s place ns r false is g true at below = inr (inl (g at below))
 taken_or log c s place ns r false is g false at below = inl (grind (arith, nat_tests))
 
--- what is left of these records, by the test of what is trimmed
+-- No record passes a test that is always false.
 none_passes : (rs : List Logged) → filter (λ (r : Logged). false) rs ≡ []
 none_passes [] = refl
 none_passes (r ∷ rs) = none_passes rs
@@ -302,7 +303,7 @@ batch_is log legal c s sh place limit le =
     subst (λ (rs : List Logged). IsBatch log c s sh place (numbers_of (beginning limit BATCH_BYTES rs)))
     (sym (left_is log c s sh place)) taken
 
--- where a read ends the shard, the shard is closed, and each record is below the place or trimmed
+-- If a read ends the shard, then the shard is closed, and each record is below the place or trimmed.
 below_or : (log : Journal) (c s place : ℕ) (r : Logged) (t : Bool) → is_trimmed log c s r.arrival ≡ t
     → (not t && nat_le place r.seq) ≡ false → (r.seq < place) ⊎ (is_trimmed log c s r.arrival ≡ true)
 below_or log c s place r true is h = inr is

@@ -1,4 +1,4 @@
--- In a row from the trim horizon a checkpoint at a number lies at or below a record of its shard.
+-- In a row from the trim horizon, a checkpoint at a number is at or below a record of the row's shard.
 use Rattle.std.proofs.Common.{◌≡◌, ℕ, zero, suc, ◌+◌, ◌-◌, ◌≤◌, Bool, true, false, List, [], ◌∷◌, ◌++◌, length, take}
 use Rattle.std.proofs.Common.{Option, Some, None, refl, sym, ap, subst, ◌∙◌, arith, inl, inr}
 use Rattle.std.specs.Prelude.{◌⊎◌, nat_le, cond, if◌then◌else◌}
@@ -32,9 +32,9 @@ use Rattle.kcl_laws.proofs.StartLemmas.{origin_before, begins_shard}
 use Rattle.kcl_laws.proofs.Steps.{TenureStep, Begun, Same, Opening, Reading, Giving, tenure_step, tenure_key, RowStep}
 use Rattle.kcl_laws.proofs.Steps.{NewRow, SameCheckpoint, MarkedRow, row_step}
 
--- ---- a place of a shard: none of its numbers is needed, or one above it is a record or more
+-- ---- A place of a shard: none of its numbers is needed, or a record has at least the number below it
 
--- a record of these has at least the number below this place
+-- The place is 0, or one of the records has at least the number below it.
 abbrev pub IsReached : ℕ → List Logged → Type 0
 IsReached place [] = place ≡ 0
 IsReached place (r ∷ rs) = (place ≤ r.seq + 1) ⊎ IsReached place rs
@@ -53,7 +53,7 @@ reached_below place less [] le is = omega arith
 reached_below place less (r ∷ rs) le (inl is) = inl (omega arith)
 reached_below place less (r ∷ rs) le (inr is) = inr (reached_below place less rs le is)
 
--- ---- they stay as records come
+-- ---- Places stay reached as records come
 
 stays_by : (log : Journal) (line : Line) (s sh place : ℕ) → RecordsStep log line s sh
     → IsReached place (records log s sh) → IsReached place (records (line ∷ log) s sh)
@@ -65,7 +65,7 @@ reached_stays : (log : Journal) (line : Line) → IsLegal (line ∷ log) → (s 
     → IsReached place (records log s sh) → IsReached place (records (line ∷ log) s sh)
 reached_stays log line legal s sh place h = stays_by log line s sh place (records_step log line legal s sh) h
 
--- ---- a batch reaches no further than its records
+-- ---- A batch reaches no further than its records
 
 all_filtered : (f : Logged → Bool) (P : Logged → Type 0) (rs : List Logged) → AllByRecursion P rs
     → AllByRecursion P (filter f rs)
@@ -87,7 +87,7 @@ all_begun (suc limit) room P (r ∷ rs) are = either (nat_le r.bytes room) (all_
     either true rest = (are.0, rest)
     either false rest = tt
 
--- each of these records is reached by itself
+-- Each record reaches the place right above it.
 all_reached : (rs : List Logged) → AllByRecursion (λ (r : Logged). IsReached (r.seq + 1) rs) rs
 all_reached [] = tt
 all_reached (r ∷ rs) = (
@@ -118,9 +118,9 @@ batch_reached log c s sh place limit at =
     (all_begun limit BATCH_BYTES (λ (r : Logged). IsReached (r.seq + 1) (records log s sh)) (left_from log c s sh place)
     (left_reached log c s sh place))
 
--- ---- tenures and rows
+-- ---- Tenures and rows
 
--- all places of a tenure are reached: its start, and those after its first reads
+-- All places of a tenure are reached: its start, and the places after each prefix of its reads.
 AreReached : Journal → TenureState → Type 0
 AreReached log T = (i : ℕ)
     → IsReached (place_after_reads (place_of T.start) (take i T.reads)) (records log T.key.stream T.key.shard)
@@ -153,7 +153,7 @@ take_all : (rs : List ReadDone) → take (length rs) rs ≡ rs
 take_all [] = refl
 take_all (r ∷ rs) = ap (λ xs. r ∷ xs) (take_all rs)
 
--- with one more read
+-- All places of a tenure are still reached after one more read.
 read_reached : (log : Journal) (c limit : ℕ) (T : TenureState) (numbers : List ℕ) (ended : Bool)
     → numbers ≡ numbers_of (batch log c T.key.stream T.key.shard (reach T) limit) → AreReached log T
     → AreReached log (with_read numbers ended T)
@@ -184,7 +184,7 @@ read_reached log c limit T numbers ended is at i = either (take_snoc i T.reads r
 RowReached : Journal → ShardRef → Checkpoint → Type 0
 RowReached log key checkpoint = IsReached (place_of checkpoint) (records log key.stream key.shard)
 
--- what holds of the row of each key from the trim horizon, and of each tenure of such a key
+-- What holds of the row of each key from the trim horizon, and of each tenure of such a key.
 record AllReached (log : Journal) : Type 0 where
   rows : (key : ShardRef) (r : Row) → row log key ≡ Some r → origin_of log key ≡ Some origin.TrimHorizon
       → RowReached log key r.checkpoint
@@ -201,7 +201,7 @@ row_stays : (log : Journal) (line : Line) (key : ShardRef) (checkpoint : Checkpo
 unfolding RowReached
 row_stays log line key checkpoint legal at = reached_stays log line legal key.stream key.shard _ at
 
--- a taking begins where the row stands
+-- All places of a new tenure are reached, since it begins where the row stands.
 begun_reached : (log : Journal) (by : ℕ) (key : ShardRef) (o : Option Row) → row log key ≡ o
     → origin_of log key ≡ Some origin.TrimHorizon → AllReached log
     → AreReached log (new_tenure by key (checkpoint_in o))
@@ -219,7 +219,7 @@ given_reached : (log : Journal) (T : TenureState) → AreReached log T → AreRe
 unfolding AreReached
 given_reached log T at = at
 
--- a tenure that was there, of a key that had the same origin
+-- All places of an earlier tenure are reached if the origin of its key was the same before.
 before_reached : (log : Journal) (line : Line) → IsLegal (line ∷ log) → AllReached log → (t : ℕ) (S T : TenureState)
     → tenure log t ≡ Some S → T.key ≡ S.key → origin_of (line ∷ log) T.key ≡ Some origin.TrimHorizon → AreReached log S
 before_reached log line legal all t S T is same from =
@@ -253,7 +253,7 @@ tenure_after_line log line legal all t T (Giving before is at new) from =
     (given_reached log before
     (before_reached log line legal all t before T at (ap (λ (U : TenureState). U.key) new) from))
 
--- a mark is below the delivered place
+-- The checkpoint of a mark is reached, since the mark is below the delivered place.
 marked_reached : (log : Journal) (T : TenureState) (to : Target) → TargetOk T to → AreReached log T
     → RowReached log T.key (checkpoint_at to)
 unfolding AreReached RowReached
@@ -308,7 +308,8 @@ all_reach (line ∷ log) legal = record {
       (tenure_after_line log line legal (all_reach log legal.1) t T (tenure_step log line t T is) from);
 }
 
--- a row from the trim horizon that reads a number has a record of its shard with this number or a greater one
+-- If a row from the trim horizon has a checkpoint at a number, its shard has a record with this number or a greater
+-- one.
 pub checkpoint_reached : (log : Journal) → IsLegal log → (key : ShardRef) (r : Row) (q : ℕ) → row log key ≡ Some r
     → origin_of log key ≡ Some origin.TrimHorizon → r.checkpoint ≡ At q → HasFrom q (records log key.stream key.shard)
 unfolding RowReached
@@ -322,7 +323,7 @@ checkpoint_reached log legal key r q there from is =
     found q (r ∷ rs) (inl at) = inl (omega arith)
     found q (r ∷ rs) (inr at) = inr (found q rs at)
 
--- such a row has its shard's starting number as its floor
+-- A row from the trim horizon has its shard's starting number as its floor.
 pub horizon_floor : (log : Journal) → IsLegal log → (key : ShardRef) (r : Row) → row log key ≡ Some r
     → origin_of log key ≡ Some origin.TrimHorizon → r.floor ≡ start_of (shard_at log key.stream key.shard)
 horizon_floor log legal key r there from =

@@ -36,7 +36,7 @@ use Rattle.kds_defs.proofs.Walk as walks
 use Rattle.kcl_laws.proofs.Added.{Adds, in_live, draws_one, not_spent, not_past}
 use Rattle.kcl_laws.proofs.ScalingLemmas.{adds_scaling}
 
--- a stream that a name finds is live
+-- A stream that is found by a name is live.
 pub found_by : (b d : Bool) (x s : ℕ) (rest : List ℕ) (p q : ℕ → Bool) → q x ≡ b → p x ≡ d
     → find p (cond b (x ∷ filter q rest) (filter q rest)) ≡ Some s
     → (find p (filter q rest) ≡ Some s → q s ≡ true) → q s ≡ true
@@ -60,7 +60,7 @@ not_both : (wanted have : ℕ) (raise : Bool) → (if raise then nat_lt wanted h
 not_both wanted have true h = grind (arith, nat_tests)
 not_both wanted have false h = grind (arith, nat_tests)
 
--- the line of an item that isn't held back, and the lines of it and of those that follow
+-- The line of an item that isn't held back, and the lines of this item and of those that follow.
 abbrev next_line : Journal → ℕ → ℕ → ℕ → NewItem → Line
 next_line log c by s item = put_line log c by s (next_number log s) item
 
@@ -70,7 +70,7 @@ lines_from back log c by s item items =
     then put_lines log c by s items
     else next_line log c by s item ∷ put_lines (next_line log c by s item ∷ log) c by s items
 
--- one more item is held back, or its line is good
+-- If one more item is put, it is held back, or its line is good.
 adds_item : (back : Bool) (item : NewItem) (items : List NewItem) (log : Journal) (c by s : ℕ)
     → is_held_back log c s item ≡ back → item.hash < 2 ^ 128
     → is_live log s ≡ true
@@ -98,7 +98,7 @@ adds_item false item items log c by s is hash live fits legal order skip take =
     (good, legal) (omega arith) in
     record { legal = rest.legal; clock = rest.clock }
 
--- the puts of several items, each judged after those before
+-- The lines of several puts are good, where each item is judged after those before it.
 adds_puts : (items : List NewItem) (log : Journal) (c by s : ℕ) → AllByRecursion IsItem items → is_live log s ≡ true
     → next_number log s + length (put_lines log c by s items) ≤ last_number → IsLegal log → last_clock log ≤ c
     → Adds log (put_lines log c by s items) c
@@ -109,7 +109,7 @@ adds_puts (item ∷ items) log c by s lawful live fits legal order =
     (λ next is fits' legal' order'.
     adds_puts items next c by s lawful.1 (ap (λ l. is_live l s) is ∙ live) fits' legal' order')
 
--- what an own tenure gives
+-- What follows if a command of a tenure of the actor's own is accepted.
 pub record Owned (log : Journal) (by t : ℕ) (next : TenureState → Decision) (lines : List Line) (reply : Reply) :
     Type 0 where
   pub state : TenureState
@@ -125,7 +125,7 @@ owned log by t next lines reply h =
     let b = passes refusal.NotYours _ _ lines reply a.2 in
     record { state = a.0; begun = a.1; own = equal_unless _ _ b.0; rest = b.1 }
 
--- a parent that is read
+-- The parent is read to its end.
 abbrev pub IsParentRead : Journal → ℕ → ℕ → Option ℕ → Type 0
 IsParentRead log c s None = Unit {0}
 IsParentRead log c s (Some parent) = is_unread log c (ref s parent) ≡ false
@@ -149,21 +149,21 @@ past_the_parents log c s (Some x) next lines reply h =
     let b = past_the_parent log c s x.adjacent _ lines reply a.1 in
     ((a.0, b.0), b.1)
 
--- the making of a row with this origin that counts
+-- The decision on the making of a row with an origin that already counts.
 abbrev lease_with : Journal → ℕ → ℕ → ShardRef → Origin → Decision
 lease_with log c by key from =
     refuse refusal.ShardGone if not (is_listed_key log c key) else
     refuse refusal.LeaseThere if is_some (row log key) else
     Accepted (plain_line c by (entry.LeaseMade key from) ∷ []) (replies.Leased from)
 
--- the origin that counts counts again
+-- The origin that counts still counts if it is asked for again.
 counts_once : (b : Bool)
     (from : Origin) → (if b then origin.TrimHorizon else (if b then origin.TrimHorizon else from))
     ≡ (if b then origin.TrimHorizon else from)
 counts_once true from = refl
 counts_once false from = refl
 
--- what follows in a live stream of the name
+-- The decision on a stream's name is the one on the live stream with this name.
 of_named : (log : Journal) (name : List ℕ) (s : ℕ) (next : ℕ → Decision) (d : Decision) → stream_named log name ≡ Some s
     → with_stream log name next ≡ d
     → in_stream log s (next s) ≡ d
@@ -174,7 +174,7 @@ of_named log name s next d named h =
 one_less : (n : ℕ) → n + 1 - 1 ≡ n
 one_less n = omega arith
 
--- the line that a command tells tells that command, which is allowed
+-- The line that a command adds records an accepted command.
 told_allowed : (log : Journal) (c by : ℕ) (what : Command) (line : Line) (r : Reply) → walks.Tells log c by what line r
     → decide log c by what ≡ Accepted (line ∷ []) r → told log line line.what ≡ Accepted (line ∷ []) r
 told_allowed log c by _ _ _ (walks.Deletes name s named) h = of_named log name s _ _ named h
@@ -207,7 +207,7 @@ told_range log c by _ _ _ (walks.Puts name item s named fits) lawful = (lawful.1
 told_range log c by _ _ _ (walks.Keeps name wanted raise s named fits) lawful = (lawful.1, refl)
 told_range log c by _ _ _ _ lawful = (tt, refl)
 
--- the lines of an outcome
+-- The lines of an outcome are good.
 outcome_legal : (log : Journal) (c by : ℕ) (what : Command) (lines : List Line) (answer : Result Reply Refusal)
     → walks.Outcome log c by what lines answer
     → ((r : Reply) → answer ≡ Ok r → decide log c by what ≡ Accepted lines r) → IsLawfulCommand what → IsLegal log
@@ -232,7 +232,7 @@ outcome_legal log c by _ _ _ (walks.Scales name goal s named few fits) so lawful
     adds_scaling log c by s goal (live_named log name s named) lawful.1.0 lawful.1.1 (not_past _ _ few)
     (not_past _ _ each.0) (not_past _ _ each.1) legal order
 
--- the lines of a decision
+-- A decision that isn't a refusal accepts its lines.
 is_accepted : (d : Decision) (r : Reply) → answer_of d ≡ Ok r → d ≡ Accepted (lines_of d) r
 is_accepted (Refused q) r h = absurd cc
 is_accepted (Accepted lines q) r h = let e : q ≡ r = cc in ap (λ x. Accepted lines x) e
@@ -242,7 +242,7 @@ decided_legal : (log : Journal) (c by : ℕ) (what : Command) → IsLawfulComman
 decided_legal log c by what lawful legal order =
     outcome_legal log c by what _ _ (walks.walk log c by what) (is_accepted (decide log c by what)) lawful legal order
 
--- the journal of a history is legal, and no line is later than the history's clock
+-- The journal of a history is legal, and no line is later than the history's clock.
 pub record HasJournal (h : List Turn) : Type 0 where
   pub legal : IsLegal (journal h)
   pub order : last_clock (journal h) ≤ clock h

@@ -1,4 +1,4 @@
--- Before a read stands an opening of its tenure, and before an opening the parents are past.
+-- A read comes after an opening of its tenure, and at this opening the parents are past.
 use Rattle.std.proofs.Common.{◌≡◌, ℕ, zero, suc, ◌+◌, ◌<◌, ◌≤◌, Bool, true, false, List, [], ◌∷◌, ◌++◌, length, Option}
 use Rattle.std.proofs.Common.{Some, None, refl, sym, ap, subst, ◌∙◌, arith, inl, inr, length-append}
 use Rattle.std.specs.Prelude.{◌==◌, ◌&&◌, ◌⊎◌, not, slice_get, if◌then◌else◌}
@@ -27,7 +27,7 @@ use Rattle.kcl_laws.proofs.LegalLemmas.{owned, past_the_parents, AreParentsRead,
 use Rattle.kds_defs.proofs.Numbers.{length-closed}
 use Rattle.kcl_laws.proofs.Steps.{TenureStep, Begun, Same, Opening, Reading, Giving, tenure_step, tenure_key}
 
--- ---- the parents of a shard are shards of its stream
+-- ---- The parents of a shard are shards of its stream
 
 abbrev pub IsBelow : Option ℕ → ℕ → Type 0
 IsBelow None n = Unit {0}
@@ -62,7 +62,7 @@ parents-first : (i start n : ℕ) (ranges : List Span) → HaveParents n (first_
 parents-first i start n [] = tt
 parents-first i start n (r ∷ rs) = ((tt, tt), parents-first (i + 1) start n rs)
 
--- an open shard is there
+-- An open shard is in the list.
 open_within : (xs : List ShardState) (sh : ℕ) → is_open_at (slice_get xs sh) ≡ true → sh < length xs
 open_within [] sh h = absurd cc
 open_within (x ∷ xs) zero h = omega arith
@@ -149,7 +149,7 @@ parents_at [] n sh x h is = absurd cc
 parents_at (y ∷ ys) n zero x h is = let e : y ≡ x = cc in subst (HasParents n) e h.0
 parents_at (y ∷ ys) n (suc sh) x h is = parents_at ys n sh x h.1 is
 
--- ---- a parent that was passed is past
+-- ---- A parent that was passed is past
 
 past_by : (log : Journal) (c s : ℕ) (p : ℕ) (x : ShardState) (b : Bool) → reads_end (row log (ref s p)) ≡ b
     → shard_at log s p ≡ Some x → (is_listed_state log c s (shard_at log s p) && not b) ≡ false
@@ -177,7 +177,7 @@ past_state log legal c s sh (Some x) at listed read =
     let h = parents_at (shards log s) _ sh x (parents log legal s) at in
     (past log c s _ x.parent refl h.0 read.0, past log c s _ x.adjacent refl h.1 read.1)
 
--- ---- an opened tenure was opened
+-- ---- An opened tenure was opened
 
 opened_by : (log : Journal) (line : Line) (t : ℕ) (T : TenureState) → TenureStep log line t T
     → ((S : TenureState) → tenure log t ≡ Some S → S.opened ≡ true → WasOpened log t) → T.opened ≡ true
@@ -196,7 +196,7 @@ was_opened [] t T is h = absurd cc
 was_opened (line ∷ log) t T is h =
     opened_by log line t T (tenure_step log line t T is) (λ S at o. was_opened log t S at o) h
 
--- ---- lineage
+-- ---- Lineage
 
 in_line : (log : Journal) (line : Line) (e : Entry) (reply : Reply) → IsLegal log
     → told log line e ≡ Accepted (line ∷ []) reply → IsInLine log line.clock e

@@ -19,7 +19,7 @@ use Rattle.kds_defs.specs.Tiled.{IsTiled}
 use Rattle.kds_defs.proofs.Decisions.{passes, holds_so}
 use Rattle.kds_defs.proofs.Tiles.{same_times, tiled_new, tiled_split, tiled_merge}
 
--- the same of shards that may not be there
+-- A split keeps the partition, for a shard that is given as an option.
 split_there : (xs : List ShardState) (sh n m at start : ℕ) (closing : Closing) (p q : Option ℕ) (o : Option ShardState)
     → slice_get xs sh ≡ o → is_open_at o ≡ true → is_inside (range_of o) at ≡ true → IsTiled xs
     → IsTiled (with_closed sh closing xs
@@ -39,7 +39,7 @@ merge_there xs sh other n start closing p q (Some x) None is is' open_x open_y t
 merge_there xs sh other n start closing p q (Some x) (Some y) is is' open_x open_y touch tiled =
     tiled_merge xs sh other n start closing p q x y is is' open_x open_y touch tiled
 
--- one of two lists of shards
+-- One of two lists of shards is a partition if each list is one in its case.
 chosen : (b : Bool) (xs ys : List ShardState) → (b ≡ true → IsTiled xs) → (b ≡ false → IsTiled ys)
     → IsTiled (if b then xs else ys)
 chosen true xs ys h g = h refl
@@ -49,7 +49,7 @@ or_else : (b d : Bool) → (b || d) ≡ true → b ≡ false → d ≡ true
 or_else true d h f = absurd cc
 or_else false d h f = h
 
--- what one more line does
+-- One more line keeps the partition.
 tiled_after : (log : Journal) (line : Line) (e : Entry) (reply : Reply) → IsInRange e
     → told log line e ≡ Accepted (line ∷ []) reply
     → (s start : ℕ) → (was_made log s ≡ true → IsTiled (shards log s)) → was_made_after e s (was_made log s) ≡ true

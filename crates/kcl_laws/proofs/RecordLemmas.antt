@@ -1,4 +1,4 @@
--- The numbers of a shard's records, and their bytes.
+-- The numbers of a shard's records, and their byte counts.
 use Rattle.std.proofs.Common.{◌≡◌, ℕ, ◌+◌, ◌≤◌, Bool, true, false, List, [], ◌∷◌, ◌++◌, length, Option, Some, None}
 use Rattle.std.proofs.Common.{refl, sym, ap, subst, arith}
 use Rattle.std.specs.Prelude.{◌==◌, ◌&&◌, if◌then◌else◌}
@@ -25,7 +25,7 @@ use Rattle.kcl_laws.proofs.Batches.{IsRising, rising, all_push}
 use Rattle.kcl_laws.proofs.StartLemmas.{IsFrom, records_from, starts_at, starts_below}
 use Rattle.kcl_laws.specs.Recorded.{AreDrawn, IsSized, RiseBetween}
 
--- ---- numbers
+-- ---- Numbers
 
 rise_on : (p : ℕ) (rs : List Logged) (q : ℕ) → IsRising p rs q → RiseBetween p rs q
 rise_on p [] q is = is
@@ -49,7 +49,7 @@ all_drawn log legal s sh =
     (λ x is. starts_at (shards log s) (next_number log s) sh x (starts_below log s) is)
     (records_from log legal s sh) (rising log legal s sh)
 
--- ---- the next number
+-- ---- The next number
 
 one_more : (b : Bool) (s stream n : ℕ) → (stream == s) ≡ b → (n == last_number) ≡ false → (b ≡ true → n ≤ last_number)
     → (m : ℕ) → m ≤ last_number
@@ -92,9 +92,9 @@ pub next_fits : (log : Journal) → IsLegal log → (s : ℕ) → next_number lo
 next_fits [] legal s = omega arith
 next_fits (line ∷ log) legal s = next_by log line line.what legal.0.reply s legal.0.allowed (next_fits log legal.1 s)
 
--- ---- bytes
+-- ---- Bytes
 
--- a put tells the bytes of its record, which are no more than a record may have
+-- A put tells the byte count of its record, which is no greater than a record may have.
 IsSizedEntry : Line → Entry → Type 0
 IsSizedEntry line (entry.Put s sh number hash bytes key_bytes) =
     (bytes ≡ length line.payload) × (key_bytes ≡ length line.key)
@@ -129,7 +129,7 @@ sized_records [] s sh are = tt
 sized_records (line ∷ log) s sh are =
     sized_by line line.what s sh (records log s sh) are.0 (sized_records log s sh are.1)
 
--- ---- the lines of a history
+-- ---- The lines of a history
 
 line_sized : (log : Journal) (c by : ℕ) (what : Command) (line : Line) → IsAdded log c by what line
     → IsLawfulCommand what → IsSizedEntry line line.what

@@ -1,4 +1,4 @@
--- The lines of a scaling are good: each is a merge or a split that may be made by itself.
+-- The lines of a scaling are good, since each is a merge or a split that may be made by itself.
 use Rattle.std.proofs.Common.{◌≡◌, ℕ, zero, suc, ◌+◌, ◌-◌, ◌^◌, ◌<◌, ◌≤◌, Bool, true, false, List, [], ◌∷◌, ◌++◌}
 use Rattle.std.proofs.Common.{length, map, Option, Some, None, refl, sym, ap, subst, ◌∙◌, arith, length-append}
 use Rattle.std.specs.Prelude.{◌==◌, ◌&&◌, ◌||◌, cond, is_none, not, nat_le, nat_lt, if◌then◌else◌}
@@ -36,7 +36,7 @@ use Rattle.kcl_laws.proofs.Added.{Adds, in_live, draws_one}
 use Rattle.kcl_laws.proofs.Numbering.{numbered, made_if_live}
 use Rattle.kcl_laws.proofs.PartitionLemmas.{tiled}
 
--- ---- the ends of a stream's shards lie below 2^128
+-- ---- The ends of a stream's shards lie below 2^128
 
 inside_below : (r : Span) (at : ℕ) → is_inside r at ≡ true → r.end < 2 ^ 128 → at < 2 ^ 128
 inside_below r at h g = let to : at ≤ r.end = grind (arith, nat_tests) in omega arith
@@ -76,7 +76,7 @@ scalable : (log : Journal) → IsLegal log → (s : ℕ) → was_made log s ≡ 
 scalable log legal s made =
     record { tiled = tiled log legal s made; bounded = bounded log legal s; numbered = numbered log s }
 
--- ---- an open shard of a live stream is listed
+-- ---- An open shard of a live stream is listed
 
 not_below : (floor : ℕ) (o : Option Closing) → is_none o ≡ true → was_closed_below floor o ≡ false
 not_below floor None h = refl
@@ -94,7 +94,7 @@ both_so true true h g = refl
 both_so true false h g = absurd cc
 both_so false b h g = absurd cc
 
--- ---- a merge
+-- ---- A merge
 
 join_line : Journal → ℕ → ℕ → ℕ → ℕ → Line
 join_line log c by s b = plain_line c by (step_entry log s (Join b))
@@ -143,7 +143,7 @@ length_join : (xs : List ShardState) (sh other : ℕ) (closing : Closing) (start
 length_join xs sh other closing start =
     length-append _ _ ∙ ap (λ n. n + 1) (length-closed other closing _ ∙ length-closed sh closing xs)
 
--- ---- a split
+-- ---- A split
 
 cut_line : Journal → ℕ → ℕ → ℕ → ℕ → Line
 cut_line log c by s b = plain_line c by (step_entry log s (Cut b))
@@ -187,7 +187,7 @@ length_cut : (xs : List ShardState) (sh at : ℕ) (closing : Closing) (start : �
     → length (split_shards sh at closing start xs) ≡ length xs + 2
 length_cut xs sh at closing start = length-append _ _ ∙ ap (λ n. n + 2) (length-closed sh closing xs)
 
--- ---- the open shards of the other streams
+-- ---- The open shards of the other streams
 
 others : ℕ → List ℕ → List ℕ
 others s ts = filter (λ t. not (t == s)) ts
@@ -225,7 +225,7 @@ elsewhere_cut log c by s b =
     (λ t differ. ap (λ r. if r then split_shards (home log s b) b (record { number = next_number log s; clock = c })
     (next_number (cut_line log c by s b ∷ log) t) (shards log t) else shards log t) (other_stream s t differ))
 
--- all open shards are the stream's and those of the others
+-- All open shards are those of the stream and those of the other streams.
 beyond_by : (b d : Bool) (log : Journal) (t s : ℕ) (us : List ℕ) → not (t == s) ≡ d → d ≡ true
     → open_in log us ≡ open_in log (others s us)
     → open_in log (cond b (t ∷ us) us) ≡ open_in log (others s (cond b (t ∷ us) us))
@@ -277,7 +277,7 @@ open_bound : (log : Journal) (s : ℕ) → open_count log ≤ length (open_shard
 unfolding others
 open_bound log s = once log s 1 (made_count log)
 
--- ---- the lines of the steps
+-- ---- The lines of the steps
 
 cuts_length : (cs starts wanted : List ℕ) → LeadTo (map Cut cs) starts wanted
     → length starts + length cs ≡ length wanted
@@ -355,7 +355,7 @@ filtered p (x ∷ xs) h = kept (p x) x (filter p xs) h.0 (filtered p xs h.1)
     kept true x ys h g = (h, g)
     kept false x ys h g = g
 
--- a scaling of a live stream
+-- The lines of a scaling of a live stream are good.
 pub adds_scaling : (log : Journal) (c by s target : ℕ) → is_live log s ≡ true → 1 ≤ target → target ≤ 500
     → open_elsewhere log s + target ≤ OPEN_SHARDS
     → next_number log s + length (steps_to log s target) ≤ last_number

@@ -28,7 +28,7 @@ use Rattle.kcl_laws.proofs.ShownReadings.{clock_is, ends_is, enforced_is, home_i
 use Rattle.kcl_laws.proofs.ShownReadings.{made_is, named_is, next_is, numbers_are, open_is, origin_is, puts_are, row_is}
 use Rattle.kcl_laws.proofs.ShownReadings.{shards_are, streams_are, taken_is, tenure_is}
 
--- where the first is accepted so is the second, and its lines are those that the text shows
+-- If the first decision is an acceptance, so is the second, and its lines are those that the text shows.
 abbrev Shows : Decision → Decision → Type 0
 Shows (Refused r) d = Unit {0}
 Shows (Accepted lines reply) (Refused r) = ⊥
@@ -48,7 +48,7 @@ past_with None o' r r' f f' e h = tt
 past_with (Some x) None r r' f f' e h = absurd cc
 past_with (Some x) (Some y) r r' f f' e h = let same : x ≡ y = cc in subst (λ z. Shows (f x) (f' z)) same (h x)
 
--- ---- the commands on streams
+-- ---- The commands on streams
 
 live_past : (log : Journal) (s : ℕ) (d d' : Decision) → Shows d d'
     → Shows (in_stream log s d) (in_stream (shown_journal log) s d')
@@ -63,7 +63,7 @@ held_past : (log : Journal) (by t : ℕ) (f f' : TenureState → Decision) → (
 held_past log by t f f' h =
     tenure_past log by t _ _ (λ T. past _ _ _ _ _ _ (λ i. not (tenure_in (row_is log T.key i) == t)) (h T))
 
--- a counter that is the row's, and the last one
+-- The test of a row's counter leads to the same case in both journals.
 counter_past : (log : Journal) (key : ShardRef) (counter : ℕ) (r r' : Refusal) (d d' : Decision) → Shows d d'
     → Shows (refuse r if not (counter_in (row log key) == counter) else d)
     (refuse r' if not (counter_in (row (shown_journal log) key) == counter) else d')
@@ -105,13 +105,13 @@ target_past log T (target.At q) d d' h =
     h))
 target_past log T target.End d d' h = past _ _ _ _ _ _ refl h
 
--- ---- each entry
+-- ---- Each entry
 
 length-blank : (n : ℕ) → length (blank n) ≡ n
 length-blank zero = refl
 length-blank (suc n) = ap suc (length-blank n)
 
--- a put tells how long its payload and its key are
+-- A put tells the lengths of its payload and of its key.
 abbrev IsSized : Line → Entry → Type 0
 IsSized line (entry.Put s sh n hash bytes key_bytes) = (length line.payload ≡ bytes) × (length line.key ≡ key_bytes)
 IsSized line _ = Unit {0}
@@ -200,9 +200,9 @@ shows_told log line (entry.LeaseCut key counter) is sized =
     past_with _ _ _ _ _ _ (row_is log key)
     (λ r. past _ _ _ _ _ _ refl (past _ _ _ _ _ _ (listed_is log line.clock key.stream key.shard) refl))
 
--- ---- a good line
+-- ---- A good line
 
--- a good put tells the bytes of its payload and of its key
+-- A good put tells the byte counts of its payload and of its key.
 same_bytes : (s s' h sh n n' hash hash' bytes bytes' k k' : ℕ)
     → entry.Put s h n hash bytes k ≡ entry.Put s' sh n' hash' bytes' k' → (bytes ≡ bytes') × (k ≡ k')
 same_bytes s s' h sh n n' hash hash' bytes bytes' k k' e = (cc, cc)

@@ -39,7 +39,7 @@ pub clock_is : (log : Journal) → last_clock (shown_journal log) ≡ last_clock
 clock_is [] = refl
 clock_is (line ∷ log) = refl
 
--- ---- streams
+-- ---- Streams
 
 pub made_is : (log : Journal) → made_count (shown_journal log) ≡ made_count log
 made_is [] = refl
@@ -76,13 +76,13 @@ streams_are log = λ i. filter (λ s. live_is log s i) (numbers_from 1 (made_is 
 pub named_is : (log : Journal) (name : List ℕ) → stream_named (shown_journal log) name ≡ stream_named log name
 named_is log name = λ i. find (λ s. same_name (name_is log s i) name) (streams_are log i)
 
--- ---- shards
+-- ---- Shards
 
 pub next_is : (log : Journal) (s : ℕ) → next_number (shown_journal log) s ≡ next_number log s
 next_is [] s = refl
 next_is (line ∷ log) s = ap (λ n. draws line.what s + n) (next_is log s)
 
--- of a line only its clock counts
+-- Only the clock of a line counts for the shards.
 line_is : (line : Line) (what : Entry) (s start : ℕ) (before : List ShardState)
     → shards_after (shown_line line) what s start before ≡ shards_after line what s start before
 line_is line (entry.Made a name count) s start before = refl
@@ -116,7 +116,7 @@ listed_is log c s sh =
     ap (λ (xs : List ShardState). is_listed_state (shown_journal log) c s (slice_get xs sh)) (shards_are log s)
     ∙ state_is log c s (shard_at log s sh)
 
--- ---- records: they differ in their keys and payloads alone
+-- ---- Records, which differ only in their keys and payloads
 
 last_bare : (rs : List Logged) (r : Logged) → map bare (rs ++ r ∷ []) ≡ map bare rs ++ bare r ∷ []
 last_bare [] r = refl
@@ -190,13 +190,13 @@ first_is log c s sh moment otherwise =
     ∙ ap (λ rs. first_at rs moment otherwise) (left_are log c s sh 0)
     ∙ first_bare (left_from log c s sh 0) moment otherwise
 
--- ---- throughput
+-- ---- Throughput
 
 pub enforced_is : (log : Journal) (s : ℕ) → is_enforced (shown_journal log) s ≡ is_enforced log s
 enforced_is [] s = refl
 enforced_is (line ∷ log) s = ap (enforced_after line.what s) (enforced_is log s)
 
--- of a line only its clock counts
+-- Only the clock of a line counts for the puts.
 put_one : (line : Line) (what : Entry) (s sh : ℕ) (before : List SizedPut)
     → puts_after (shown_line line) what s sh before ≡ puts_after line what s sh before
 put_one line (entry.Put a shard n hash bytes key_bytes) s sh before = refl
@@ -207,7 +207,7 @@ puts_are [] s sh = refl
 puts_are (line ∷ log) s sh = put_one line line.what s sh (puts (shown_journal log) s sh)
     ∙ ap (puts_after line line.what s sh) (puts_are log s sh)
 
--- ---- rows and tenures
+-- ---- Rows and tenures
 
 pub taken_is : (log : Journal) → taken_count (shown_journal log) ≡ taken_count log
 taken_is [] = refl
@@ -217,7 +217,7 @@ key_is : (log : Journal) (t : ℕ) → key_of (shown_journal log) t ≡ key_of l
 key_is [] t = refl
 key_is (line ∷ log) t = λ i. key_of_after line.what t (taken_is log i) (key_is log t i)
 
--- where a row begins
+-- A row has the same floor in both journals.
 floor_from_is : (log : Journal) (c : ℕ) (key : ShardRef) (from : Origin)
     → floor_from (shown_journal log) c key from ≡ floor_from log c key from
 floor_from_is log c key origin.TrimHorizon = λ i. start_of (slice_get (shards_are log key.stream i) key.shard)
@@ -267,7 +267,7 @@ tenure_is [] t = refl
 tenure_is (line ∷ log) t =
     tenure_one log line line.what t (tenure log t) (tenure (shown_journal log) t) (tenure_is log t)
 
--- ---- the origin that counts
+-- ---- The origin that counts
 
 reaches_is : (log : Journal) (s : ℕ) (o : Option ℕ)
     → parent_reaches_end (shown_journal log) s o ≡ parent_reaches_end log s o

@@ -1,4 +1,4 @@
--- What a tenure is is what the lines of the journal tell.
+-- The state of a tenure is the one that the lines of the journal determine.
 use Rattle.std.proofs.Common.{◌≡◌, ℕ, ◌+◌, Bool, true, false, List, [], ◌∷◌, ◌++◌, length, Option, Some, None, refl, ap}
 use Rattle.std.proofs.Common.{◌∙◌, arith}
 use Rattle.std.specs.Prelude.{◌==◌, ◌||◌, cond, if◌then◌else◌}
@@ -13,7 +13,7 @@ use Rattle.kds_defs.specs.Leases.{with_given, with_opened, with_read}
 use Rattle.kcl_laws.specs.TenureLines.{Told, all_told, begins, givings, newer_than, reads_told, since_taking, taken_key}
 use Rattle.kcl_laws.specs.TenureLines.{taking, was_opened, IsToldTenure}
 
--- the tenure that these lines tell, which began by this line
+-- The tenure that the lines determine and that began by the line in the last argument.
 abbrev told_by : ℕ → List Told → Told → TenureState
 told_by t ls begun =
     record {
@@ -31,7 +31,7 @@ told t ls = option_map (told_by t (newer_than t ls)) (find (begins t) ls)
 abbrev here : ℕ → Journal → Entry → Told
 here by log e = record { by = by; what = e; before = log }
 
--- ---- one line more, where it is the tenure's and where it isn't
+-- ---- One more line, which is the tenure's or isn't
 
 began : (t by : ℕ) (log : Journal) (k : ShardRef) (n c owner : ℕ) (ls : List Told) (b : Bool)
     (before : Option TenureState) → before ≡ told t ls
@@ -86,7 +86,7 @@ told_line t by log line (entry.Given u) ls same is =
     ∙ gave t (newer_than t ls) (here by log (entry.Given u)) (u == t) (find (begins t) ls)
 told_line t by log line _ ls same is = is
 
--- ---- all lines
+-- ---- All lines
 
 all : (log : Journal) (t : ℕ) → tenure log t ≡ told t (all_told log)
 all [] t = refl

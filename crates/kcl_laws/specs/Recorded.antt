@@ -9,28 +9,30 @@ use Rattle.kds_defs.specs.Journal.{Journal}
 use Rattle.kds_defs.specs.Records.{Logged, records, next_number}
 use Rattle.kds_defs.specs.Shards.{shard_at, start_of}
 
--- the numbers of these records rise, from the first number on, and are below the next one
+-- The sequence numbers of the records rise, from `first` on, and are below `next`.
 abbrev pub RiseBetween : ℕ → List Logged → ℕ → Type 0
 RiseBetween first [] next = first ≤ next
 RiseBetween first (r ∷ rs) next = (first ≤ r.seq) × RiseBetween (r.seq + 1) rs next
 
--- those of a shard do so from its starting number on, below its stream's next number
+-- The sequence numbers of the shard's records rise from the shard's starting number on, and are below the next number
+-- of the stream `s`.
 abbrev pub AreDrawn : Journal → ℕ → ℕ → Type 0
 AreDrawn log s sh = RiseBetween (start_of (shard_at log s sh)) (records log s sh) (next_number log s)
 
--- the bytes are those of the payload and the key, and a batch may have as many (Kinesis API Reference, GetRecords)
+-- The byte count of `r` is that of its payload and its key, and fits into one batch (Kinesis API Reference,
+-- GetRecords).
 abbrev pub IsSized : Logged → Type 0
 IsSized r = (r.bytes ≡ length r.payload + length r.key) × (r.bytes ≤ BATCH_BYTES)
 
--- a record without its key and payload, which nothing that decides looks at
+-- The record `r` without its key and payload, on which no decision depends.
 abbrev pub bare : Logged → Logged
 bare r = record r { key = []; payload = [] }
 
--- one of these records has this number or a greater one
+-- One of the records has the sequence number `q` or a greater one.
 abbrev pub HasFrom : ℕ → List Logged → Type 0
 HasFrom q [] = ⊥
 HasFrom q (r ∷ rs) = (q ≤ r.seq) ⊎ HasFrom q rs
 
--- the row of the key, which begins at the trim horizon
+-- The row of the key `key` is `r`, and its origin is the trim horizon.
 abbrev pub IsFromHorizon : Journal → ShardRef → Row → Type 0
 IsFromHorizon log key r = (row log key ≡ Some r) × (origin_of log key ≡ Some TrimHorizon)

@@ -1,4 +1,4 @@
--- What a tenure is, told by the lines of the journal that speak of it (Kinesis Client Library, leases).
+-- The state of a tenure, as the lines of the journal about the tenure determine it (Kinesis Client Library, leases).
 use Rattle.std.specs.Prelude.{ℕ, ◌+◌, ◌≡◌, Bool, false, ◌==◌, if◌then◌else◌, List, [], ◌∷◌, ◌++◌, length, Option, Some}
 use Rattle.std.specs.List.{filter, find, list_any}
 use Rattle.kds_base.specs.declared.lease_key.ShardRef.{ShardRef}
@@ -8,20 +8,20 @@ use Rattle.kds_defs.specs.Journal.{Journal}
 use Rattle.kds_defs.specs.Keys.{ref}
 use Rattle.kds_defs.specs.Leases.{ReadDone, TenureState, checkpoint_in, row, taken_count, tenure}
 
--- who wrote a line, what it says, and the lines before it
+-- Who wrote a line, what it says, and the lines before it.
 pub record Told : Type 0 where
   pub by : ℕ
   pub what : Entry
   pub before : Journal
 
--- every line of the journal, the newest first
+-- Every line of the journal, the newest first.
 abbrev pub all_told : Journal → List Told
 all_told [] = []
 all_told (line ∷ log) = record { by = line.by; what = line.what; before = log } ∷ all_told log
 
--- ---- its taking
+-- ---- The take by which a tenure began
 
--- the line takes a row, as the t-th that does
+-- The line takes a row, and is the take number `t` of the journal.
 abbrev pub is_taking : ℕ → Journal → Entry → Bool
 is_taking t before (entry.Taken key tenure counter owner) = t == taken_count before + 1
 is_taking t before _ = false
@@ -29,11 +29,11 @@ is_taking t before _ = false
 abbrev pub begins : ℕ → Told → Bool
 begins t l = is_taking t l.before l.what
 
--- the line by which the tenure began
+-- The line by which the tenure `t` began.
 abbrev pub taking : Journal → ℕ → Option Told
 taking log t = find (begins t) (all_told log)
 
--- the lines newer than that
+-- The lines that are newer than the one by which the tenure `t` began.
 abbrev pub newer_than : ℕ → List Told → List Told
 newer_than t [] = []
 newer_than t (l ∷ ls) = if begins t l then [] else l ∷ newer_than t ls
@@ -41,18 +41,18 @@ newer_than t (l ∷ ls) = if begins t l then [] else l ∷ newer_than t ls
 abbrev pub since_taking : Journal → ℕ → List Told
 since_taking log t = newer_than t (all_told log)
 
--- the key that a taking takes
+-- The key of the row that a take takes.
 abbrev pub taken_key : Entry → ShardRef
 taken_key (entry.Taken key tenure counter owner) = key
 taken_key _ = ref 0 0
 
--- ---- what followed
+-- ---- The lines since then
 
 abbrev pub is_opening : ℕ → Entry → Bool
 is_opening t (entry.Opened tenure) = tenure == t
 is_opening t _ = false
 
--- an opening of the tenure stands among the lines
+-- Whether one of the lines `ls` opens the tenure `t`.
 abbrev pub was_opened : ℕ → List Told → Bool
 was_opened t ls = list_any (λ l. is_opening t l.what) ls
 
@@ -60,24 +60,24 @@ abbrev pub is_giving : ℕ → Entry → Bool
 is_giving t (entry.Given tenure) = tenure == t
 is_giving t _ = false
 
--- the givings of the tenure among the lines
+-- The lines of `ls` that give a read of the tenure `t`.
 abbrev pub givings : ℕ → List Told → List Told
 givings t ls = filter (λ l. is_giving t l.what) ls
 
--- the reads so far and the one that a line tells, where it is the tenure's
+-- The reads `older`, followed by the read that the line reports, if this is a read of the tenure `t`.
 abbrev pub with_read_told : ℕ → Entry → List ReadDone → List ReadDone
 with_read_told t (entry.Read tenure limit ended numbers) older =
     if tenure == t then older ++ (record { numbers = numbers; ended = ended } ∷ []) else older
 with_read_told t _ older = older
 
--- the reads of the tenure among the lines, in their order
+-- The reads of the tenure `t` among the lines `ls`, in order.
 abbrev pub reads_told : ℕ → List Told → List ReadDone
 reads_told t [] = []
 reads_told t (l ∷ ls) = with_read_told t l.what (reads_told t ls)
 
--- ---- the tenure
+-- ---- The tenure
 
--- this tenure is told by its taking and by the lines since
+-- The tenure `t` is determined by the take `begun` by which it began, and by the lines since then.
 pub record IsToldTenure (log : Journal) (t : ℕ) (begun : Told) : Type 0 where
   pub told : TenureState
   pub there : tenure log t ≡ Some told

@@ -1,4 +1,4 @@
--- The machine after one line of a lease.
+-- The machine after one line about a lease.
 use Rattle.std.proofs.Common.{◌≡◌, ◌≢◌, ℕ, ◌+◌, ◌-◌, ◌<◌, ◌≤◌, Bool, true, false, List, [], ◌∷◌, ◌++◌, length, map}
 use Rattle.std.proofs.Common.{slice_set, Option, Some, None, refl, sym}
 use Rattle.std.proofs.Common.{ap, subst, ◌∙◌, arith}
@@ -22,18 +22,18 @@ use Rattle.kcl_leases.proofs.RowChanges.{row_with, row_without}
 use Rattle.kcl_leases.proofs.TenureChanges.{tenure_push, tenure_set}
 use Rattle.kcl_leases.specs.Standing.{AreBounded, AreDistinct, Facing, IsGiven, KeepsShards, Stands, kept, leases}
 
--- what the shards ensure of the lines of leases
+-- What the shards ensure for the lines about leases.
 abbrev pub LeaseLines : Facing → Type 0
 LeaseLines s = KeepsShards s.clock s.shows
 
--- the tenures of the journal are these
+-- The tenures of the journal are `ts`.
 pub record HasTenures (log : Journal) (ts : List TenureValue) : Type 0 where
   pub count_is : taken_count log ≡ length ts
   pub tenure_is : (t : ℕ) → option_map kept (tenure log t) ≡ tenure_at ts t
   pub few : length ts ≤ last_number
   pub given : (t : ℕ) → IfSome (tenure log t) IsGiven
 
--- the rows of the journal are these
+-- The rows of the journal are `rows`.
 pub record HasRows (log : Journal) (rows : List Row) : Type 0 where
   pub keys_are : row_keys log ≡ map (λ (r : Row). r.key) rows
   pub row_is : (key : ShardRef) → row log key ≡ row_of rows key
@@ -64,7 +64,7 @@ pub tenures_of : (s : Facing) (rows : List Row) (ts : List TenureValue) (log : J
 tenures_of s rows ts log st =
     record { count_is = st.count_is; few = st.few; tenure_is = st.tenure_is; given = st.given }
 
--- ---- lines that leave the rows, or the tenures, as they were
+-- ---- Lines that leave the rows, or the tenures, as they were
 
 pub same_rows : (log : Journal) (line : Line) (rows : List Row)
     → ((ks : List ShardRef) → row_keys_after line.what ks ≡ ks)
@@ -87,7 +87,7 @@ same_tenures log line ts count same tenures = record {
   given = λ t. subst (λ o. IfSome o IsGiven) (sym (same t (tenure log t))) (tenures.given t);
 }
 
--- ---- a row is changed, made or removed
+-- ---- A row is changed, made or removed
 
 bound_if : (f : Row → Row) (key k : ShardRef) (rows : List Row) (b : Bool) → same_key key k ≡ b → AreBounded rows
     → ((r : Row) → row_of rows key ≡ Some r → (f r).checkpoint ≢ At last_number)
@@ -156,7 +156,7 @@ removed_rows log line rows key keys after rs = record {
     by k true = horizon
     by k false = rs.bounded k
 
--- ---- a tenure goes on, or begins
+-- ---- A tenure goes on, or begins
 
 map_if : (b : Bool) (g : TenureState → TenureState) (T : TenureState) (o : Option TenureState) (y : TenureValue)
     (x : Option TenureValue) → (b ≡ true → o ≡ Some T) → y ≡ kept (g T) → option_map kept o ≡ x

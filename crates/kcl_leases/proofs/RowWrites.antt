@@ -1,4 +1,4 @@
--- The commands on rows that no tenure asks for: they are surveyed, made, taken and cut.
+-- The commands on rows that aren't given by a tenure: a survey, a making, a take and a cut.
 use Rattle.std.proofs.Common.{◌≡◌, ◌≢◌, ℕ, ◌+◌, ◌<◌, ◌≤◌, Bool, true, false, List, [], ◌∷◌, ◌++◌, length, Option, Some}
 use Rattle.std.proofs.Common.{None, refl, sym, ap, subst, ◌∙◌, arith}
 use Rattle.std.specs.Prelude.{◌==◌, ◌||◌, not, is_some, if◌then◌else◌, Result, Ok, Err}
@@ -42,9 +42,9 @@ use Rattle.kcl_leases.proofs.RowChanges.{keys_with, keys_without}
 use Rattle.kcl_leases.specs.Conditions.{counting_from, parent_reaches, start_answer}
 use Rattle.kcl_leases.specs.Standing.{Facing, Leads, Stands, leases, live_shard}
 
--- ---- a row is made
+-- ---- A row is made
 
--- no shard, or one that isn't listed
+-- A shard that doesn't exist, or whose stream isn't live, isn't listed.
 unlisted_state : (log : Journal) (c s : ℕ) (o : Option ShardState) (b : Bool) → is_live log s ≡ b
     → option_map shown (if b then o else None) ≡ None → is_listed_state log c s o ≡ false
 unlisted_state log c s None b live h = refl
@@ -76,12 +76,12 @@ pub is_shard : (log : Journal) (key : ShardRef) (y : Shard) → Some y ≡ optio
     → IsShard log key y
 is_shard log key y h = shard_by log key (shard_at log key.stream key.shard) (is_live log key.stream) y refl refl h
 
--- its first number
+-- The starting number of the shard.
 pub starts_at : (log : Journal) (key : ShardRef) (y : Shard) → IsShard log key y
     → y.start ≡ start_of (shard_at log key.stream key.shard)
 starts_at log key y of = ap (λ (z : Shard). z.start) of.is_shown ∙ sym (ap start_of of.at)
 
--- whether a parent's row reaches the parent's end
+-- A parent's row reaches the parent's end in the journal exactly if it does in the rows `rs`.
 reaches_is : (log : Journal) (rs : List Row) (s : ℕ) (o : Option ℕ) → is_live log s ≡ true
     → ((k : ShardRef) → row log k ≡ row_of rs k) → parent_reaches_end log s o ≡ parent_reaches log rs s o
 reaches_is log rs s None live rows = refl
@@ -89,7 +89,7 @@ reaches_is log rs s (Some parent) live rows =
     ap (λ r. row_reaches_end r (shard_at log s parent)) (rows (ref s parent))
     ∙ sym (ap (λ b. row_reaches_end (row_of rs (ref s parent)) (if b then shard_at log s parent else None)) live)
 
--- the origin that counts
+-- The origin that counts is the same for the journal and for the rows `rs`.
 counting_is : (log : Journal) (rs : List Row) (key : ShardRef) (y : Shard) (from : Origin) → IsShard log key y
     → ((k : ShardRef) → row log k ≡ row_of rs k) → counting_origin log key from ≡ counting_from log rs key.stream y from
 counting_is log rs key y from of rows =
@@ -102,7 +102,7 @@ counting_is log rs key y from of rows =
     ∙ ap (λ b. if parent_reaches log rs key.stream y.parent || b then origin.TrimHorizon else from)
     (reaches_is log rs key.stream y.adjacent of.live rows)
 
--- the row that is made
+-- The row that is made is the one of the definitions.
 made_is : (log : Journal) (c : ℕ) (key : ShardRef) (y : Shard) (from : Origin) (floor : ℕ) (start : Checkpoint)
     → IsShard log key y → floor ≡ floor_from log c key from → start ≡ start_from from floor
     → made_row log c key from ≡ new_row key floor start y.parent y.adjacent
@@ -178,9 +178,9 @@ module _ (s : Facing) (rs : List Row) (ts : List TenureValue) (by : ℕ) (key : 
       ∙ ap (λ o. Accepted (plain_line s.clock by (entry.LeaseMade key o) ∷ []) (reply.Leased o))
       (counting_is log rs key y from of st.row_is ∙ sym (counted log st.shows))) stands
 
--- ---- a row is taken
+-- ---- A row is taken
 
--- what the definitions ask of a taking
+-- What the definitions require of a take.
 abbrev taking : Option Row → ℕ → Bool → (Row → Decision) → Decision
 taking o counter spent next =
     with o or refusal.NoLease then λ r.
@@ -256,7 +256,7 @@ module _ (s : Facing) (rs : List Row) (ts : List TenureValue) (by : ℕ) (key : 
       after_refused (decide log s.clock by (command.Take key counter owner)) r log (Stands (leases s rs ts))
       (along log st ∙ taking_refused (row_of rs key) counter (length ts == last_number) r (taken_next log) h) st
 
-  -- it is accepted
+  -- The take is accepted.
   pub take_allowed : (start : Checkpoint) → Ok start ≡ start_answer (row_of rs key) counter (length ts == last_number)
       → (log : Journal) → Stands (leases s rs ts) log
       → (r : Reply) × (answer_of (decide log s.clock by (command.Take key counter owner)) ≡ Ok r)
@@ -298,7 +298,7 @@ module _ (s : Facing) (rs : List Row) (ts : List TenureValue) (by : ℕ) (key : 
             (with_lines (lines_of (decide log s.clock by (command.Take key counter owner))) log)) (sym no) taken.1,
       )
 
--- ---- a row is cut
+-- ---- A row is cut
 
 abbrev cutting : Option Row → ℕ → Bool → Decision → Decision
 cutting o counter listed next =

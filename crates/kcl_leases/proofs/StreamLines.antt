@@ -20,7 +20,7 @@ tenures_beside log line ts of has =
     same_tenures log line ts (λ n. taken_same line.what n of) (λ t before. tenure_same log line line.what t before of)
     has
 
--- ... and what stands for the journal
+-- A line of a stream also leaves what stands for the journal as it was.
 pub stands_beside : (old new : Facing) (rows : List Row) (ts : List TenureValue) (log : Journal) (line : Line)
     → stream_of line.what ≢ None
     → new.shows (line ∷ log) → Stands (leases old rows ts) log → Stands (leases new rows ts) (line ∷ log)

@@ -21,11 +21,11 @@ use Rattle.kcl_book.specs.declared.tenure.PendingRead.{PendingRead}
 use Rattle.kcl_book.specs.Tenures.{TenureValue, tenure_at}
 use Rattle.kcl_table.specs.Rows.{row_of}
 
--- the shard of a key in a journal, where its stream is live
+-- The shard of a key in a journal, if its stream is live.
 abbrev pub live_shard : Journal → ShardRef → Option ShardState
 live_shard log key = if is_live log key.stream then shard_at log key.stream key.shard else None
 
--- what leases know of shards: the clock at which they stand, and the journals that they show
+-- What leases know of shards: the clock at which the shards stand, and the journals that they show.
 pub record Facing : Type 1 where
   pub clock : ℕ
   pub shows : Journal → Type 0
@@ -33,12 +33,12 @@ pub record Facing : Type 1 where
 abbrev pub facing : ℕ → (Journal → Type 0) → Facing
 facing clock shows = record { clock = clock; shows = shows }
 
--- a line of a lease at their clock changes no shard
+-- A line of a lease at the clock `clock` changes no shard.
 abbrev pub KeepsShards : ℕ → (Journal → Type 0) → Type 0
 KeepsShards clock shows = (log : Journal) (line : Line) → shows log → line.clock ≡ clock → stream_of line.what ≡ None
     → shows (line ∷ log)
 
--- the shards, the rows of the leases, and the tenures in the order of their numbers
+-- The shards, the rows of the leases, and the tenures in the order of their numbers.
 pub record LeasesValue : Type 1 where
   pub shards : Facing
   pub rows : List Row
@@ -47,19 +47,19 @@ pub record LeasesValue : Type 1 where
 abbrev pub leases : Facing → List Row → List TenureValue → LeasesValue
 leases s rows ts = record { shards = s; rows = rows; tenures = ts }
 
--- the rows and tenures beside shards that stand at a clock and show these journals
+-- The rows and tenures beside shards that stand at the clock `clock` and show the journals `shows`.
 abbrev pub over : ℕ → (Journal → Type 0) → List Row → List TenureValue → LeasesValue
 over clock shows rows ts = leases (facing clock shows) rows ts
 
--- ---- tenures
+-- ---- Tenures
 
--- these reads as the book keeps them, where they begin at a place
+-- The reads as the book keeps them, if the first one begins at `place`.
 abbrev pub pending_from : ℕ → List ReadDone → List PendingRead
 pending_from place [] = []
 pending_from place (r ∷ rs) =
     record { reach = place_after place r.numbers; end = r.ended } ∷ pending_from (place_after place r.numbers) rs
 
--- a tenure as the book keeps it
+-- A tenure as the book keeps it.
 abbrev pub kept : TenureState → TenureValue
 kept T =
     record {
@@ -73,24 +73,24 @@ kept T =
       at_end = last_ended (given_reads T);
     }
 
--- no more reads are given than there are
+-- No more reads of the tenure are given than there are.
 abbrev pub IsGiven : TenureState → Type 0
 IsGiven T = T.given ≤ length T.reads
 
--- ---- rows
+-- ---- Rows
 
--- no two rows have the same key
+-- No two rows have the same key.
 abbrev pub AreDistinct : List Row → Type 0
 AreDistinct [] = Unit {0}
 AreDistinct (r ∷ rs) = (row_of rs r.key ≡ None) × AreDistinct rs
 
--- after each checkpoint there is a number
+-- After the checkpoint of each row there is a further sequence number.
 abbrev pub AreBounded : List Row → Type 0
 AreBounded rows = (key : ShardRef) → checkpoint_in (row_of rows key) ≢ At last_number
 
--- ---- both
+-- ---- Rows and tenures
 
--- the shards show the journal, and its rows and tenures are these
+-- The shards show the journal, and the journal's rows and tenures are those of `w`.
 pub record Stands (w : LeasesValue) (log : Journal) : Type 0 where
   pub shows : w.shards.shows log
   pub keys_are : row_keys log ≡ map (λ (r : Row). r.key) w.rows
@@ -102,13 +102,14 @@ pub record Stands (w : LeasesValue) (log : Journal) : Type 0 where
   pub tenure_is : (t : ℕ) → option_map kept (tenure log t) ≡ tenure_at w.tenures t
   pub given : (t : ℕ) → IfSome (tenure log t) IsGiven
 
--- the command of this actor, at the shards' clock, is answered so and leads from one to the other
+-- The command `what` of the actor `by`, at the shards' clock, is answered by `gives`, and leads from `old` to `new`.
 abbrev pub Leads : LeasesValue → LeasesValue → ℕ → Command → Result Reply Refusal → Type 0
 Leads old new by what gives = (log : Journal) → Stands old log
     → (gives ≡ answer_of (decide log old.shards.clock by what))
     × Stands new (with_lines (lines_of (decide log old.shards.clock by what)) log)
 
--- it leads from these rows and tenures to those, beside shards that stand at a clock and show these journals
+-- The command leads from the rows `rows` and the tenures `ts` to `rows'` and `ts'`, beside shards that stand at the
+-- clock `clock` and show the journals `shows`.
 abbrev pub LeadsOver : ℕ → (Journal → Type 0) → List Row → List TenureValue → List Row → List TenureValue → ℕ → Command
     → Result Reply Refusal → Type 0
 LeadsOver clock shows rows ts rows' ts' by what gives =

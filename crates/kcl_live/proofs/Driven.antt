@@ -1,4 +1,4 @@
--- What stays of a driven worker from step to step.
+-- What stays true of a driven worker from step to step.
 use Rattle.std.proofs.Common.{◌≡◌, ℕ, ◌+◌, List, [], ◌∷◌, length, Option, Some, Result, refl, sym, ap, ap₂, subst, ◌∙◌}
 use Rattle.std.proofs.Common.{inl, inr}
 use Rattle.std.specs.Prelude.{◌↔◌, ◌^◌, IsSome}
@@ -25,7 +25,7 @@ use Rattle.kcl_live.specs.Runs.{WasCut}
 use Rattle.kcl_live.specs.Steps.{HasTurned}
 use Rattle.kcl_live.proofs.Histories.{before_own, none_told, told_more}
 
--- ---- events that are no turns
+-- ---- Events that aren't turns
 
 record IsQuiet (by : ℕ) (made : WorkerMade) (past later : WorkerPast) : Type 0 where
   turns : turns_in by made later ≡ turns_in by made past
@@ -67,7 +67,7 @@ module _ {P F : Type 0} (stands : P → List Call → Type 0) (by : ℕ) (seen o
   driven_asked w v past at made stood d =
       driven_quiet w v past (Gave_command at ∷ past) made (record { turns = refl; deals = refl; once = λ o. o }) stood d
 
-  -- and of a history that goes on
+  -- The worker is still driven in a history that goes on.
   pub driven_later : (w : WorkerStanding P F) (past : WorkerPast) (later : List Turn) → Continues later seen
       → IsDriven stands by seen own w past → IsDriven stands by later own w past
   driven_later w past later c d = record {
@@ -77,14 +77,14 @@ module _ {P F : Type 0} (stands : P → List Call → Type 0) (by : ℕ) (seen o
     told = λ h k same. d.told h (continues_all h later seen k c) same;
   }
 
-  -- a new worker
+  -- A new worker is driven.
   pub driven_new : (w : WorkerStanding P F) → StandsFor stands w [] → own ≡ [] → IsDriven stands by seen own w []
   driven_new w stood none =
       record { stood = stood; own_are = none; at_once = tt; told = λ h c same. none_told by h (same ∙ none) }
 
--- ---- a command that is answered
+-- ---- A command that is answered
 
--- where a command waits, its answer makes one turn
+-- If a command waits, its answer makes one turn.
 with_answer : (by at : ℕ) (what : Command) (o : Option Pending) (p : Pending) (turns : List Turn) → o ≡ Some p
     → p.what ≡ what → with_turn by at o turns ≡ record { by = by; at = at; what = what } ∷ turns
 with_answer by at what o p turns is same =
@@ -101,7 +101,7 @@ module _ {P F : Type 0} (stands : P → List Call → Type 0) (by : ℕ) (seen o
   turn : Turn
   turn = record { by = by; at = at; what = what }
 
-  -- the command waits
+  -- The command waits.
   pub asked_driven : IsDriven stands by seen own u (Gave_command at ∷ past)
   asked_driven = driven_asked stands by seen own w u past at given (adds past d.stood).3 d
 
@@ -113,7 +113,7 @@ module _ {P F : Type 0} (stands : P → List Call → Type 0) (by : ℕ) (seen o
   last_turn before = with_answer by at what (worker_after u.made (Gave_command at ∷ past)).waiting (adds past d.stood).0
       before waits (adds past d.stood).2
 
-  -- its answer was taken
+  -- The answer was taken.
   pub answered_driven : (place : List Turn) → Continues place seen
       → turns_by by (record { by = by; at = at; what = what } ∷ place) ≡ record { by = by; at = at; what = what } ∷ own
       → v.made ≡ u.made
@@ -140,7 +140,7 @@ module _ {P F : Type 0} (stands : P → List Call → Type 0) (by : ℕ) (seen o
             ∙ ap (λ m. record { what = what; answer = a } ∷ deals_after m past) given);
       }
 
--- ---- by a turn of the pass
+-- ---- A turn of the pass
 
 module _ {P F : Type 0} (stands : P → List Call → Type 0) (w u : WorkerStanding P F) (before after : Standing)
     (past : WorkerPast) (at : ℕ) (what : Command) (given : u.made ≡ w.made)
@@ -159,7 +159,7 @@ module _ {P F : Type 0} (stands : P → List Call → Type 0) (w u : WorkerStand
   asked : IsDriven stands before.by before.seen before.own u (Gave_command at ∷ past)
   asked = asked_driven stands before.by before.seen before.own w u u past at what given d adds
 
-  -- the turn was answered, and the answer was taken
+  -- The turn was answered, and the answer was taken.
   pub has_turned : (v : WorkerStanding P F) (a : Result Reply Refusal)
       → IsAnswered (record { by = before.by; at = at; what = what }) a before after → v.made ≡ u.made
       → AddsAnswer stands u v at a → HasTurned stands after v at past
@@ -182,7 +182,7 @@ module _ {P F : Type 0} (stands : P → List Call → Type 0) (w u : WorkerStand
         alone = t.all_own;
       }
 
-  -- the turn was answered, and the answer wasn't taken
+  -- The turn was answered, and the answer wasn't taken.
   pub answer_failed : (v : WorkerStanding P F) (a : Result Reply Refusal)
       → IsAnswered (record { by = before.by; at = at; what = what }) a before after → v ≡ u → IsSome u.waiting
       → (e : TurnErr) → e ≡ failed.Memory → WasCut stands v after e
@@ -207,7 +207,7 @@ module _ {P F : Type 0} (stands : P → List Call → Type 0) (w u : WorkerStand
         driven = subst (λ n. IsDriven stands n t.place before.own u (Gave_command at ∷ past)) (sym same) there;
       })))
 
-  -- there was no turn
+  -- There was no turn.
   pub turn_failed : (e : TurnErr) → Continues after.seen before.seen → after.own ≡ before.own → (e ≡ failed.Spent)
       ↔ (length after.seen + 1 ≡ 2 ^ 64) → IsSome u.waiting → WasCut stands u after e
   turn_failed e seen own spent some =

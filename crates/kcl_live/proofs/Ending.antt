@@ -1,4 +1,4 @@
--- What callers see of a worker, beside its record.
+-- What callers see of a worker, and the worker's record.
 use Rattle.std.proofs.Common.{rules, ◌≡◌, false, List, [], ◌∷◌, Option, Some, None, refl, sym, ap, subst, ◌∙◌}
 use Rattle.std.specs.Prelude.{◌&&◌, cond, not, is_some, IsSome}
 use Rattle.std.specs.List.{find}
@@ -14,7 +14,7 @@ use Rattle.kcl_worker.proofs.Happenings.{phase_known}
 use Rattle.kcl_worker.proofs.Outlooks.{none_due}
 use Rattle.kcl_worker.specs.Standing.{ConsumersStand, StandsFor, WorkerStanding, is_due_in, is_giving_in, is_idle_in}
 
--- a worker whose record has no due call has none
+-- A worker whose record has no due call has none.
 none_due_in : {P : Type 0} (stands : P → List Call → Type 0) (cs : List (Standing P)) (ks : List Known)
     → find is_due_known ks ≡ None → ConsumersStand stands cs ks → due_in cs ≡ None
 none_due_in stands [] [] none s = refl
@@ -47,7 +47,7 @@ some_due (Some due) None some same = absurd (no_none (same refl))
     no_none : Some due ≡ None → ⊥
     no_none e = absurd cc
 
--- of one record the same is due
+-- If a worker has a due call, another worker with the same record has one too.
 pub due_again : {P F : Type 0} (stands : P → List Call → Type 0) (w v : WorkerStanding P F) (past : WorkerPast)
     → v.made ≡ w.made → StandsFor stands w past → StandsFor stands v past → IsSome (due_in w.consumers)
     → IsSome (due_in v.consumers)
@@ -57,7 +57,7 @@ due_again stands w v past made s t some =
     (ap (λ m. find is_due_known (worker_after m past).consumers) (sym made)
     ∙ none_due stands v.consumers (worker_after v.made past).consumers none t.shows.consumers) s.shows.consumers)
 
--- one that wasn't stopped isn't idle
+-- A worker that wasn't stopped isn't idle.
 pub not_idle : {P F : Type 0} (stands : P → List Call → Type 0) (w : WorkerStanding P F) (past : WorkerPast)
     → StandsFor stands w past → is_stopping (worker_after w.made past).round ≡ false → is_idle_in w ≡ false
 not_idle stands w past s going =

@@ -41,7 +41,7 @@ use Rattle.kcl_live.specs.Hands.{hand_calls, hand_commands, hand_deals, release_
 use Rattle.kcl_live.specs.Records.{OfEachLater}
 use Rattle.kcl_live.proofs.Histories.{before_own, told_more}
 
--- ---- going on
+-- ---- Going on
 
 pub goes_on : {P : Type 0} (stands : P → List Call → Type 0) (at : ℕ) (x y z : HandStanding P) (q r s : Standing)
     → r.by ≡ q.by
@@ -50,7 +50,7 @@ goes_on stands at x y z q r s same g f = λ start p before since by along.
     let one = g start p before since by along in
     f start p before one.0 (by ∙ sym same) one.1
 
--- ---- answers
+-- ---- Answers
 
 answered_later : (by at : ℕ) (h : Held) (m : Tenancy) (before : Past) (seen : List Turn) (since : HandPast)
     (place later : List Turn) → Continues later place
@@ -70,7 +70,7 @@ answered_later by at h m before seen (Hand_answered r ∷ since) place later c a
       },
     )
 
--- of an equal lease
+-- `AreAnswered` holds for an equal lease.
 answered_of : (by at : ℕ) (h g : Held) (m n : Tenancy) (before : Past) (seen : List Turn) (since : HandPast)
     (later : List Turn) → h ≡ g → m ≡ n
     → AreAnswered by at h m before seen since later → AreAnswered by at g n before seen since later
@@ -78,7 +78,7 @@ answered_of by at h g m n before seen since later e f a =
     subst (λ k. AreAnswered by at g k before seen since later) f
     (subst (λ k. AreAnswered by at k m before seen since later) e a)
 
--- to a later history without a turn of the actor
+-- The hand-off goes on to a later history without a turn of the actor.
 pub goes_later : {P : Type 0} (stands : P → List Call → Type 0) (at : ℕ) (x y : HandStanding P) (q r : Standing) → y ≡ x
     → r.by ≡ q.by → r.own ≡ q.own → Continues r.seen q.seen → Goes stands at x y q r
 goes_later stands at x y q r is same own seen =
@@ -96,9 +96,9 @@ goes_later stands at x y q r is same own seen =
       },
     ))
 
--- ---- a call
+-- ---- A call
 
--- made or not, no turn was made
+-- Whether the call was made or not, no turn was made.
 module _ {P : Type 0} (stands : P → List Call → Type 0) (at : ℕ) (x y : HandStanding P) (q : Standing)
     (held : y.held ≡ x.held)
     (made : y.consumer.made ≡ x.consumer.made) where
@@ -120,7 +120,7 @@ module _ {P : Type 0} (stands : P → List Call → Type 0) (at : ℕ) (x y : Ha
       answered_of p.by at x.held y.held x.consumer.made y.consumer.made before p.seen since q.seen (sym held) (sym made)
       along.answered
 
-  -- the call that was due was made
+  -- The due call was made.
   pub goes_called : (asks : P → List Stored → Ask → Type 0) → AddsHandCall stands asks x y → AddsDueCall stands x y
       → Goes stands at x y q q
   goes_called asks called adds start p before since by along =
@@ -143,7 +143,7 @@ module _ {P : Type 0} (stands : P → List Call → Type 0) (at : ℕ) (x y : Ha
         },
       )
 
-  -- it is still due
+  -- The call is still due.
   pub goes_uncalled : AddsNothing stands x y → KeepsCalls stands x y → Goes stands at x y q q
   goes_uncalled nothing keeps start p before since by along = (
     since,
@@ -160,7 +160,7 @@ module _ {P : Type 0} (stands : P → List Call → Type 0) (at : ℕ) (x y : Ha
     },
   )
 
--- ---- an answer
+-- ---- An answer
 
 module _ {P : Type 0} (stands : P → List Call → Type 0) (at : ℕ) (x y : HandStanding P) (q r : Standing)
     (what : Command) (a : Result Reply Refusal)
@@ -176,7 +176,7 @@ module _ {P : Type 0} (stands : P → List Call → Type 0) (at : ℕ) (x y : Ha
       next ∙ ap (λ p. command_at x.held x.consumer.made p x.stand) st.consumer.phase
       ∙ ap (command_at x.held x.consumer.made (phase_after x.consumer.made s.past)) st.stand
 
-  -- the next command was answered
+  -- The next command was answered.
   pub goes_answered : Goes stands at x y q r
   goes_answered start p before since by along =
       let h = x.held in
@@ -219,9 +219,9 @@ module _ {P : Type 0} (stands : P → List Call → Type 0) (at : ℕ) (x y : Ha
         },
       )
 
--- ---- the worker with its hand-off
+-- ---- The worker with its hand-off
 
--- the commands of a hand-off are the last of the worker with its hand-offs
+-- The commands of a hand-off are the newest of the worker and its hand-offs.
 joint_hand : (key : ShardRef) (made : WorkerMade) (joint : JointPast) (r : Release)
     → released key (worker_in made joint) ≡ Some r → (since : HandPast)
     → joint_deals made (with_hand key since made joint)
@@ -235,7 +235,7 @@ joint_hand key made joint r which (Hand_answered a ∷ since) =
     ∙ ap (answered_deals (hand_command r.held r.known.made (state_of (hand_of r since))) a)
     (joint_hand key made joint r which since)
 
--- and its events may happen there
+-- The events of a hand-off may happen at its place in the joint record.
 joint_orderly : (key : ShardRef) (made : WorkerMade) (joint : JointPast) (r : Release)
     → released key (worker_in made joint) ≡ Some r
     → MayHappen made (Released key) (worker_in made joint)
@@ -270,7 +270,7 @@ module _ {P F : Type 0} (stands : P → List Call → Type 0) (at : ℕ) (key : 
     handed = λ t later alone lawful. handed q.by t w.made joint lawful tells.orderly (tells.told t later alone);
   }
 
-  -- what stands after it, with the state of its record
+  -- What the hand-off stands for after the release, with the state of its record.
   record Went (past : WorkerPast) : Type 0 where
     so_far : HasReleased stands at key w v p q past
     phase : y.consumer.phase ≡ phase_after so_far.release.known.made (release_state so_far.release so_far.since).past

@@ -16,7 +16,7 @@ no_fewer by (t ∷ newer) h = one (t.by == by) (no_fewer by newer h)
     one true le = omega arith
     one false le = le
 
--- where no turn is the actor's, its commands and their answers are the same
+-- If no further turn is the actor's, its commands and their answers are the same.
 same_deals : (by : ℕ) (newer h : List Turn) → length (turns_by by (newer ++ h)) ≡ length (turns_by by h)
     → deals_of by (newer ++ h) ≡ deals_of by h
 same_deals by [] h e = refl
@@ -30,14 +30,14 @@ same_deals by (t ∷ newer) h e = one (t.by == by) e (same_deals by newer h)
     one true e rest = absurd (omega (arith, e, no_fewer by newer h))
     one false e rest = rest e
 
--- the actor's turns before one of its own
+-- The actor's turns before one of its own.
 pub before_own : (t : Turn) (place own : List Turn) → turns_by t.by (t ∷ place) ≡ t ∷ own → turns_by t.by place ≡ own
 before_own t place own e =
     let same : t ∷ turns_by t.by place ≡ t ∷ own =
     sym (ap (λ b. cond b (t ∷ turns_by t.by place) (turns_by t.by place)) (is_itself t.by)) ∙ e in
     cc (same)
 
--- what was told of a place is told of each history that goes on with one more of the actor's turns there
+-- What was told of a place is told of each history that goes on with one more of the actor's turns there.
 pub told_more : (t : Turn) (place own h : List Turn) (deals : List Deal) → turns_by t.by (t ∷ place) ≡ t ∷ own
     → Continues h (t ∷ place) → turns_by t.by h ≡ t ∷ own → deals_of t.by place ≡ deals
     → deals_of t.by h ≡ record { what = t.what; answer = answer place t } ∷ deals
@@ -49,7 +49,7 @@ told_more t place own h deals all c alone told =
     ∷ deals_of t.by place else deals_of t.by place) (is_itself t.by)
     ∙ ap (λ (ds : List Deal). record { what = t.what; answer = answer place t } ∷ ds) told
 
--- an actor without turns
+-- An actor without turns has no commands.
 pub none_told : (by : ℕ) (h : List Turn) → turns_by by h ≡ [] → deals_of by h ≡ []
 none_told by [] e = refl
 none_told by (t ∷ h) e = one (t.by == by) e (none_told by h)

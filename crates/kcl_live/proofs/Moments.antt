@@ -1,4 +1,4 @@
--- The moments of turns, one tick after the other.
+-- The moments of turns, each a tick after the one before.
 use Rattle.std.proofs.Common.{◌≡◌, ℕ, ◌+◌, ◌*◌, ◌^◌, ◌<◌, ◌≤◌, List, [], length, sym, ap, subst, ◌∙◌, arith, ◌⊎◌, inl}
 use Rattle.std.proofs.Common.{inr}
 use Rattle.std.proofs.lemmas.Nat.{mul-le}
@@ -14,7 +14,7 @@ next_at n tick at e = ap (λ m. m + tick) e ∙ one_more n tick
 below : (n m tick : ℕ) → n ≤ m → m * tick < 2 ^ 62 → n * tick < 2 ^ 62
 below n m tick le low = let h : n * tick ≤ m * tick = mul-le n tick m tick le (omega arith) in omega arith
 
--- where a turn is left, its moment is one
+-- If a turn is left, its moment is in range.
 pub moment_left : (n m tick at : ℕ) → at ≡ n * tick → n + 1 ≤ m → m * tick < 2 ^ 62 → at + tick < 2 ^ 62
 moment_left n m tick at e le low = subst (λ x. x < 2 ^ 62) (sym (next_at n tick at e)) (below (n + 1) m tick le low)
 

@@ -1,4 +1,4 @@
--- Results that are handed on.
+-- Results that are passed on.
 use Rattle.std.proofs.Common.{Result, Ok, Err}
 use Rattle.std.specs.Prelude.{IfErr, OnErr, OnOk}
 

@@ -1,4 +1,4 @@
--- Rounds of a worker before and after its stop.
+-- The rounds of a worker before and after its stop.
 use Rattle.std.proofs.Common.{◌≡◌, ℕ, ◌+◌, ◌*◌, ◌≤◌, false, List, [], ◌∷◌, length, None, refl, sym, ap, subst, ◌∙◌}
 use Rattle.std.proofs.Common.{arith, inl}
 use Rattle.std.specs.Prelude.{IsSome}
@@ -23,12 +23,12 @@ use Rattle.kcl_live.proofs.Ending.{not_idle}
 use Rattle.kcl_live.proofs.Stopping.{calls_stopped, filter_fewer, some_left, stop_stops, turn_stopped}
 
 module _ {P F : Type 0} (stands : P → List Call → Type 0) where
-  -- processors were called, and nothing else
+  -- Processors were called, and nothing else has happened.
   abbrev pub HasCalled : WorkerStanding P F → WorkerStanding P F → Type 0
   HasCalled w u = (past : WorkerPast) → StandsFor stands w past → (asked : List Ask)
       × StandsFor stands u (with_calls asked past)
 
-  -- ---- before the stop
+  -- ---- Before the stop
 
   pub going_new : (w : WorkerStanding P F) (p : Standing) → StandsFor stands w [] → p.own ≡ [] → IsGoing stands w p
   going_new w p stood none = record {
@@ -73,7 +73,7 @@ module _ {P F : Type 0} (stands : P → List Call → Type 0) where
       let h = going_called w u p made called g in
       inl (record { error = is; due = due; run = record { past = h.past; driven = h.driven; alone = h.alone } })
 
-  -- ---- the stop
+  -- ---- The stop
 
   pub going_stopped : (w u : WorkerStanding P F) (p : Standing) (turns : ℕ) → u.made ≡ w.made → AddsStop stands w u
       → length p.own ≡ turns → IsGoing stands w p → IsFinishing stands u p (3 * turns)
@@ -90,7 +90,7 @@ module _ {P F : Type 0} (stands : P → List Call → Type 0) where
         few = omega (arith, few.consumers, few.held, same, count, filter_fewer (worker_after u.made past).consumers);
       }
 
-  -- ---- after it
+  -- ---- After the stop
 
   pub finishing_called : (w u : WorkerStanding P F) (p : Standing) (most : ℕ) → u.made ≡ w.made → HasCalled w u
       → IsFinishing stands w p most → IsFinishing stands u p most
@@ -117,7 +117,7 @@ module _ {P F : Type 0} (stands : P → List Call → Type 0) where
       → is_idle (worker_after w.made f.past) ≡ false
   busy w p most f is = sym (idle_same stands w f.past f.driven.stood) ∙ is
 
-  -- one turn more is left
+  -- One more turn is left.
   pub finishing_left : (w : WorkerStanding P F) (p : Standing) (most : ℕ) → IsFinishing stands w p most
       → due_in w.consumers ≡ None → is_idle_in w ≡ false → length p.own + 1 ≤ most
   finishing_left w p most f none is =

@@ -30,14 +30,14 @@ use Rattle.kcl_live.proofs.Bounds.{filter_less}
 abbrev AreLost : List Known → Type 0
 AreLost ks = AllByRecursion (λ k. IsLost (phase_of_known k)) ks
 
--- each that isn't over is lost
+-- Each consumer that isn't over was told of its loss.
 abbrev AreLostOrOver : List Known → Type 0
 AreLostOrOver ks = AllByRecursion (λ k. is_over k ≡ false → IsLost (phase_of_known k)) ks
 
 abbrev givings : List Known → ℕ
 givings ks = length (filter is_giving ks)
 
--- those that are over aren't there any more
+-- After the consumers that are over were retired, each consumer was told of its loss.
 settled_lost : (ks : List Known) → AreLostOrOver ks → AreLost (filter (λ k. not (is_over k)) ks)
 settled_lost [] all = tt
 settled_lost (k ∷ ks) all =
@@ -70,12 +70,12 @@ fewer_by : (c : Bool) (k : Known) (ks js : List Known) → givings ks ≤ giving
 fewer_by true k ks js h = one_more (is_giving k) k ks js refl h
 fewer_by false k ks js h = omega (arith, h, no_less (is_giving k) k js refl)
 
--- a part has no more to give
+-- A part of the consumers has no more batches to give than all have.
 part_fewer : (t : Known → Bool) (ks : List Known) → givings (filter t ks) ≤ givings ks
 part_fewer t [] = omega arith
 part_fewer t (k ∷ ks) = fewer_by (t k) k (filter t ks) ks (part_fewer t ks)
 
--- ---- a stop
+-- ---- A stop
 
 after_loss_lost : (p : Phase) → is_some (over_at (after_loss p)) ≡ false → IsLost (after_loss p)
 after_loss_lost Opening h = absurd cc
@@ -98,9 +98,9 @@ stop_stops made past =
           (losing_lost (worker_after made past).consumers);
     }
 
--- ---- a call
+-- ---- A call
 
--- what is due of a lost consumer is its leaving
+-- A lost consumer with a due call is leaving, and is over after the call.
 called_lost : (made : Tenancy) (a : Ask) (p : Phase) → IsLost p → is_some (due_call p) ≡ true
     → (is_some (over_at (after_call made a p)) ≡ true) × (is_giving_phase (after_call made a p) ≡ false)
 called_lost made a (Leaving why) l d = (refl, refl)
@@ -132,7 +132,7 @@ calling_fewer a (k ∷ ks) all = one (is_due_known k) refl (calling_fewer a ks a
     )
     one false e rest = one_more (is_giving k) k (happens_to_first is_due_known (Called a) ks) ks refl rest
 
--- calls leave no more to do
+-- Calls leave no more to do.
 pub calls_stopped : (made : WorkerMade) (asked : List Ask) (past : WorkerPast) → IsStopped (worker_after made past)
     → IsStopped (worker_after made (with_calls asked past))
     × (turns_left (worker_after made (with_calls asked past)) ≤ turns_left (worker_after made past))
@@ -145,9 +145,9 @@ calls_stopped made (a ∷ asked) past s =
       omega (arith, r.1, calling_fewer a ks r.0.lost, part_fewer (λ k. not (is_over k)) called),
     )
 
--- ---- a turn
+-- ---- A turn
 
--- a lost consumer that isn't due has a batch to give, and leaves after the answer
+-- A lost consumer without a due call has a batch to give, and leaves after the answer.
 answered_lost : (made : Tenancy) (a : Result Reply Refusal) (p : Phase) → IsLost p → is_some (due_call p) ≡ false
     → IsLost (after_answer made a p) × (is_giving_phase (after_answer made a p) ≡ false) × (is_giving_phase p ≡ true)
 answered_lost made (Ok reply) (Giving reach [] asked true) l d = (tt, refl, refl)
@@ -169,7 +169,7 @@ same_id_self : (id : LeaseId) → same_id id id ≡ true
 same_id_self id = ap₂ (λ a b. a && b) (ap₂ (λ a b. a && b) (is_itself id.key.stream) (is_itself id.key.shard))
     (is_itself id.tenure)
 
--- the first of them gives its batch
+-- The first of the consumers that have a batch to give gives it.
 giving_first : (a : Result Reply Refusal) (ks : List Known) (k : Known) → AreLost ks → find is_due_known ks ≡ None
     → find is_giving ks ≡ Some k
     → AreLostOrOver (consumed (id_of k) a ks) × (givings (consumed (id_of k) a ks) + 1 ≡ givings ks)
@@ -187,7 +187,7 @@ giving_first a (j ∷ js) k all none found =
       omega (arith, ap givings now, count_quiet (with_event (Answered a) j) js l.1, count_giving j js l.2),
     )
 
--- the command that comes next leaves less to do
+-- The command that comes next leaves less to do.
 record Leaves (s t : WorkerState) : Type 0 where
   stopped : IsStopped t
   fewer : turns_left t + 1 ≤ turns_left s
@@ -254,7 +254,7 @@ turned_by made at a s None [] stopped due giving is busy =
 turned_by made at a s None (h ∷ hs) stopped due giving is busy =
     freed made at a s h hs stopped is giving (next_pending made at s) refl
 
--- after a command and its answer there is less to do
+-- After a command and its answer there is less to do.
 pub turn_stopped : (made : WorkerMade) (at : ℕ) (a : Result Reply Refusal) (past : WorkerPast)
     → IsStopped (worker_after made past) → find is_due_known (worker_after made past).consumers ≡ None
     → is_idle (worker_after made past) ≡ false
@@ -266,7 +266,7 @@ turn_stopped made at a past stopped due busy =
     let l = turned_by made at a s (find is_giving s.consumers) s.held stopped due refl refl busy in
     (l.stopped, l.fewer)
 
--- so there is something to do where it isn't idle
+-- So there is something to do if the worker isn't idle.
 pub some_left : (made : WorkerMade) (past : WorkerPast) → IsStopped (worker_after made past)
     → find is_due_known (worker_after made past).consumers ≡ None → is_idle (worker_after made past) ≡ false
     → 1 ≤ turns_left (worker_after made past)

@@ -33,25 +33,25 @@ use Rattle.kds_turn.specs.Known.{Continues}
 use Rattle.kds_turn.specs.Passes.{Standing}
 use Rattle.kcl_live.specs.Records.{OfEachLater}
 
--- the commands of a hand-off that were answered, the newest first
+-- The commands of a hand-off that were answered, the newest first.
 abbrev pub hand_commands : Held → Tenancy → Past → HandPast → List Command
 hand_commands h made before [] = []
 hand_commands h made before (Hand_called asked ∷ since) = hand_commands h made before since
 hand_commands h made before (Hand_answered answer ∷ since) =
     cons_option (hand_command h made (hand_after h made before since)) (hand_commands h made before since)
 
--- as turns of the actor at one moment
+-- The commands as turns of the actor `by` at the moment `at`.
 abbrev pub turns_at : ℕ → ℕ → List Command → List Turn
 turns_at by at commands = map (λ what. record { by = by; at = at; what = what }) commands
 
--- the calls of a hand-off, each as it was due, after those that were there
+-- The calls of a hand-off, each as it was due, after the earlier calls `calls`.
 abbrev pub hand_calls : Held → Tenancy → Past → HandPast → List Call → List Call
 hand_calls h made before [] calls = calls
 hand_calls h made before (Hand_called asked ∷ since) calls =
     with_call (hand_call made (hand_after h made before since)) (hand_calls h made before since calls)
 hand_calls h made before (Hand_answered answer ∷ since) calls = hand_calls h made before since calls
 
--- of a release
+-- The commands, the calls and the state of the hand-off of a release.
 abbrev pub release_commands : Release → HandPast → List Command
 release_commands r since = hand_commands r.held r.known.made (Losing ∷ r.known.past) since
 
@@ -61,14 +61,15 @@ release_calls r since calls = hand_calls r.held r.known.made (Losing ∷ r.known
 abbrev pub release_state : Release → HandPast → HandState
 release_state r since = hand_after r.held r.known.made (Losing ∷ r.known.past) since
 
--- the commands with their answers, after those that were there
+-- The commands of a hand-off with their answers, after the earlier ones `deals`.
 abbrev pub hand_deals : Held → Tenancy → Past → HandPast → List Deal → List Deal
 hand_deals h made before [] deals = deals
 hand_deals h made before (Hand_called asked ∷ since) deals = hand_deals h made before since deals
 hand_deals h made before (Hand_answered answer ∷ since) deals =
     answered_deals (hand_command h made (hand_after h made before since)) answer (hand_deals h made before since deals)
 
--- a command was answered at this place of the history, by the definitions, and the later history goes on with its turn
+-- The command was answered by `a` at the place `place` of the history, as the definitions say, and the history `later`
+-- goes on with the command's turn.
 pub record IsAnsweredAt (by at : ℕ) (command : Option Command) (a : Result Reply Refusal) (place later : List Turn) :
     Type 0 where
   pub what : Command
@@ -76,7 +77,7 @@ pub record IsAnsweredAt (by at : ℕ) (command : Option Command) (a : Result Rep
   pub answered : a ≡ answer place (record { by = by; at = at; what = what })
   pub goes_on : Continues later (record { by = by; at = at; what = what } ∷ place)
 
--- and so was each of them in order, since the history was `seen`
+-- `IsAnsweredAt` holds for each answered command of the hand-off in order, since the history was `seen`.
 abbrev pub AreAnswered : ℕ → ℕ → Held → Tenancy → Past → List Turn → HandPast → List Turn → Type 0
 AreAnswered by at h made before seen [] later = Continues later seen
 AreAnswered by at h made before seen (Hand_called asked ∷ since) later =
@@ -85,11 +86,11 @@ AreAnswered by at h made before seen (Hand_answered a ∷ since) later =
     (place : List Turn) × AreAnswered by at h made before seen since place
     × IsAnsweredAt by at (hand_command h made (hand_after h made before since)) a place later
 
--- ---- the hand-off alone
+-- ---- The hand-off alone
 
--- A hand-off stands for what happened to it since the pass was p, and its processor the one at the start. Since then
--- the pass q gained its commands and nothing else, and the processor's calls come after each list of calls that it
--- stood for.
+-- The hand-off `x` stands for what happened to it since the pass was `p` and its processor was `start`. Since then the
+-- pass, which is now `q`, gained the commands of the hand-off and nothing else, and the processor stands for each list
+-- of calls that it stood for, with the hand-off's calls added.
 pub record IsAlong {P : Type 0} (stands : P → List Call → Type 0) (at : ℕ) (start : P) (x : HandStanding P)
     (p q : Standing) (before : Past)
     (since : HandPast) : Type 0 where
@@ -101,34 +102,34 @@ pub record IsAlong {P : Type 0} (stands : P → List Call → Type 0) (at : ℕ)
   pub added : (calls : List Call) → stands start calls
       → stands x.consumer.processor (hand_calls x.held x.consumer.made before since calls)
 
--- it went on from here, at the pass q, to there, at the pass r: so it is still along
+-- The hand-off went on from `x`, at the pass `q`, to `y`, at the pass `r`. If `IsAlong` held before, it still holds.
 abbrev pub Goes : {P : Type 0} → (P → List Call → Type 0) → ℕ → HandStanding P → HandStanding P → Standing → Standing
     → Type 0
 Goes {P} stands at x y q r = (start : P) (p : Standing) (before : Past) (since : HandPast) → p.by ≡ q.by
     → IsAlong stands at start x p q before since
     → (later : HandPast) × IsAlong stands at start y p r before later
 
--- its next command, before which no call is due, became no turn, since the hall's history is full
+-- The next command of the hand-off, before which no call is due, became no turn, because the hall's history is full.
 pub record HasNoTurn {P : Type 0} (x : HandStanding P) (q : Standing) (e : TurnErr) : Type 0 where
   pub due : due_call x.consumer.phase ≡ None
   pub going : left_at x.stand ≡ None
   pub error : e ≡ failed.Spent
   pub full : length q.seen + 1 ≡ 2 ^ 64
 
--- memory ran out in its processor's call, which is still due, or there was no turn
+-- Memory ran out in the processor's call, which is still due, or the next command became no turn.
 abbrev pub StoodStill : {P : Type 0} → HandStanding P → Standing → TurnErr → Type 0
 StoodStill x q e = ((e ≡ failed.Memory) × IsSome (due_call x.consumer.phase)) ⊎ HasNoTurn x q e
 
--- ---- the worker with its hand-offs
+-- ---- The worker with its hand-offs
 
--- the pass's turns tell this record of a worker with its hand-offs, in each history that goes on without more of them
+-- The turns of the pass `p` tell the joint record `joint`, in each history that goes on without more turns of the pass.
 pub record TellsJointly (p : Standing) (made : WorkerMade) (joint : JointPast) : Type 0 where
   pub orderly : AreOrderly made joint
   pub told : OfEachLater p.by p.seen p.own (λ h. AreToldIn p.by h made joint)
 
--- Its processors, and those of what it released, are called for the given reads of their tenures. Where a hand-off
--- freed its row, each batch that its processor was handed is given, and what was given is at or below the row's
--- checkpoint.
+-- The worker's processors, and those of what it released, are called for the given reads of their tenures. If a
+-- hand-off freed its row, each batch that its processor was handed is given, and what was given is at or below the
+-- row's checkpoint.
 pub record AreServedJointly (p : Standing) (made : WorkerMade) (joint : JointPast) : Type 0 where
   pub calls : OfEachLater p.by p.seen p.own (λ h. AreAllServed p.by h made joint)
   pub handed : OfEachLater p.by p.seen p.own (λ h. IsHistory h
@@ -136,9 +137,9 @@ pub record AreServedJointly (p : Standing) (made : WorkerMade) (joint : JointPas
 
 module _ {P F : Type 0} (stands : P → List Call → Type 0) (at : ℕ) (key : ShardRef) (w v : WorkerStanding P F)
     (p q : Standing) where
-  -- The key's lease was released. What the pass gained are the commands of its hand-off that were answered, each at
-  -- this moment, and each answer is that of the definitions at its turn's place. So where the old turns tell a record
-  -- of the worker with its earlier hand-offs, the new ones tell the longer record, and its processors are served.
+  -- The key's lease was released. What the pass gained are the answered commands of the lease's hand-off, each at the
+  -- moment `at`, and each answer is that of the definitions at its turn's place. So if the turns of `p` tell a joint
+  -- record of the worker, the turns of `q` tell the longer record, and the worker's processors are served.
   pub record HasReleased (past : WorkerPast) : Type 0 where
     pub release : Release
     pub which : released key (worker_after w.made past) ≡ Some release
@@ -151,8 +152,9 @@ module _ {P F : Type 0} (stands : P → List Call → Type 0) (at : ℕ) (key : 
     pub served : (joint : JointPast) → worker_past joint ≡ past → TellsJointly p w.made joint
         → AreServedJointly q w.made (with_hand key since w.made joint)
 
-  -- And the hand-off ended so, with this processor: that of the lease's consumer. It stands for each list of calls that
-  -- it stood for in the worker, with the calls of the hand-off added.
+  -- The lease was released, and its hand-off ended with `left` and with the processor `processor`, which is that of the
+  -- lease's consumer. It stands for each list of calls that it stood for in the worker, with the calls of the hand-off
+  -- added.
   pub record HasHandedOff (left : Left) (processor : P) (past : WorkerPast) : Type 0 where
     pub so_far : HasReleased past
     pub ended : hand_left (release_state so_far.release so_far.since) ≡ Some left
@@ -163,13 +165,13 @@ module _ {P F : Type 0} (stands : P → List Call → Type 0) (at : ℕ) (key : 
     pub added : (earlier : List Call) → stands consumer.processor earlier
         → stands processor (release_calls so_far.release so_far.since earlier)
 
-  -- memory ran out in the processor's call, which is still due
+  -- Memory ran out in the processor's call, which is still due.
   pub record HandCallFailed (e : TurnErr) (past : WorkerPast) : Type 0 where
     pub so_far : HasReleased past
     pub error : e ≡ failed.Memory
     pub due : IsSome (hand_due so_far.release.known.made (release_state so_far.release so_far.since))
 
-  -- the command that came next became no turn, since the hall's history is full
+  -- The command that came next became no turn, because the hall's history is full.
   pub record HandTurnFailed (e : TurnErr) (past : WorkerPast) : Type 0 where
     pub so_far : HasReleased past
     pub error : e ≡ failed.Spent
@@ -180,7 +182,7 @@ module _ {P F : Type 0} (stands : P → List Call → Type 0) (at : ℕ) (key : 
   abbrev pub HandWasCut : TurnErr → WorkerPast → Type 0
   HandWasCut e past = HandCallFailed e past ⊎ HandTurnFailed e past
 
-  -- there was nothing to release
+  -- There was nothing to release.
   pub record HasNothing (past : WorkerPast) : Type 0 where
     pub none : released key (worker_after w.made past) ≡ None
     pub worker : v ≡ w

@@ -1,4 +1,4 @@
--- A member of a crew before and after its run.
+-- A member of a crew, which is a worker on a thread, before and after its run.
 use Rattle.std.specs.Prelude.{◌≡◌, ℕ, ◌*◌, ◌≤◌, true, List, [], length, OnOk, OnErr, IfErr}
 use Rattle.kcl_defs.specs.declared.consumer.Call.{Call}
 use Rattle.kcl_worker.specs.Standing.{StandsFor, is_idle_in}
@@ -9,11 +9,12 @@ use Rattle.kcl_live.specs.Records.{AreOnLeasesAt, AreServedLater}
 use Rattle.kcl_live.specs.Runs.{AreServedSoFar, HasRun, WasCut}
 
 module _ {M P F G : Type 0} (stands : P → List Call → Type 0) where
-  -- its pass is of the hall and has no turns of its own, and its worker is as it was made
+  -- The member's pass is of the hall and has no turns of its own, and its worker is as it was made.
   abbrev pub IsReady : Place → Member M P F G → Type 0
   IsReady hall m = (m.pass.hall ≡ hall.id) × (m.pass.own ≡ []) × StandsFor stands m.worker []
 
-  -- its own turns are the commands of its worker at their moments, and its processors are called for the given reads
+  -- The member's own turns are the commands of its worker at their moments, and the worker's processors are called for
+  -- the given reads of their tenures.
   pub record HasEnded (turns tick : ℕ) (before after : Member M P F G) : Type 0 where
     pub kept : (after.pass.hall ≡ before.pass.hall) × (after.pass.by ≡ before.pass.by)
         × (after.pass.joined ≡ before.pass.joined)

@@ -12,19 +12,19 @@ use Rattle.kds_turn.specs.Passes.{Standing}
 use Rattle.kcl_live.specs.Records.{AreServedLater, IsDriven, with_turn}
 
 module _ {P F : Type 0} (stands : P → List Call → Type 0) (w : WorkerStanding P F) (p : Standing) where
-  -- each command became a turn, and its answer was taken
+  -- Each command became a turn, and its answer was taken.
   pub record HasRun : Type 0 where
     pub past : WorkerPast
     pub driven : IsDriven stands p.by p.seen p.own w past
     pub alone : 0 < length p.own → turns_by p.by p.seen ≡ p.own
 
-  -- memory ran out in a processor's call, which is still due
+  -- Memory ran out in a processor's call, which is still due.
   pub record CallFailed (e : TurnErr) : Type 0 where
     pub error : e ≡ failed.Memory
     pub due : IsSome (due_in w.consumers)
     pub run : HasRun
 
-  -- the last command became no turn
+  -- The last command became no turn.
   pub record TurnFailed (e : TurnErr) : Type 0 where
     pub spent : (e ≡ failed.Spent) ↔ (length p.seen + 1 ≡ 2 ^ 64)
     pub waits : IsSome w.waiting
@@ -32,7 +32,8 @@ module _ {P F : Type 0} (stands : P → List Call → Type 0) (w : WorkerStandin
     pub at : ℕ
     pub driven : IsDriven stands p.by p.seen p.own w (Gave_command at ∷ past)
 
-  -- the last command became a turn, and memory ran out when its answer was taken: of the turns before, all is as ever
+  -- The last command became a turn, and memory ran out when its answer was taken. `IsDriven` holds for the turns
+  -- before.
   pub record AnswerFailed (e : TurnErr) : Type 0 where
     pub error : e ≡ failed.Memory
     pub waits : IsSome w.waiting
@@ -50,7 +51,7 @@ module _ {P F : Type 0} (stands : P → List Call → Type 0) (w : WorkerStandin
   abbrev pub WasCut : TurnErr → Type 0
   WasCut e = CallFailed e ⊎ TurnFailed e ⊎ AnswerFailed e
 
-  -- its processors are called for the given reads of their tenures, by all its turns but the last
+  -- The worker's processors are called for the given reads of their tenures, as far as all its turns but the last tell.
   pub record AreServedBeforeLast : Type 0 where
     pub last : Turn
     pub place : List Turn
@@ -59,6 +60,6 @@ module _ {P F : Type 0} (stands : P → List Call → Type 0) (w : WorkerStandin
     pub own : p.own ≡ last ∷ before
     pub served : AreServedLater stands p.by place before w
 
-  -- by all its turns, or by all but the last
+  -- The worker's processors are served as far as all its turns tell, or as far as all its turns but the last tell.
   abbrev pub AreServedSoFar : Type 0
   AreServedSoFar = AreServedLater stands p.by p.seen p.own w ⊎ AreServedBeforeLast

@@ -12,14 +12,14 @@ use Rattle.kds_turn.specs.Known.{turns_by}
 use Rattle.kds_turn.specs.Passes.{Standing}
 use Rattle.kcl_live.specs.Records.{IsDriven}
 
--- after this record, a command was given and answered at this moment
+-- After the record `past`, a command was given out and answered at the moment `at`.
 pub record HasTurned {P F : Type 0} (stands : P → List Call → Type 0) (p : Standing) (w : WorkerStanding P F) (at : ℕ)
     (past : WorkerPast) : Type 0 where
   pub answer : Result Reply Refusal
   pub driven : IsDriven stands p.by p.seen p.own w (Got_answer at answer ∷ (Gave_command at ∷ past))
   pub alone : turns_by p.by p.seen ≡ p.own
 
--- the worker wasn't stopped
+-- The worker wasn't stopped.
 pub record IsGoing {P F : Type 0} (stands : P → List Call → Type 0) (w : WorkerStanding P F) (p : Standing) :
     Type 0 where
   pub past : WorkerPast
@@ -27,22 +27,22 @@ pub record IsGoing {P F : Type 0} (stands : P → List Call → Type 0) (w : Wor
   pub alone : 0 < length p.own → turns_by p.by p.seen ≡ p.own
   pub going : is_stopping (worker_after w.made past).round ≡ false
 
--- a consumer that was told of its loss: a batch that was handed is to be given, or it leaves
+-- The phase of a consumer that was told of its loss: a batch that was handed is to be given, or the consumer leaves.
 abbrev pub IsLost : Phase → Type 0
 IsLost (Giving reach waiting asked lost) = lost ≡ true
 IsLost (Leaving why) = Unit {0}
 IsLost _ = ⊥
 
--- how many batches are to be given, and leases to be freed
+-- The number of batches that are to be given, and of leases that are to be freed.
 abbrev pub turns_left : WorkerState → ℕ
 turns_left s = length (filter is_giving s.consumers) + length s.held
 
--- the worker was stopped, and all its consumers are told
+-- The worker was stopped, and all its consumers were told.
 pub record IsStopped (s : WorkerState) : Type 0 where
   pub round : s.round ≡ AtStopping
   pub lost : AllByRecursion (λ k. IsLost (phase_of_known k)) s.consumers
 
--- the worker was stopped, and this many turns are the most that it then has
+-- The worker was stopped, and in the end it has at most `most` turns.
 pub record IsFinishing {P F : Type 0} (stands : P → List Call → Type 0) (w : WorkerStanding P F) (p : Standing)
     (most : ℕ) : Type 0 where
   pub past : WorkerPast

@@ -1,4 +1,4 @@
--- The numbers of the batches that a processor was handed.
+-- The sequence numbers of the batches that a processor was handed.
 use Rattle.std.specs.Prelude.{ℕ, List, [], ◌∷◌, ◌++◌, map}
 use Rattle.kcl_defs.specs.declared.consumer.Ask.{Ask}
 use Rattle.kcl_defs.specs.declared.consumer.Ask.TheVariants as ask
@@ -9,13 +9,13 @@ use Rattle.kds_defs.specs.declared.reply.Stored.{Stored}
 abbrev pub numbers_of : List Stored → List ℕ
 numbers_of batch = map (λ r. r.seq) batch
 
--- of all batches in their order, where the newest call comes first
+-- The numbers of all batches in their order. The newest of the calls comes first.
 abbrev pub numbers_in : List Call → List ℕ
 numbers_in [] = []
 numbers_in (call.Process batch ∷ calls) = numbers_in calls ++ numbers_of batch
 numbers_in (_ ∷ calls) = numbers_in calls
 
--- a checkpoint at the first number of a batch
+-- A checkpoint at the first number of a batch, or none if the batch is empty.
 abbrev pub first_ask : List Stored → Ask
 first_ask [] = ask.None
 first_ask (r ∷ batch) = ask.At r.seq

@@ -1,10 +1,10 @@
--- What a tally keeps of its calls.
+-- What a tally, which counts records and bytes, keeps of its calls.
 use Rattle.std.specs.Prelude.{ℕ, ◌+◌, ◌-◌, ◌^◌, min, List, [], ◌∷◌, length, sum_by}
 use Rattle.kcl_defs.specs.declared.consumer.Call.{Call}
 use Rattle.kcl_defs.specs.declared.consumer.Call.TheVariants as call
 use Rattle.kds_defs.specs.declared.reply.Stored.{Stored}
 
--- two counts
+-- The two counts of a tally.
 pub record Counts : Type 0 where
   pub records : ℕ
   pub bytes : ℕ
@@ -12,7 +12,7 @@ pub record Counts : Type 0 where
 abbrev pub payload_bytes : List Stored → ℕ
 payload_bytes batch = sum_by (λ r. length r.payload) batch
 
--- the records of all batches, and their payload bytes
+-- The number of records in all batches, and the number of their payload bytes.
 abbrev pub records_in : List Call → ℕ
 records_in [] = 0
 records_in (call.Process batch ∷ calls) = records_in calls + length batch
@@ -23,7 +23,7 @@ bytes_in [] = 0
 bytes_in (call.Process batch ∷ calls) = bytes_in calls + payload_bytes batch
 bytes_in (_ ∷ calls) = bytes_in calls
 
--- a count stands still at its type's end
+-- The greatest value of a count. A count that has reached it stays there.
 abbrev pub most : ℕ
 most = 2 ^ 64 - 1
 

@@ -18,7 +18,7 @@ pub record IsForm {A : Type 0} (Valid : A → Type 0) (read : List ℕ → Optio
   pub spells : (text : List ℕ) (x : A) → read text ≡ Some x → Valid x × (text ≡ write x)
   pub again : (x : A) → Valid x → read (write x) ≡ Some x
 
--- ---- numbers
+-- ---- Numbers
 
 abbrev pub Is64 : ℕ → Type 0
 Is64 n = n < 2 ^ 64
@@ -60,7 +60,7 @@ count_form most small = record {
 pub decimal_lacks : (sep n : ℕ) → is_ascii_digit sep ≡ false → n < 2 ^ 64 → Lacks sep (decimal n)
 decimal_lacks sep n other small = kind_lacks is_ascii_digit sep (decimal n) other (digits_decimal own n small)
 
--- ---- moments
+-- ---- Moments
 
 abbrev pub IsMoment : ℕ → Type 0
 IsMoment at = at < 2 ^ 62
@@ -91,7 +91,7 @@ moment_form = record {
   again = moment_again;
 }
 
--- ---- workers
+-- ---- Workers
 
 abbrev pub IsWorker : ℕ → Type 0
 IsWorker n = IsCount greatest32 n
@@ -110,7 +110,7 @@ worker_spells (b ∷ digits) n h = worker_is (b == 119) b digits n refl h
 pub worker_form : IsForm IsWorker worker_of worker_text
 worker_form = record { spells = worker_spells; again = λ n v. (count_form greatest32 (omega arith)).again n v }
 
--- ---- two parts
+-- ---- Two parts
 
 pub two_form : {A B : Type 0} {V : A → Type 0} {f : List ℕ → Option A} {s : A → List ℕ} {W : B → Type 0} {g : List ℕ
     → Option B} {u : B → List ℕ}
@@ -135,7 +135,7 @@ two_form {A} {B} {V} {f} {s} {W} {g} {u} sep same lacks first second = record {
   ) refl;
 }
 
--- ---- keys
+-- ---- Keys
 
 pub key_form : IsForm IsKey key_of key_text
 key_form =

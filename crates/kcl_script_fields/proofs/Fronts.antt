@@ -1,8 +1,8 @@
--- Fronts of texts that are added part by part.
+-- Prefixes of texts that are added part by part.
 use Rattle.std.proofs.Common.{◌≡◌, ℕ, List, ◌++◌, sym, ◌∙◌, ap, append_assoc}
 use Rattle.kcl_script_fields.specs.Fields.{AddsFront}
 
--- a front of the first part
+-- A prefix of the first part is a prefix of both parts together.
 pub adds_first : (old now text more : List ℕ) → AddsFront old now text → AddsFront old now (text ++ more)
 adds_first old now text more a =
     record {
@@ -12,7 +12,7 @@ adds_first old now text more a =
       added = a.added;
     }
 
--- the first part, and a front of the second
+-- The first part and a prefix of the second are a prefix of both parts together.
 pub adds_later : (old mid now text more : List ℕ) → mid ≡ old ++ text → AddsFront mid now more
     → AddsFront old now (text ++ more)
 adds_later old mid now text more e a = record {

@@ -1,4 +1,4 @@
--- What is read with the origin behind it has one text.
+-- Something with an origin behind it has one text.
 use Rattle.std.proofs.Common.{◌≡◌, ℕ, ◌<◌, ◌^◌, List, ◌∷◌, ◌++◌, Bool, true, false, Option, Some, None, refl, sym, ap}
 use Rattle.std.proofs.Common.{◌∙◌, codes, decimal, subst}
 use Rattle.std.proofs.lemmas.List.{append-nil}
@@ -12,9 +12,9 @@ use Rattle.kcl_script_fields.specs.Origins.{IsOrigin, origin_of, origin_text, ti
 use Rattle.kcl_script_fields.proofs.Parts.{parted_at, parted_none, parted_spells, bind_some, map_some}
 use Rattle.kcl_script_fields.proofs.Forms.{IsForm, moment_form}
 
--- ---- origins
+-- ---- Origins
 
--- a text after a space spells an origin
+-- The text, after a space, spells the origin.
 abbrev SpellsOrigin : List ℕ → Origin → Type 0
 SpellsOrigin text from = IsOrigin from × (32 ∷ text ≡ origin_text from)
 
@@ -48,7 +48,7 @@ origin_is true text from c h =
     )
 origin_is false text from c h = time_spells text from h
 
--- ---- a thing with its origin
+-- ---- Something with its origin
 
 with_is : {A : Type 0} {V : A → Type 0} {f : List ℕ → Option A} {s : A → List ℕ} → IsForm V f s
     → (text : List ℕ) (o : Option (List ℕ × List ℕ)) (a : A × Origin)
@@ -68,7 +68,7 @@ with_is {A} {V} {f} {s} form text (Some p) a e h =
     subst (λ (z : A × Origin). (V z.0 × IsOrigin z.1) × (text ≡ s z.0 ++ origin_text z.1)) m.2
     ((d.0, o.0), (parted_spells 32 text p e).0 ∙ ap (λ z. z ++ 32 ∷ p.1) d.1 ∙ ap (λ z. s k.0 ++ z) o.1)
 
--- what reads a thing with an origin after it
+-- The spelling of something with an origin behind it is read as this.
 with_again : {A : Type 0} {V : A → Type 0} {f : List ℕ → Option A} {s : A → List ℕ} → ((x : A) → V x → Lacks 32 (s x))
     → IsForm V f s → (x : A) (from : Origin) (text : List ℕ)
     → V x → origin_of text ≡ Some from → with_origin f (s x ++ 32 ∷ text) ≡ Some (x, from)

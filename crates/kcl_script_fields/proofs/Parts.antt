@@ -1,4 +1,4 @@
--- Parts of a text, which a byte parts.
+-- The two parts of a text around a byte.
 use Rattle.std.proofs.Common.{◌≡◌, ℕ, zero, suc, ◌+◌, ◌<◌, List, length, [], ◌∷◌, ◌++◌, take, drop, Bool, true, false}
 use Rattle.std.proofs.Common.{Option, Some, None, refl, ap, ◌∙◌, inl, inr, subst, arith}
 use Rattle.std.proofs.lemmas.Bool.{cases_Bool, eqb-true, and_parts}
@@ -25,7 +25,7 @@ other_byte sep b differs = elim (cases_Bool (b == sep)) [
   | inr other ↦ other
 ]
 
--- where a search finds the byte
+-- If a search finds the byte, the parts are what comes before and after it.
 found_at : (sep : ℕ) (text : List ℕ) (at : ℕ) → at < length text → ((k : ℕ) → k < at → Passes (is_byte sep) text k → ⊥)
     → Passes (is_byte sep) text at → parted sep text ≡ Some (take at text, drop (suc at) text)
 found_at sep [] at within before here = absurd (omega arith)
@@ -43,7 +43,7 @@ parted_found sep text at found =
     found_at sep text at found.0.high (λ k lt. found.0.before k (omega arith) lt) found.1
     ∙ ap (λ n. Some (take at text, drop n text)) next
 
--- where it finds none
+-- If a search doesn't find the byte, there are no parts.
 pub parted_nowhere : (sep : ℕ) (text : List ℕ) → ((k : ℕ) → k < length text → Passes (is_byte sep) text k → ⊥)
     → parted sep text ≡ None
 parted_nowhere sep [] nowhere = refl
@@ -73,12 +73,12 @@ parted_cases sep true b bs p c rest e =
     subst (λ (z : List ℕ × List ℕ). IsParted sep (b ∷ bs) z) same (ap (λ z. z ∷ bs) byte, tt)
 parted_cases sep false b bs p c rest e = parted_rest sep b bs (parted sep bs) p c rest e
 
--- the parts spell the text
+-- The parts, with the byte between them, are the text.
 pub parted_spells : (sep : ℕ) (text : List ℕ) (p : List ℕ × List ℕ) → parted sep text ≡ Some p → IsParted sep text p
 parted_spells sep [] p e = absurd (cc)
 parted_spells sep (b ∷ bs) p e = parted_cases sep (b == sep) b bs p refl (parted_spells sep bs) e
 
--- ---- bytes of a kind
+-- ---- Bytes of a kind
 
 kind_not : (p : ℕ → Bool) (sep b : ℕ) → p sep ≡ false → p b ≡ true → (b == sep) ≡ false
 kind_not p sep b lacks has = elim (cases_Bool (b == sep)) [
@@ -86,13 +86,13 @@ kind_not p sep b lacks has = elim (cases_Bool (b == sep)) [
   | inr other ↦ other
 ]
 
--- bytes of a kind lack each byte of another
+-- A text of bytes of one kind has no byte of another kind.
 pub kind_lacks : (p : ℕ → Bool) (sep : ℕ) (text : List ℕ) → p sep ≡ false → list_all p text ≡ true → Lacks sep text
 kind_lacks p sep [] lacks all = tt
 kind_lacks p sep (b ∷ bs) lacks all = let h = and_parts (p b) (list_all p bs) all in
     (kind_not p sep b lacks h.0, kind_lacks p sep bs lacks h.1)
 
--- ---- options
+-- ---- Options
 
 pub bind_some : {A B : Type 0} (o : Option A) (f : A → Option B) (y : B) → (o >>= f) ≡ Some y → (x : A) × (o ≡ Some x)
     × (f x ≡ Some y)

@@ -28,7 +28,7 @@ use Rattle.kcl_script_fields.proofs.Parts.{parted_spells, bind_some, map_some}
 use Rattle.kcl_script_fields.proofs.Forms.{IsForm, Is64, number_form, IsCount, count_form, IsWorker, worker_form}
 use Rattle.kcl_script_fields.proofs.Forms.{two_form, key_form, key_lacks, decimal_lacks}
 
--- ---- targets
+-- ---- Targets
 
 target_is : (c : Bool) (text : List ℕ) (to : Target) → bytes_eq text (codes "end") ≡ c
     → (if c then Some target.End else option_map (λ q. target.At q) (number text)) ≡ Some to
@@ -59,13 +59,13 @@ target_form = record {
   again = target_again;
 }
 
--- ---- a key with its origin
+-- ---- A key with its origin
 
 pub row_form : IsForm (λ (a : ShardRef × Origin). IsKey a.0 × IsOrigin a.1) row_of (λ (a : ShardRef × Origin).
     key_text a.0 ++ origin_text a.1)
 row_form = with_origin_form key_lacks key_form
 
--- ---- what follows the word
+-- ---- What follows the word
 
 number_lacks : (n : ℕ) → Is64 n → Lacks 32 (decimal n)
 number_lacks n v = decimal_lacks 32 n refl v
@@ -94,12 +94,12 @@ numbers_form : IsForm (λ (a : ℕ × ℕ). Is64 a.0 × Is64 a.1) (two 32 number
     ++ 32 ∷ decimal a.1)
 numbers_form = two_form 32 refl number_lacks number_form number_form
 
--- ---- a word, and what follows it
+-- ---- A word, and what follows it
 
 abbrev Spells : List ℕ → List ℕ → Command → Type 0
 Spells word text c = IsRaw c × (word ++ 32 ∷ text ≡ command_text c)
 
--- a command whose arguments have a form
+-- A command whose arguments have a form has one text.
 spelled : {A : Type 0} {V : A → Type 0} {f : List ℕ → Option A} {s : A → List ℕ} → (w word : List ℕ) → IsForm V f s
     → (to : A → Command)
     → ((a : A) → V a → Spells w (s a) (to a)) → (text : List ℕ) (c : Command) → bytes_eq word w ≡ true
@@ -113,7 +113,7 @@ spelled {A} {V} {f} {s} w word form to each text c same h =
     subst (λ (z : List ℕ). Spells z text (to m.0)) (sym ((bytes_eq-Decides word w).0 same)) at_w in
     subst (λ (z : Command). Spells word text z) m.2 at_word
 
--- one of two branches gave the value
+-- One of two branches gave the value.
 pub choose : {A P : Type 0} (c : Bool) (x y : Option A) (l : A) → (if c then x else y) ≡ Some l
     → (c ≡ true → x ≡ Some l → P) → (y ≡ Some l → P) → P
 choose true x y l h f g = f refl h
@@ -153,7 +153,7 @@ longer_spells text c h =
     let w = words_spell p.0.0 p.0.1 c p.2 in
     (w.0, (parted_spells 32 text p.0 p.1).0 ∙ w.1)
 
--- ---- commands
+-- ---- Commands
 
 abbrev SpellsRaw : List ℕ → Command × Bool → Type 0
 SpellsRaw text r = IsAsked r.0 r.1 × (text ≡ raw_text r.0 r.1)

@@ -1,4 +1,4 @@
--- The answers to commands for leases.
+-- The text of answers to commands on leases.
 use Rattle.std.specs.Prelude.{ℕ, List, [], ◌∷◌, ◌++◌, length, flat_map, codes, decimal, Bool, if◌then◌else◌, Option}
 use Rattle.std.specs.Prelude.{Some, None, Result, Ok, Err}
 use Rattle.std.specs.List.{join_by}
@@ -12,37 +12,37 @@ use Rattle.kds_defs.specs.declared.reply.Stored.{Stored}
 use Rattle.kds_defs.specs.Values.{RowValue}
 use Rattle.kcl_script_fields.specs.Fields.{worker_text, key_text}
 
--- ---- replies
+-- ---- Replies
 
--- TRIM_HORIZON, a number or SHARD_END
+-- The text is TRIM_HORIZON, a number or SHARD_END.
 abbrev pub checkpoint_text : Checkpoint → List ℕ
 checkpoint_text checkpoint.TrimHorizon = codes "TRIM_HORIZON"
 checkpoint_text (checkpoint.At q) = decimal q
 checkpoint_text checkpoint.ShardEnd = codes "SHARD_END"
 
--- a worker, or `-` for none
+-- The text is a worker, or `-` for none.
 abbrev pub owner_text : Option ℕ → List ℕ
 owner_text None = codes "-"
 owner_text (Some n) = worker_text n
 
--- a space, and `KEY OWNER COUNTER CHECKPOINT SWITCHES`
+-- The text is a space, followed by `KEY OWNER COUNTER CHECKPOINT SWITCHES`.
 abbrev pub row_text : RowValue → List ℕ
 row_text r = 32 ∷ (key_text r.key
     ++ 32 ∷ (owner_text r.owner
     ++ 32 ∷ (decimal r.counter ++ 32 ∷ (checkpoint_text r.checkpoint ++ 32 ∷ decimal r.switches))))
 
--- the rows, parted by `;`
+-- The texts of the rows are separated by `;`.
 abbrev pub rows_text : List RowValue → List ℕ
 rows_text rows = join_by row_text (codes ";") rows
 
--- a space and the number of a record
+-- The text is a space, followed by the number of a record.
 abbrev pub number_text : Stored → List ℕ
 number_text s = 32 ∷ decimal s.seq
 
 abbrev pub end_text : Bool → List ℕ
 end_text ended = if ended then codes " end" else codes " more"
 
--- `ok N` and the rows, where the longer answer is asked for, else `ok SHARDS ROWS`
+-- The text is `ok N` and the rows if the longer answer is asked for, and otherwise `ok SHARDS ROWS`.
 abbrev pub survey_text : Bool → ℕ → List RowValue → List ℕ
 survey_text long shards rows =
     if long then codes "ok " ++ (decimal (length rows) ++ rows_text rows) else codes "ok "
@@ -61,7 +61,7 @@ reply_text long (reply.Read batch reach ended) =
 reply_text long (reply.Given delivered) = codes "ok delivered " ++ decimal delivered
 reply_text long _ = []
 
--- ---- refusals
+-- ---- Refusals
 
 abbrev pub refusal_name : Refusal → List ℕ
 refusal_name refusal.NoStream = codes "NoStream"
@@ -96,7 +96,7 @@ refusal_name refusal.ShardGone = codes "ShardGone"
 refusal_name refusal.LeaseThere = codes "LeaseThere"
 refusal_name refusal.ShardListed = codes "ShardListed"
 
--- a space and the value, where there is one
+-- The text is a space, followed by the refusal's value, if it has one.
 abbrev pub refusal_value : Refusal → List ℕ
 refusal_value (refusal.Throttled sh) = 32 ∷ decimal sh
 refusal_value (refusal.Lost tenure) = 32 ∷ decimal tenure
@@ -110,7 +110,7 @@ refusal_value _ = []
 abbrev pub refusal_text : Refusal → List ℕ
 refusal_text r = codes "refused " ++ (refusal_name r ++ refusal_value r)
 
--- the text of an answer
+-- The text of an answer.
 abbrev pub answer_text : Bool → Result Reply Refusal → List ℕ
 answer_text long (Ok r) = reply_text long r
 answer_text long (Err r) = refusal_text r

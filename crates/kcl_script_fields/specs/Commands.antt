@@ -1,4 +1,4 @@
--- The commands of raw lines.
+-- The text of commands on leases.
 use Rattle.std.specs.Prelude.{◌≡◌, ℕ, ◌^◌, ◌<◌, List, [], ◌∷◌, ◌++◌, codes, decimal, Bool, true, false, if◌then◌else◌}
 use Rattle.std.specs.Prelude.{Option, Some, None, option_map}
 use Rattle.std.specs.Str.{bytes_eq}
@@ -15,7 +15,7 @@ use Rattle.kcl_script_fields.specs.Origins.{IsOrigin, origin_text, with_origin}
 use Rattle.kcl_script_fields.specs.Fields.{◌>>=◌, field, two, number, count_of, worker_of, worker_text, key_of}
 use Rattle.kcl_script_fields.specs.Fields.{key_text}
 
--- what a checkpoint is set to: a record's number, or `end`
+-- The target of a checkpoint: a record's number, or `end`.
 abbrev pub target_of : List ℕ → Option Target
 target_of text = if bytes_eq text (codes "end") then Some target.End else option_map (λ q. target.At q) (number text)
 
@@ -23,47 +23,48 @@ abbrev pub target_text : Target → List ℕ
 target_text target.End = codes "end"
 target_text (target.At q) = decimal q
 
--- `KEY`, `KEY latest` or `KEY time M`
+-- A row in the form `KEY`, `KEY latest` or `KEY time M`.
 abbrev pub row_of : List ℕ → Option (ShardRef × Origin)
 row_of text = with_origin key_of text
 
--- `make KEY`, `make KEY latest` or `make KEY time M`
+-- The command `make KEY`, `make KEY latest` or `make KEY time M`. Here and below, `text` is what follows the first
+-- word.
 abbrev pub make_of : List ℕ → Option Command
 make_of text = option_map (λ a. command.MakeLease a.0 a.1) (row_of text)
 
--- `take KEY COUNTER wN`
+-- The command `take KEY COUNTER wN`.
 abbrev pub take_of : List ℕ → Option Command
 take_of text = option_map (λ a. command.Take a.0 a.1.0 a.1.1) (two 32 key_of (two 32 number worker_of) text)
 
--- `renew T C`
+-- The command `renew T C`.
 abbrev pub renew_of : List ℕ → Option Command
 renew_of text = option_map (λ a. command.Renew a.0 a.1) (two 32 number number text)
 
--- `free T C`
+-- The command `free T C`.
 abbrev pub free_of : List ℕ → Option Command
 free_of text = option_map (λ a. command.Free a.0 a.1) (two 32 number number text)
 
--- `open T`
+-- The command `open T`.
 abbrev pub open_of : List ℕ → Option Command
 open_of text = option_map (λ t. command.OpenShard t) (number text)
 
--- `read T POSITION LIMIT`
+-- The command `read T POSITION LIMIT`.
 abbrev pub read_of : List ℕ → Option Command
 read_of text = option_map (λ a. command.Read a.0 a.1.0 a.1.1) (two 32 number (two 32 number (count_of MOST)) text)
 
--- `give T`
+-- The command `give T`.
 abbrev pub give_of : List ℕ → Option Command
 give_of text = option_map (λ t. command.Give t) (number text)
 
--- `mark T C Q` or `mark T C end`
+-- The command `mark T C Q` or `mark T C end`.
 abbrev pub mark_of : List ℕ → Option Command
 mark_of text = option_map (λ a. command.Mark a.0 a.1.0 a.1.1) (two 32 number (two 32 number target_of) text)
 
--- `cut KEY COUNTER`
+-- The command `cut KEY COUNTER`.
 abbrev pub cut_of : List ℕ → Option Command
 cut_of text = option_map (λ a. command.CutLease a.0 a.1) (two 32 key_of number text)
 
--- a word, and what follows it
+-- The command that begins with the word `word`, where `text` is what follows it.
 abbrev pub words_of : List ℕ → List ℕ → Option Command
 words_of word text =
     if bytes_eq word (codes "make") then make_of text
@@ -77,18 +78,18 @@ words_of word text =
     else if bytes_eq word (codes "cut") then cut_of text
     else None
 
--- a command of more words than one
+-- A command of more than one word.
 abbrev pub longer_of : List ℕ → Option Command
 longer_of text = field text >>= λ p. words_of p.0 p.1
 
--- the command that a text is, and whether the longer answer is asked for
+-- The command that a text stands for, and whether the longer answer is asked for.
 abbrev pub command_of : List ℕ → Option (Command × Bool)
 command_of text =
     if bytes_eq text (codes "survey") then Some (command.Survey, false)
     else if bytes_eq text (codes "rows") then Some (command.Survey, true)
     else option_map (λ c. (c, false)) (longer_of text)
 
--- the one text of a command for leases
+-- The one text of a command on leases.
 abbrev pub command_text : Command → List ℕ
 command_text command.Survey = codes "survey"
 command_text (command.MakeLease key from) = codes "make " ++ (key_text key ++ origin_text from)
@@ -105,11 +106,11 @@ command_text (command.Mark tenure counter to) =
 command_text (command.CutLease key counter) = codes "cut " ++ (key_text key ++ 32 ∷ decimal counter)
 command_text _ = []
 
--- the one text of a raw line's command
+-- The one text of a raw line's command.
 abbrev pub raw_text : Command → Bool → List ℕ
 raw_text what long = if long then codes "rows" else command_text what
 
--- its numbers have the bits of their types
+-- The numbers of the key, the target or the command have the bits of their types.
 abbrev pub IsKey : ShardRef → Type 0
 IsKey key = (key.stream < 2 ^ 64) × (key.shard < 2 ^ 64)
 
@@ -129,16 +130,16 @@ AreNumbers (command.Mark tenure counter to) = (tenure < 2 ^ 64) × ((counter < 2
 AreNumbers (command.CutLease key counter) = IsKey key × (counter < 2 ^ 64)
 AreNumbers _ = Unit {0}
 
--- a command for leases that may be asked
+-- The command is a lawful command on leases whose numbers have the bits of their types.
 pub record IsRaw (what : Command) : Type 0 where
   pub lease : is_service what ≡ false
   pub lawful : IsLawfulCommand what
   pub numbers : AreNumbers what
 
--- the longer answer is that of a survey
+-- Only a survey has a longer answer.
 abbrev pub IsLong : Command → Bool → Type 0
 IsLong what long = long ≡ true → what ≡ command.Survey
 
--- a command that may be asked so
+-- The command may be asked with this choice of the answer.
 abbrev pub IsAsked : Command → Bool → Type 0
 IsAsked what long = IsRaw what × IsLong what long

@@ -1,4 +1,4 @@
--- Where reading begins, behind what is read.
+-- The origin that may follow a row or a worker in a text.
 use Rattle.std.specs.Prelude.{ℕ, ◌^◌, ◌<◌, List, [], ◌++◌, codes, decimal, if◌then◌else◌, Option, Some, None}
 use Rattle.std.specs.Prelude.{option_map}
 use Rattle.std.specs.Str.{bytes_eq}
@@ -6,16 +6,16 @@ use Rattle.kds_defs.specs.declared.command.Origin.{Origin}
 use Rattle.kds_defs.specs.declared.command.Origin.TheVariants as origin
 use Rattle.kcl_script_fields.specs.Fields.{◌>>=◌, field, moment_of}
 
--- the moment of `time M`
+-- The origin `time M`.
 abbrev pub time_of : List ℕ → Option Origin
 time_of text = field text >>= λ p.
     if bytes_eq p.0 (codes "time") then option_map (λ m. origin.Time m) (moment_of p.1) else None
 
--- where reading begins: `latest` or `time M`
+-- The origin `latest` or `time M`.
 abbrev pub origin_of : List ℕ → Option Origin
 origin_of text = if bytes_eq text (codes "latest") then Some origin.Latest else time_of text
 
--- what stands alone is read from the first record, else its origin follows it
+-- What `read` finds, with the origin that follows it. If nothing follows, the origin is the trim horizon.
 abbrev pub with_origin_at : {A : Type 0} → (List ℕ → Option A) → List ℕ → Option (List ℕ × List ℕ) → Option (A × Origin)
 with_origin_at read text None = option_map (λ a. (a, origin.TrimHorizon)) (read text)
 with_origin_at read text (Some p) = read p.0 >>= λ a. option_map (λ o. (a, o)) (origin_of p.1)
@@ -23,7 +23,7 @@ with_origin_at read text (Some p) = read p.0 >>= λ a. option_map (λ o. (a, o))
 abbrev pub with_origin : {A : Type 0} → (List ℕ → Option A) → List ℕ → Option (A × Origin)
 with_origin read text = with_origin_at read text (field text)
 
--- the origin behind a thing
+-- The text of the origin behind something else.
 abbrev pub origin_text : Origin → List ℕ
 origin_text origin.TrimHorizon = []
 origin_text origin.Latest = codes " latest"

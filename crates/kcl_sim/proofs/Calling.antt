@@ -1,4 +1,4 @@
--- The calls of processors that are due: each is made once, and then none is due.
+-- The calls of processors that are due. Each is made once, and then none is due.
 use Rattle.std.proofs.Common.{◌≡◌, Bool, true, false, List, [], ◌∷◌, Option, Some, None, refl, sym, ap, subst, ◌∙◌}
 use Rattle.std.specs.Prelude.{cond, not, is_some, if◌then◌else◌}
 use Rattle.std.specs.List.{filter, find}
@@ -14,7 +14,7 @@ use Rattle.kcl_worker.proofs.Counting.{not_again}
 use Rattle.kcl_worker.specs.Asks.{IsAsk, IsAskOf}
 use Rattle.kcl_sim.specs.Workers.{Employed, all_called, ask_in, state_of, with_calls}
 
--- what is over isn't due
+-- A consumer that is over has no due call.
 over_not_due : (p : Phase) → is_some (over_at p) ≡ true → is_some (due_call p) ≡ false
 over_not_due (Over why) h = refl
 over_not_due _ h = absurd cc
@@ -22,7 +22,7 @@ over_not_due _ h = absurd cc
 live : List Known → List Known
 live ks = filter (λ k. not (is_over k)) ks
 
--- so those that are over may be passed over
+-- So consumers that are over may be left out.
 live_by : (over due : Bool) (kind : Kind) (k : Known) (ks : List Known) (past : JointPast) → is_over k ≡ over
     → is_due_known k ≡ due
     → ((p : JointPast) → with_calls kind (live ks) p ≡ with_calls kind ks p)
@@ -46,7 +46,7 @@ live_calls kind [] past = refl
 live_calls kind (k ∷ ks) past =
     live_by (is_over k) (is_due_known k) kind k ks past refl refl (live_calls kind ks)
 
--- the first that is due was called
+-- The calls that are left are the same after the first due call was made.
 called_by : (due : Bool) (kind : Kind) (c : Known) (ks : List Known) (past : JointPast) (k : Known)
     → is_due_known c ≡ due → cond due (Some c) (find is_due_known ks) ≡ Some k
     → (find is_due_known ks ≡ Some k
@@ -78,7 +78,7 @@ called_first : (kind : Kind) (ks : List Known) (past : JointPast) (k : Known) �
 called_first kind [] past k is = absurd cc
 called_first kind (c ∷ ks) past k is = called_by (is_due_known c) kind c ks past k refl is (called_first kind ks past k)
 
--- a call that is due, made: those that are left are the others
+-- After one due call was made, the calls that are left are the others.
 pub one_called : (e : Employed) (k : Known) (a : Ask) → due_known (state_of e) ≡ Some k
     → a ≡ ask_in e.kind (phase_of_known k) → all_called (record e { past = Of_worker (Made_call a) ∷ e.past })
     ≡ all_called e
@@ -103,13 +103,13 @@ none_called : (kind : Kind) (ks : List Known) (past : JointPast) → find is_due
 none_called kind [] past is = refl
 none_called kind (k ∷ ks) past is = none_by (is_due_known k) kind k ks past refl is (none_called kind ks past)
 
--- where none is due, all are made
+-- If no call is due, all calls are made.
 pub all_made : (e : Employed) → due_known (state_of e) ≡ None → all_called e ≡ e
 all_made e is = ap (λ past. record e { past = past }) (none_called e.kind (state_of e).consumers e.past is)
 
--- ---- what a caller sees of that
+-- ---- What a caller sees of the calls
 
--- what was asked
+-- The processor asks for what its kind asks for.
 pub ask_is : (maker kind : Kind) → ((batch : List Stored) → asked_of maker batch ≡ asked_of kind batch)
     → (p : Phase) (a : Ask) → IsAsk (λ batch b. b ≡ asked_of maker batch) p a → a ≡ ask_in kind p
 ask_is maker kind same (Holding reach waiting) a h = h ∙ same _

@@ -26,9 +26,9 @@ use Rattle.kcl_sim.proofs.Employing.{employ_length, nobody}
 use Rattle.kcl_sim.proofs.HandTelling.{worker_past_hand}
 use Rattle.kcl_sim.proofs.Running.{replaced, works}
 
--- ---- what a worker releases
+-- ---- What a worker releases
 
--- the hand-off is that of the record's release, and the worker has the rest
+-- The hand-off is that of the record's release, and the worker has the rest.
 pub record IsReleased (key : ShardRef) (e : Employed) (now : Stepped) (v : Handing) : Type 0 where
   pub release : Release
   pub which : release_by key (Some e) ≡ Some release
@@ -60,7 +60,7 @@ released_so was now key h c v adds made maker held of_it begins e s =
       };
     }
 
--- ---- where nothing is released
+-- ---- Nothing is released
 
 pub nobody_hands : (wanted : Bool) (old new : SimValue) (ran : Ran) (at by : ℕ) (key : ShardRef) (before after : List ℕ)
     → RunsSo old ran
@@ -108,7 +108,7 @@ nothing_hands wanted old new ran at by place key was now before after s going th
       going = ap (λ (v : SimValue). v.over) same ∙ going;
     }
 
--- ---- where it ran to its end
+-- ---- The hand-off ran to its end
 
 pub hand_goes : (wanted : Bool) (old mid now new : SimValue) (ran : Ran) (at by place : ℕ) (key : ShardRef)
     (was next : Stepped) (v : Handing) (before after : List ℕ)
@@ -144,7 +144,7 @@ hand_goes wanted old mid now new ran at by place key was next v before after s g
       going = ap (λ (z : SimValue). z.over) new_is;
     }
 
--- ---- out of memory
+-- ---- Out of memory
 
 pub hand_may : (old mid new : SimValue) (ran : Ran) (at by place : ℕ) (key : ShardRef) (was next : Stepped)
     (v : Handing) → RunsSo old ran → old.over ≡ false

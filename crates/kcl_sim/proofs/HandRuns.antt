@@ -1,4 +1,4 @@
--- A hand-off that is under way, beside its record.
+-- A hand-off that is under way, and its record.
 use Rattle.std.proofs.Common.{◌≡◌, ℕ, Bool, zero, suc, ◌+◌, ◌-◌, ◌<◌, ◌≤◌, List, [], ◌∷◌, ◌++◌, Some, None, Result}
 use Rattle.std.proofs.Common.{refl, sym, ap, subst, ◌∙◌, arith, ◌⊎◌, inl, inr}
 use Rattle.std.specs.Prelude.{IsSome}
@@ -28,9 +28,9 @@ use Rattle.kcl_sim.specs.Standing.{SimValue}
 use Rattle.kcl_sim.proofs.HandTelling.{round, rounds}
 use Rattle.kcl_sim.proofs.Wanting.{joined, none_wanted}
 
--- ---- a call and a command of one
+-- ---- A call and a command of a hand-off
 
--- where it stands is where its record leaves it
+-- The phase of the hand-off's consumer is the one of its record.
 pub phase_is : (v : Handing) (x : HandOff) → IsHandOf v x → v.consumer.phase ≡ phase_after x.made (state_of x).past
 phase_is v x s = s.stands.consumer.phase
     ∙ (λ i. phase_after (s.made i) (hand_after (s.held i) (s.made i) x.before x.since).past)
@@ -41,12 +41,12 @@ stand_is v x s = s.stands.stand ∙ (λ i. (hand_after (s.held i) (s.made i) x.b
 pub due_is : (v : Handing) (x : HandOff) → IsHandOf v x → due_call v.consumer.phase ≡ hand_due x.made (state_of x)
 due_is v x s = ap due_call (phase_is v x s)
 
--- the command is that of the record
+-- The next command is that of the record.
 pub next_is : (v : Handing) (x : HandOff) → IsHandOf v x → command_at v.held v.consumer.made v.consumer.phase v.stand
     ≡ hand_command x.held x.made (state_of x)
 next_is v x s = λ i. command_at (s.held i) (s.made i) (phase_is v x s i) (stand_is v x s i)
 
--- an answer leaves it leaving
+-- After an answer, the consumer is still leaving.
 answered_leaves_at : (h : Held) (made : Tenancy) (a : Result Reply Refusal) (s : HandState) (st : Stand)
     → IsLeaving (phase_after made s.past)
     → IsLeaving (phase_after made (answered_at h made a s st).past)
@@ -64,11 +64,11 @@ hand_on : (w : Handing) (x : HandOff) → w.held ≡ x.held → w.consumer.made 
     → IsLeaving (phase_after x.made (state_of x).past) → IsHandOf w x
 hand_on w x held made s l = record { held = held; made = made; stands = s; leaving = leaves_so w x held made s l }
 
--- where none is due nothing is made
+-- If no call is due, none is made.
 pub called_none : (x : HandOff) → hand_due x.made (state_of x) ≡ None → called_up x ≡ x
 called_none x is = ap (λ o. called_if o x) is
 
--- an answer was taken
+-- The hand-off after an answer is that of the record after this answer.
 pub answered_on : (at by : ℕ) (h : List Turn) (what : Command) (a : Result Reply Refusal) (v w : Handing)
     → w.held ≡ v.held
     → w.consumer.made ≡ v.consumer.made → AddsHandAnswer Calls a v w → a ≡ answer h (raw_turn at by what)
@@ -80,13 +80,13 @@ answered_on at by h what a v w held made adds is x s =
     (adds x.before x.since s.stands)
     (answered_leaves_at x.held x.made a (state_of x) (state_of x).stand old))
 
--- ---- so many commands of one
+-- ---- The first commands of a hand-off
 
--- with the deals of the commands before
+-- The run with the commands before it, and their answers.
 pub with_deals : List Deal → HandRun → HandRun
 with_deals deals r = record r { deals = deals ++ r.deals }
 
--- after so many commands, with these deals, it goes on from this history as this
+-- After `n` commands, with the answers in `deals`, the run goes on from the history `k` with the hand-off `y`.
 abbrev pub IsRest : ℕ → ℕ → List Turn → HandOff → ℕ → List Deal → List Turn → HandOff → Type 0
 IsRest at by h x n deals k y = (j : ℕ) → run_hand (n + j) at by h x ≡ with_deals deals (run_hand j at by k y)
 
@@ -103,7 +103,7 @@ rest_begins at by h x none j =
     let same : 0 + j ≡ j = omega arith in
     ap (λ m. run_hand m at by h x) same ∙ run_called j at by h x none
 
--- one command more
+-- `IsRest` holds after one more command.
 rest_more : (at by : ℕ) (h : List Turn) (x : HandOff) (n : ℕ) (deals : List Deal) (k : List Turn) (y : HandOff)
     (what : Command)
     → IsRest at by h x n deals k y → hand_command y.held y.made (state_of y) ≡ Some what
@@ -124,7 +124,7 @@ rest_more at by h x n deals k y what rest next none then_none j =
     ∙ ap (λ ds. record { history = r.history; hand = r.hand; deals = ds })
     (sym (append_assoc deals (deal_at at by k what ∷ []) r.deals))
 
--- at its end nothing more comes
+-- Once the hand-off has ended, nothing more comes.
 ends_so : (j at by : ℕ) (k : List Turn) (y : HandOff) → hand_command y.held y.made (state_of y) ≡ None
     → hand_due y.made (state_of y) ≡ None
     → run_hand j at by k y ≡ record { history = k; hand = y; deals = [] }
@@ -136,9 +136,9 @@ deals_more [] deal = append-nil (deal_text deal)
 deals_more (d ∷ deals) deal = ap (λ z. deal_text d ++ z) (deals_more deals deal)
     ∙ sym (append_assoc (deal_text d) (deals_text deals) (deal_text deal))
 
--- ---- a run in which it is under way
+-- ---- A run in which a hand-off is under way
 
--- so many of its commands ran, and the call that was due is made
+-- The first commands of the hand-off ran, and the call that was due was made.
 pub record UnderWay (wanted : Bool) (at by : ℕ) (old now : SimValue) (v w : Handing) (text : List ℕ) : Type 0 where
   pub ran_of_it : ℕ
   pub deals : List Deal
@@ -209,15 +209,15 @@ way_goes wanted at by old now new v w u text more way r over workers told fewer 
       );
 }
 
--- ---- it ended
+-- ---- The hand-off has ended
 
--- where it is over no command comes next
+-- Once the hand-off has ended, no command comes next.
 ended_quiet : (h : Held) (made : Tenancy) (phase : Phase) (s : Stand) → IsSome (left_at s)
     → command_at h made phase s ≡ None
 ended_quiet h made phase (stand.Ended left) over = refl
 ended_quiet h made phase _ over = absurd cc
 
--- the whole run of it
+-- The run of a hand-off that has ended is the whole run.
 whole_run : (wanted : Bool) (at by : ℕ) (old now : SimValue) (v w : Handing) (text : List ℕ)
     (way : UnderWay wanted at by old now v w text)
     → IsSome (left_at w.stand)
@@ -251,9 +251,9 @@ way_ends wanted at by old now new v w text line before after way over line_is wr
       ∙ ap (λ r. if_wanted wanted (run_text r)) (sym (whole_run wanted at by old now v w text way over x s)));
 }
 
--- ---- out of memory
+-- ---- Out of memory
 
--- between its commands
+-- Memory ran out between two commands of the hand-off.
 pub broke_between : (wanted : Bool) (at by : ℕ) (old now new : SimValue) (v w : Handing) (text : List ℕ)
     → UnderWay wanted at by old now v w text
     → new.history ≡ now.history
@@ -273,7 +273,7 @@ one_left (stand.Ended left) phase going = absurd cc
 one_left stand.Consumer (Giving reach waiting asked lost) going = omega arith
 one_left _ _ going = omega arith
 
--- after the turn of one
+-- Memory ran out after the turn of a command.
 pub broke_after : (wanted : Bool) (at by : ℕ) (old now new : SimValue) (v w : Handing) (text : List ℕ)
     → UnderWay wanted at by old now v w text
     → left_at w.stand ≡ None
@@ -299,9 +299,9 @@ broke_round wanted at by old now new v w text way going (inl same) =
 broke_round wanted at by old now new v w text way going (inr r) =
     broke_after wanted at by old now new v w text way going r
 
--- ---- one round
+-- ---- One round
 
--- the command that comes next is that of the record
+-- The command that comes next is that of the record.
 comes_next : (v : Handing) (what : Command) → Some what ≡ command_at v.held v.consumer.made v.consumer.phase v.stand
     → ComesNext v what
 comes_next v what is x s = sym (next_is v x s) ∙ sym is

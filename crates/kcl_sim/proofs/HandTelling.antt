@@ -1,4 +1,4 @@
--- A hand-off that runs is told in the joint record of its worker.
+-- The joint record of a worker tells a hand-off that runs.
 use Rattle.std.proofs.Common.{◌≡◌, ℕ, zero, suc, List, [], ◌∷◌, ◌++◌, length, Option, Some, None, refl, sym, ap, subst}
 use Rattle.std.proofs.Common.{◌∙◌}
 use Rattle.std.specs.Prelude.{IsSome, if◌then◌else◌, map}
@@ -18,9 +18,9 @@ use Rattle.kcl_hand.specs.Joints.{state_of, worker_in, worker_past}
 use Rattle.kcl_hand.specs.Runs.{HandRun, answered_by, called_if, called_up, or_stop, run_hand, turn_of, with_first}
 use Rattle.kcl_hand.specs.Runs.{with_hand}
 
--- ---- a command and what follows it
+-- ---- A command, and what follows it
 
--- of a hand-off whose call that was due is made
+-- The run of a hand-off whose due call was made.
 abbrev pub rounds : ℕ → ℕ → ℕ → List Turn → HandOff → Option Command → HandRun
 rounds n at by h x o =
     or_stop o (record { history = h; hand = x; deals = [] })
@@ -29,14 +29,14 @@ rounds n at by h x o =
 abbrev pub round : ℕ → ℕ → ℕ → List Turn → HandOff → HandRun
 round n at by h x = rounds n at by h x (hand_command x.held x.made (state_of x))
 
--- ---- the worker's own record
+-- ---- The worker's own record
 
 hands_apart : (n : ℕ) (since : HandPast) (past : JointPast)
     → worker_past (map (Of_hand n) since ++ past) ≡ worker_past past
 hands_apart n [] past = refl
 hands_apart n (event ∷ since) past = hands_apart n since past
 
--- a hand-off leaves the release there
+-- A hand-off leaves the release in the worker's own record.
 pub worker_past_hand : (key : ShardRef) (since : HandPast) (made : WorkerMade) (past : JointPast)
     → worker_past (with_hand key since made past) ≡ Released key ∷ worker_past past
 worker_past_hand key since made past = hands_apart (length (hands_after made past)) since _
@@ -45,9 +45,9 @@ pub released_free : (o : Option Release) (w : WorkerState) → w.waiting ≡ Non
 released_free None w h = h
 released_free (Some r) w h = h
 
--- ---- the record with the hand-off
+-- ---- The record with the hand-off
 
--- the actor's turns are those of the record with a release and with what happened to its hand-off since
+-- The actor's turns are those of the record with a release and with what happened to its hand-off since.
 pub record IsTellingHand (by : ℕ) (h : List Turn) (key : ShardRef) (made : WorkerMade) (past : JointPast)
     (since : HandPast) : Type 0 where
   pub orderly : AreOrderly made (with_hand key since made past)
@@ -55,7 +55,7 @@ pub record IsTellingHand (by : ℕ) (h : List Turn) (key : ShardRef) (made : Wor
 
 module _ (at by : ℕ) (key : ShardRef) (made : WorkerMade) (past : JointPast) (r : Release)
     (which : released key (worker_in made past) ≡ Some r) where
-  -- the command that comes next was answered
+  -- The record still tells the turns after the next command was answered.
   answered_tells : (h : List Turn) (since : HandPast) (what : Command)
       → hand_command r.held r.known.made (state_of (hand_of r since)) ≡ Some what
       → IsTellingHand by h key made past since
@@ -74,7 +74,7 @@ module _ (at by : ℕ) (key : ShardRef) (made : WorkerMade) (past : JointPast) (
             ∙ sym (deals_with_hand key made past r which since what a is);
       }
 
-  -- the call that is due is no turn
+  -- A due call isn't a turn.
   called_tells : (h : List Turn) (since : HandPast) (o : Option Due) → IsTellingHand by h key made past since
       → IsTellingHand by h key made past (called_if o (hand_of r since)).since
   called_tells h since None t = t
@@ -110,14 +110,14 @@ module _ (at by : ℕ) (key : ShardRef) (made : WorkerMade) (past : JointPast) (
       (round_tells n h (called_if o (hand_of r since)).since _ refl (called_tells h since o t)
       (λ k later s. runs_tell n k later s))
 
-  -- to its end
+  -- The record tells the turns of the hand-off to its end.
   pub run_tells : (h : List Turn) → IsTellingHand by h key made past []
       → IsTellingHand by (run_hand 3 at by h (hand_of r [])).history key made past
       (run_hand 3 at by h (hand_of r [])).hand.since
   unfolding Tells
   run_tells h t = runs_tell 3 h [] t
 
--- ---- turns of another
+-- ---- Turns of another actor
 
 not_by : (n at by other : ℕ) (h : List Turn) (x : HandOff) (o : Option Command)
     → ((what : Command) → deals_of other (turn_of at by what ∷ h) ≡ deals_of other h)
@@ -126,7 +126,7 @@ not_by : (n at by other : ℕ) (h : List Turn) (x : HandOff) (o : Option Command
 not_by n at by other h x None one rest = refl
 not_by n at by other h x (Some what) one rest = rest (turn_of at by what ∷ h) (answered_by at by h x what) ∙ one what
 
--- leave his deals
+-- The run of a hand-off leaves the commands and answers of another actor as they were.
 pub of_another_run : (n at by other : ℕ)
     → ((h : List Turn) (what : Command) → deals_of other (turn_of at by what ∷ h) ≡ deals_of other h)
     → (h : List Turn) (x : HandOff) → deals_of other (run_hand n at by h x).history ≡ deals_of other h

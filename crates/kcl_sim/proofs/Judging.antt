@@ -26,7 +26,7 @@ pub with_schedule-append : (ran : Ran) (ls ks : List Line)
 with_schedule-append ran [] ks = refl
 with_schedule-append ran (l ∷ ls) ks = with_schedule-append (with_line ran l) ls ks
 
--- lines that are all good go on to what follows
+-- If all lines are good, the judgement goes on with what follows them.
 judge_form_more : (count : ℕ) (texts more : List (List ℕ)) (o : Option Line) (end : End)
     → ((judge (count + 1) texts input.whole).ending ≡ whole
     → judge (count + 1) (texts ++ more) end
@@ -52,7 +52,7 @@ pub judge_more : (texts more : List (List ℕ)) (end : End) → (judged_texts te
 judge_more texts more end are = let none : 0 + length texts ≡ length texts = omega arith in
     rw none at (judge_from 0 texts more end are)
 
--- one more line
+-- The judgement of texts with one more line.
 one_more : (texts : List (List ℕ)) (text : List ℕ) (l : Line) → (judged_texts texts).ending ≡ whole
     → line_of text ≡ Some l
     → judged_texts (texts ++ text ∷ []) ≡ record { lines = (judged_texts texts).lines ++ l ∷ []; ending = whole }
@@ -80,9 +80,9 @@ output_more texts text l are is =
     ∙ outputs-append fresh (judged_texts texts).lines (l ∷ [])
     ∙ ap (λ z. texts_output texts ++ z) (append-nil _)
 
--- ---- what is told of lines
+-- ---- What is told of the lines
 
--- the text of a history begins with that of its earlier turns
+-- The text of a history begins with that of its earlier turns.
 abbrev pub Grows : (List Turn → List ℕ) → Type 0
 Grows text = (h : List Turn) (turn : Turn) → TextGoesOn (text h) (text (turn ∷ h))
 
@@ -93,7 +93,7 @@ text_grows text grows (turn ∷ more) h =
     let then = grows (more ++ h) turn in
     (first.0 ++ then.0, then.1 ∙ ap (λ z. z ++ then.0) first.1 ∙ append_assoc (text h) first.0 then.0)
 
--- so does that of a line more
+-- So does the text of the run with one more line.
 line_text_grows : (text : List Turn → List ℕ) → Grows text → (ran : Ran) (l : Line)
     → TextGoesOn (text ran.history) (text (with_line ran l).history)
 line_text_grows text grows ran l =
@@ -110,7 +110,7 @@ text_more text texts line_text l are is =
     ap (λ z. text (with_schedule fresh z.lines).history) (one_more texts line_text l are is)
     ∙ ap (λ (r : Ran). text r.history) (with_schedule-append fresh (judged_texts texts).lines (l ∷ []))
 
--- what is told of one line more
+-- What is told after one more line.
 told_more : (wanted : Bool) (text : List Turn → List ℕ) (texts : List (List ℕ)) (line_text : List ℕ) (l : Line)
     (before after : List ℕ)
     → (judged_texts texts).ending ≡ whole → line_of line_text ≡ Some l
@@ -132,7 +132,7 @@ told_grows false text grows texts line_text l are is =
     let t = line_text_grows text grows (with_schedule fresh (judged_texts texts).lines) l in
     (t.0, text_more text texts line_text l are is ∙ t.1)
 
--- ---- a line that was taken
+-- ---- A line that was taken
 
 pub takes : (wanted : Bool) (text : List Turn → List ℕ) (old new : SimValue) (line_text : List ℕ) (l : Line)
     (before after : List ℕ)

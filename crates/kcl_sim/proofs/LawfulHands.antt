@@ -24,7 +24,7 @@ use Rattle.kcl_sim.proofs.HandTelling.{rounds}
 use Rattle.kcl_sim.proofs.LawfulSteps.{AllLimits, AreBounded, HasLimit, IsBounded, bounded_by, found_limit}
 use Rattle.kcl_sim.proofs.LawfulSteps.{limits_after, phase_command, so_lawful}
 
--- ---- what is released reads at most so many records as a read may ask for
+-- ---- What is released reads at most as many records as a Read may ask for
 
 lease_limit : (h : Held) (o : Option Known) (r : Release) → with_lease h o ≡ Some r
     → ((k : Known) → o ≡ Some k → HasLimit k) → IsLimit r.known.made.limit
@@ -46,7 +46,7 @@ worker_limit e key r is h =
     release_limit (worker_state e).consumers (leaving key (worker_state e)) r is
     (limits_after e.made h.limit (worker_past e.past))
 
--- ---- its commands
+-- ---- The commands of a hand-off
 
 stand_lawful : (h : Held) (made : Tenancy) (phase : Phase) (s : Stand) (what : Command)
     → command_at h made phase s ≡ Some what → IsLimit made.limit
@@ -77,7 +77,7 @@ run_lawful (suc n) at by h x early limit past =
     rounds_lawful n at by h (called_up x) _ refl early (called_limit (hand_due x.made (state_of x)) x limit) past
     (λ k y l p. run_lawful n at by k y early l p)
 
--- ---- lines
+-- ---- Lines
 
 release_lawful : (ran : Ran) (at by : ℕ) (key : ShardRef) (e : Employed) (o : Option Release)
     → release_by key (Some e) ≡ o → at < 2 ^ 62 → IsBounded e
@@ -95,7 +95,7 @@ hand_lawful ran at by key None is early h past = past
 hand_lawful ran at by key (Some e) is early h past =
     release_lawful ran at by key e (release_by key (Some e)) refl early (bounded_by by ran.workers e is h) past
 
--- ---- out of memory in the middle of one
+-- ---- Out of memory in the middle of a hand-off
 
 released_part : (n at by : ℕ) (h k : List Turn) (key : ShardRef) (e : Employed) (o : Option Release)
     → release_by key (Some e) ≡ o

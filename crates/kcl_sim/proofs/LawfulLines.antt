@@ -23,11 +23,11 @@ pub request_lawful : (h : List Turn) (at : ℕ) (r : Result Command Fault) → a
 request_lawful h at (Ok what) early lawful past = ((early, (lawful what refl).0), past)
 request_lawful h at (Err f) early lawful past = past
 
--- the lines of a judgement are lines
+-- The lines of a judgement are lines.
 abbrev pub AreLines : Judged → Type 0
 AreLines j = AllByRecursion IsLine j.lines
 
--- what requests and lines are known to give: commands that may be asked, and a moment
+-- What requests and lines are known to give: lawful commands, and a moment.
 abbrev pub AskLawfully : Type 0
 AskLawfully = (operation body : List ℕ) (what : Command) → asked operation body ≡ Ok what → IsRequest what
 
@@ -48,11 +48,11 @@ module _ (reads : ReadLines) where
   front_lines [] ks are = tt
   front_lines (l ∷ ls) ks are = (are.0, front_lines ls ks are.1)
 
-  -- the lines of a schedule
+  -- The lines of a schedule are lines.
   pub schedule_lines : (bytes : List ℕ) → AllByRecursion IsLine (judged bytes).lines
   schedule_lines bytes = judge_lines 0 (lined bytes).texts (lined bytes).end
 
-  -- and the first of them
+  -- The first lines of a schedule are lines.
   pub first_lines : (bytes : List ℕ) (lines later : List Line) → (judged bytes).lines ≡ lines ++ later
       → AllByRecursion IsLine lines
   first_lines bytes lines later parts =

@@ -1,4 +1,4 @@
--- The turns of workers are lawful: each command that a worker's record gives is.
+-- The turns of workers are lawful, since each command that follows from a worker's record is.
 use Rattle.std.proofs.Common.{◌≡◌, ℕ, zero, suc, ◌<◌, ◌≤◌, ◌^◌, Bool, true, false, List, [], ◌∷◌, ◌++◌, Option, Some}
 use Rattle.std.proofs.Common.{None, Result, Ok, Err, refl, subst, arith}
 use Rattle.std.specs.Prelude.{cond, not, nat_le, if◌then◌else◌, option_map, slice_get, slice_set}
@@ -32,7 +32,7 @@ use Rattle.kcl_script.specs.Line.{IsLine}
 use Rattle.kcl_sim.specs.Output.{Ran, with_command, with_handed, with_line, with_release, with_step, with_stop}
 use Rattle.kcl_sim.specs.Workers.{Employed, all_called, command_at, employed_by, place_of, release_by, state_of}
 
--- ---- the consumers of a worker read at most so many records as a read may ask for
+-- ---- The consumers of a worker read at most as many records as a Read may ask for
 
 unfoldable pub HasLimit : Known → Type 0
 HasLimit k = IsLimit k.made.limit
@@ -153,7 +153,7 @@ limits_after made limit (Stopped ∷ past) =
 limits_after made limit (Released key ∷ past) =
     released_limits (released key (worker_after made past)) (worker_after made past) (limits_after made limit past)
 
--- ---- the command that comes next
+-- ---- The command that comes next
 
 found_by : (b : Bool) (k j : Known) (o : Option Known) → cond b (Some k) o ≡ Some j → HasLimit k
     → (o ≡ Some j → HasLimit j) → HasLimit j
@@ -210,9 +210,9 @@ chore_lawful made w None what is name limits = absurd cc
 chore_lawful made w (Some chore) what is name limits =
     pending_lawful made w chore (command_of made w chore) what is (λ c. command_lawful made w chore what c name limits)
 
--- ---- workers of a run
+-- ---- Workers of a run
 
--- it has a number, and its reads are bounded
+-- The worker has a number, and its reads are bounded.
 pub record IsBounded (e : Employed) : Type 0 where
   pub name : 1 ≤ e.made.name
   pub limit : IsLimit e.made.settings.limit
@@ -248,7 +248,7 @@ by_some : (low : Bool) (place : ℕ) (es : List Employed) (e : Employed)
 by_some true place es e is h = absurd cc
 by_some false place es e is h = bounded_at es place e is h
 
--- the worker of an actor
+-- The worker of an actor is bounded.
 pub bounded_by : (by : ℕ) (es : List Employed) (e : Employed) → employed_by by es ≡ Some e → AreBounded es → IsBounded e
 bounded_by by es e is h = by_some (nat_le by MOST_ACTOR) (place_of by) es e is h
 
@@ -296,7 +296,7 @@ line_bounded ran (Step at by) is h = step_bounded ran at by (employed_by by ran.
 line_bounded ran (Stop at by) is h = stop_bounded ran by (employed_by by ran.workers) refl h
 line_bounded ran (Hand at by key) is h = hand_bounded ran at by key (employed_by by ran.workers) refl h
 
--- ---- their turns
+-- ---- The turns of the workers
 
 turn_lawful : (ran : Ran) (at by : ℕ) (e : Employed) (o : Option Command) → at < 2 ^ 62
     → ((what : Command) → o ≡ Some what → IsLawfulCommand what) → IsHistory ran.history

@@ -27,7 +27,7 @@ nothing_more h = record { more = []; few = omega arith; grows = refl }
 one_more : (h : List Turn) (turn : Turn) → GrowsFew h (turn ∷ h)
 one_more h turn = record { more = turn ∷ []; few = omega arith; grows = refl }
 
--- a hand-off that runs for so many commands at most
+-- The new history has at most `n` more turns.
 record GrowsBy (n : ℕ) (old new : List Turn) : Type 0 where
   more : List Turn
   few : length more ≤ n
@@ -60,7 +60,7 @@ hand_grows n at by h r few =
     let g = run_grows n at by h (hand_of r []) in
     record { more = g.more; few = omega (arith, few, g.few); grows = g.grows }
 
--- ---- lines
+-- ---- Lines
 
 request_grows : (h : List Turn) (at : ℕ) (r : Result Command Fault) → GrowsFew h (requested h at r)
 request_grows h at (Ok what) = one_more h (request_turn at what)
@@ -97,7 +97,7 @@ line_grows ran (Step at by) = step_grows ran at by (employed_by by ran.workers)
 line_grows ran (Stop at by) = stop_grows ran by (employed_by by ran.workers)
 line_grows ran (Hand at by key) = handed_grows ran at by key (employed_by by ran.workers)
 
--- ---- out of memory in the middle of one
+-- ---- Out of memory in the middle of a line
 
 part_by : (n at by : ℕ) (h k : List Turn) (o : Option Release) → option_map (history_at n h at by) o ≡ Some k → n ≤ 3
     → GrowsFew h k

@@ -30,7 +30,7 @@ pub on_ok_so : {A B : Type 0} {P Q : Type 0} (r : Result A B) → OnOk r P → (
 on_ok_so (Ok x) h f = f h
 on_ok_so (Err e) h f = tt
 
--- ---- one more worker
+-- ---- One more worker
 
 pub hired_goes : (wanted : Bool) (old new : SimValue) (ran : Ran) (w : Stepped) (at name by : ℕ) (kind : Kind)
     (from : Origin) (before after : List ℕ)
@@ -55,7 +55,7 @@ hired_goes wanted old new ran w at name by kind from before after s going is mad
       going = going;
     })
 
--- ---- an actor without a worker
+-- ---- An actor without a worker
 
 pub nobody_stops : (wanted : Bool) (old new : SimValue) (ran : Ran) (at by : ℕ) (before after : List ℕ) → RunsSo old ran
     → old.over ≡ false → new ≡ old
@@ -85,9 +85,9 @@ nobody_steps wanted old new ran at by before after s going same none wrote =
       going = ap (λ (v : SimValue). v.over) same ∙ going;
     }
 
--- ---- the worker of an actor
+-- ---- The worker of an actor
 
--- the worker at a place is that of the actor
+-- The worker at the index `place` is that of the actor.
 pub record Works (old : SimValue) (ran : Ran) (by place : ℕ) (was : Stepped) : Type 0 where
   pub e : Employed
   pub is : employed_by by ran.workers ≡ Some e
@@ -104,7 +104,7 @@ works old ran by place was s going there stood =
     let b = somebody by (length old.workers) place ran.workers there in
     record { e = f.0; is = b.1 ∙ f.1; employs = f.2; all = all; at_place = b.0 }
 
--- with another in its place
+-- `EmployAll` holds after another worker took this place.
 pub replaced : (old : SimValue) (ran : Ran) (by place : ℕ) (was new : Stepped) (d : Employed)
     → Works old ran by place was → Employs new d
     → EmployAll (slice_set old.workers place new) (slice_set ran.workers (place_of by) d)
@@ -132,7 +132,7 @@ stop_goes wanted old new ran at by place was now before after s going there stoo
       going = going;
     })
 
--- a step
+-- The worker after a step is that of the record after this step.
 same_employed : (h : List Turn) (ran : Ran) (at by : ℕ) (o : Option Command) (e : Employed) → h ≡ ran.history
     → (v : Stepped) → Employs v (employed_after h at by o e) → Employs v (employed_after ran.history at by o e)
 same_employed h ran at by o e is v s = subst (λ k. Employs v (employed_after k at by o e)) is s
@@ -171,7 +171,7 @@ step_goes wanted old new ran at by place before after s going there t still =
       going = still;
     }
 
--- ---- out of memory
+-- ---- Out of memory
 
 pub step_may : (old new : SimValue) (ran : Ran) (at by place : ℕ) → RunsSo old ran → old.over ≡ false
     → place_among by (length old.workers) ≡ Some place → new.over ≡ true
@@ -192,9 +192,9 @@ pub err_so : {A B : Type 0} {P Q : Type 0} (r : Result A B) → OnErr r P → (P
 err_so (Ok x) h f = tt
 err_so (Err e) h f = f h
 
--- ---- a step by its parts
+-- ---- A step by its parts
 
--- the worker at a place, once its calls were made and it was asked
+-- The worker at an index, once its calls were made and it was asked for a command.
 pub record Asked (at place : ℕ) (old : SimValue) (result : Option Command) (now : Stepped) : Type 0 where
   pub was : Stepped
   pub stood : slice_get old.workers place ≡ Some was
@@ -210,7 +210,7 @@ where_some : {A : Type 0} (P : Type 0) (Q : A → Type 0) (o : Option A) (x : A)
 where_some P Q None x is h = absurd cc
 where_some P Q (Some y) x is h = subst Q (same_some y x is) h
 
--- the worker of a place was lent for its calls, and lent again to be asked
+-- The worker at an index was lent for its calls, and was lent again to be asked for a command.
 pub asked_at : (old : SimValue) (at place : ℕ) (ws : List Stepped) (first second was called lent now : Stepped)
     (result : Option Command) → ws ≡ old.workers → place < length ws
     → was ≡ get_or ws place first → lent ≡ get_or (slice_set ws place called) place second
@@ -236,7 +236,7 @@ asked_at old at place ws first second was called lent now result same lt got aga
           (stands (all_called e) (on e h));
     }
 
--- where it was idle
+-- The worker was idle.
 pub idle_steps : (wanted : Bool) (old new : SimValue) (at by place : ℕ) (result : Option Command) (now : Stepped)
     (before after : List ℕ)
     → Asked at place old result now → result ≡ None
@@ -257,7 +257,7 @@ idle_steps wanted old new at by place result now before after a none is wrote =
       wrote = wrote;
     }
 
--- where its turn ran
+-- The turn of the worker ran.
 turn_steps_of : (wanted : Bool) (old new : SimValue) (at by place : ℕ) (result : Option Command) (what : Command)
     (mid : List Stepped) (now : Stepped) (before after : List ℕ) → Asked at place old result now → result ≡ Some what
     → mid ≡ slice_set old.workers place now → place < length old.workers
@@ -304,7 +304,7 @@ turn_steps wanted old new at by place result what h mid now before after a some 
     (subst (λ k. ChangedAt place (TookAnswer at by what k) mid new.workers) same changed)
     (wrote ∙ ap (λ k. before ++ if_wanted wanted (command_output k at by (Some what))) same)
 
--- after running out of memory it ran or not
+-- After memory ran out, the turn ran or not.
 pub turn_may : (old new : SimValue) (at by place : ℕ) (result : Option Command) (what : Command) (h : List Turn)
     (now : Stepped) → Asked at place old result now → result ≡ Some what
     → h ≡ old.history → (new.history ≡ h) ⊎ (new.history ≡ raw_turn at by what ∷ h) → (new.history ≡ old.history)
@@ -328,7 +328,7 @@ pub on_any_err : {A B : Type 0} {P : Type 0} (r : Result A B) → P → OnErr r 
 on_any_err (Ok x) h = tt
 on_any_err (Err e) h = h
 
--- ---- that a run is over says nothing of its turns and workers
+-- ---- Whether a run is over says nothing of its turns and workers
 
 steps_as : (wanted : Bool) (old new : SimValue) (b d : Bool) (at by place : ℕ) (before after : List ℕ)
     → StepsAt wanted at by place (record old { over = b }) new before after

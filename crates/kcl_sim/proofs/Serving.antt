@@ -45,20 +45,20 @@ use Rattle.kcl_sim.specs.Workers.{Employed, actor_at, all_called, answered, ask_
 use Rattle.kcl_sim.specs.Workers.{place_of, release_by, state_of, stopped, with_calls}
 use Rattle.kcl_sim.proofs.HandTelling.{of_another_run, released_free, run_tells, worker_past_hand}
 
--- the actor's turns are those of the worker's record, and no command of it waits
+-- The actor's turns are those of the worker's record, and no command of the worker waits.
 record IsTold (h : List Turn) (by : ℕ) (e : Employed) : Type 0 where
   orderly : AreOrderly e.made e.past
   told : AreToldIn by h e.made e.past
   free : (state_of e).waiting ≡ None
 
--- so of each worker, and those to come made no turn
+-- `IsTold` holds for each worker, and the workers to come made no turn.
 record AreTold (ran : Ran) : Type 0 where
   each : (place : ℕ) (e : Employed) → slice_get ran.workers place ≡ Some e → IsTold ran.history (actor_at place) e
   later : (place : ℕ) → length ran.workers ≤ place → deals_of (actor_at place) ran.history ≡ []
 
--- ---- what happens to one
+-- ---- What happens to a worker
 
--- calls of processors are no turns
+-- Calls of processors aren't turns.
 record Follows (made : WorkerMade) (past later : JointPast) : Type 0 where
   orderly : AreOrderly made later
   deals : joint_deals made later ≡ joint_deals made past
@@ -90,7 +90,7 @@ told_called h by e t =
 told_stopped : (h : List Turn) (by : ℕ) (e : Employed) → IsTold h by e → IsTold h by (stopped e)
 told_stopped h by e t = record { orderly = (t.free, t.orderly); told = t.told; free = t.free }
 
--- ---- its turn
+-- ---- The turn of a worker
 
 survey_free : (made : WorkerMade) (now : ℕ) (a : Result Reply Refusal) (w : WorkerState) → w.waiting ≡ None
     → (after_survey made now a w).waiting ≡ None
@@ -114,7 +114,7 @@ chore_free made now a (Taking step takes) w h = take_free made now step a _ h
 chore_free made now a (Renewing held) w h = renewal_free now held a _ h
 chore_free made now a _ w h = h
 
--- an answer that was waited for leaves none that is
+-- After the answer that was waited for, no command waits.
 absorbed_free : (made : WorkerMade) (now : ℕ) (a : Result Reply Refusal) (w : WorkerState) (p : Pending)
     → w.waiting ≡ Some p → (absorbed made now a w w.waiting).waiting ≡ None
 absorbed_free made now a w p is =
@@ -145,7 +145,7 @@ told_answered h at by e what next t =
       free = absorbed_free e.made at a (worker_after e.made (Gave_command at ∷ worker_past e.past)) p.0 p.1;
     }
 
--- ---- a hand-off of what it releases
+-- ---- A hand-off of what a worker releases
 
 told_handed : (h : List Turn) (at by : ℕ) (key : ShardRef) (e : Employed) (r : Release)
     → released key (state_of e) ≡ Some r → IsTold h by e
@@ -162,7 +162,7 @@ told_handed h at by key e r which t =
           t.free;
     }
 
--- ---- a turn of another
+-- ---- A turn of another actor
 
 told_on : (by : ℕ) (turn : Turn) (h : List Turn) (e : Employed) → (turn.by == by) ≡ false → IsTold h by e
     → IsTold (turn ∷ h) by e
@@ -178,7 +178,7 @@ apart p q h = by_test (actor_at p == actor_at q) refl
     by_test false is = is
     by_test true is = absurd (h (grind (arith, nat_tests)))
 
--- a turn of no worker
+-- `AreTold` holds after a turn that isn't a worker's.
 outer : (ran : Ran) (turn : Turn) → turn.by ≤ MOST_ACTOR → AreTold ran
     → AreTold (record ran { history = turn ∷ ran.history })
 outer ran turn low t = record {
@@ -186,9 +186,9 @@ outer ran turn low t = record {
   later = λ place past. others_turn (actor_at place) turn ran.history (below turn.by place low) ∙ t.later place past;
 }
 
--- ---- one of them changes
+-- ---- One worker changes
 
--- what stands at a place then
+-- What is found at an index after one worker has changed.
 got_with : (es : List Employed) (p q : ℕ) (x e : Employed) → slice_get (slice_set es p x) q ≡ Some e
     → ((p ≡ q) × (x ≡ e)) ⊎ ((p ≡ q → ⊥) × (slice_get es q ≡ Some e))
 got_with [] p q x e is = absurd cc
@@ -202,7 +202,7 @@ got_with (d ∷ es) (suc p) (suc q) x e is = on (got_with es p q x e is)
     on (inl h) = inl (ap suc h.0, h.1)
     on (inr h) = inr ((λ same. h.0 (ap pred same)), h.1)
 
--- what holds of the one that changed, and of the others still
+-- `IsTold` holds for the worker that changed, and still for the others.
 changed : (h : List Turn) (es : List Employed) (p : ℕ) (x : Employed) → IsTold h (actor_at p) x
     → ((q : ℕ) (e : Employed) → (p ≡ q → ⊥) → slice_get es q ≡ Some e → IsTold h (actor_at q) e)
     → (place : ℕ) (e : Employed) → slice_get (slice_set es p x) place ≡ Some e → IsTold h (actor_at place) e
@@ -212,7 +212,7 @@ changed h es p x own others place e is = on (got_with es p place x e is)
     on (inl same) = subst (IsTold h (actor_at place)) same.1 (subst (λ n. IsTold h (actor_at n) x) same.0 own)
     on (inr other) = others place e other.0 other.1
 
--- its record alone
+-- Only the record of the worker changed.
 kept : (ran : Ran) (p : ℕ) (x : Employed) → AreTold ran → IsTold ran.history (actor_at p) x
     → AreTold (record ran { workers = slice_set ran.workers p x })
 kept ran p x t own = record {
@@ -220,7 +220,7 @@ kept ran p x t own = record {
   later = λ place past. t.later place (omega (arith, past, length-set ran.workers p x));
 }
 
--- and its turn ran
+-- The worker's record changed, and its turn ran.
 turned : (ran : Ran) (turn : Turn) (p : ℕ) (x : Employed) → turn.by ≡ actor_at p → p < length ran.workers → AreTold ran
     → IsTold (turn ∷ ran.history) (actor_at p) x
     → AreTold (record { history = turn ∷ ran.history; workers = slice_set ran.workers p x })
@@ -236,7 +236,7 @@ turned ran turn p x by lt t own = record {
     differs : (q : ℕ) → (p ≡ q → ⊥) → (turn.by == actor_at q) ≡ false
     differs q other = ap (λ n. n == actor_at q) by ∙ apart p q other
 
--- and its hand-off ran
+-- The worker's record changed, and its hand-off ran.
 handed : (ran : Ran) (h : List Turn) (p : ℕ) (x : Employed) → p < length ran.workers → AreTold ran
     → IsTold h (actor_at p) x
     → ((q : ℕ) → (p ≡ q → ⊥) → deals_of (actor_at q) h ≡ deals_of (actor_at q) ran.history)
@@ -250,9 +250,9 @@ handed ran h p x lt t own others = record {
       others place (λ same. absurd (omega arith)) ∙ t.later place beyond;
 }
 
--- ---- lines
+-- ---- Lines
 
--- the worker of an actor stands at his place
+-- The worker of an actor is at the actor's index.
 placed_by : (low : Bool) (by : ℕ) (es : List Employed) (e : Employed) → nat_le by MOST_ACTOR ≡ low
     → (if low then None else slice_get es (place_of by)) ≡ Some e
     → (by ≡ actor_at (place_of by)) × (slice_get es (place_of by) ≡ Some e)
@@ -317,7 +317,7 @@ hand_told ran at by key (Some e) is t =
     release_told ran at by key e (release_by key (Some e)) refl p.0 (slice_get_within ran.workers (place_of by) e p.1)
     t told
 
--- what stands at a place with one more
+-- What is found at an index of a list with one more worker.
 got_more : (es : List Employed) (x : Employed) (q : ℕ) (e : Employed) → slice_get (es ++ x ∷ []) q ≡ Some e
     → ((q ≡ length es) × (x ≡ e)) ⊎ (slice_get es q ≡ Some e)
 got_more [] x zero e is = inl (refl, cc)
@@ -330,7 +330,7 @@ got_more (d ∷ es) x (suc q) e is = on (got_more es x q e is)
     on (inl h) = inl (ap suc h.0, h.1)
     on (inr h) = inr h
 
--- a new worker made no turn
+-- `AreTold` holds with a new worker, which made no turn.
 hired_told : (ran : Ran) (name : ℕ) (kind : Kind) (from : Origin) → AreTold ran
     → AreTold (record ran { workers = ran.workers ++ hired name kind from ∷ [] })
 hired_told ran name kind from t = record {
@@ -363,7 +363,7 @@ schedule_told : (ran : Ran) (ls : List Line) → AllByRecursion IsLine ls → Ar
 schedule_told ran [] are t = t
 schedule_told ran (l ∷ ls) are t = schedule_told (with_line ran l) ls are.1 (line_told ran l are.0 t)
 
--- each worker of a schedule is told
+-- `AreTold` holds for the workers of a schedule.
 all_told : (ls : List Line) → AllByRecursion IsLine ls → AreTold (with_schedule fresh ls)
 all_told ls are =
     let none : AreTold fresh =
@@ -373,7 +373,7 @@ all_told ls are =
     nothing : (place : ℕ) (e : Employed) → slice_get fresh.workers place ≡ Some e → ⊥
     nothing place e is = absurd cc
 
--- what is known of one worker holds of all of a schedule
+-- What is known of one worker holds of all workers of a schedule.
 abbrev pub Serves : Type 0
 Serves = (by : ℕ) (h : List Turn) (made : WorkerMade) (past : JointPast) → AreOrderly made past
     → AreToldIn by h made past → AreServed by h made past

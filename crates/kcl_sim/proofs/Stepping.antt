@@ -1,4 +1,4 @@
--- A step of a worker, beside its record.
+-- A step of a worker, and the worker's record.
 use Rattle.std.proofs.Common.{◌≡◌, ℕ, true, false, ◌∷◌, Option, Some, None, Result, refl, sym, ap, subst, ◌∙◌}
 use Rattle.std.specs.Prelude.{if◌then◌else◌, is_some, option_map}
 use Rattle.kds_defs.specs.declared.command.Command.{Command}
@@ -20,7 +20,7 @@ pub no_some : {A : Type 0} (o : Option A) → false ≡ is_some o → o ≡ None
 no_some None h = refl
 no_some (Some x) h = absurd cc
 
--- a call that was due was made
+-- A due call was made.
 pub called_on : (old new : Stepped) (e d : Employed) → new.made ≡ old.made → new.maker ≡ old.maker
     → AddsCall Calls (λ batch a. a ≡ asked_of old.maker batch) old new
     → Employs old d → all_called d ≡ all_called e → (f : Employed) × Employs new f × (all_called f ≡ all_called e)
@@ -34,7 +34,7 @@ called_on old new e d made maker adds s same =
       one_called d k.0 r.0 is k.2 ∙ same,
     )
 
--- no call is due any more
+-- No call is due any more.
 pub all_done : (w : Stepped) (e d : Employed) → due_in w.consumers ≡ None → Employs w d → all_called d ≡ all_called e
     → Employs w (all_called e)
 all_done w e d none s same =
@@ -44,7 +44,7 @@ all_done w e d none s same =
     ∙ quiet in
     subst (Employs w) (sym (all_made d is) ∙ same) s
 
--- an idle worker gives no command
+-- An idle worker has no command.
 pub idle_command : (w : Stepped) (e : Employed) (at : ℕ) → is_idle_in w ≡ true → Employs w e → command_at at e ≡ None
 idle_command w e at idle s =
     let is : is_idle (state_of e) ≡ true =
@@ -52,7 +52,7 @@ idle_command w e at idle s =
     ∙ sym (idle_same Calls w (worker_past e.past) s.stands) ∙ idle in
     ap (λ b. if b then None else option_map (λ p. p.what) (next_pending e.made at (state_of e))) is
 
--- another gives the one that comes next
+-- A worker that isn't idle returns the command that comes next.
 pub next_command : (old new : Stepped) (e : Employed) (at : ℕ) (what : Command) → is_idle_in old ≡ false
     → new.made ≡ old.made → new.maker ≡ old.maker → AddsCommand Calls old new at what → Employs old e
     → (command_at at e ≡ Some what) × HasAsked at new e
@@ -68,7 +68,7 @@ next_command old new e at what busy made maker adds s =
       record { made = made ∙ s.made; kind = λ batch. ap (λ m. asked_of m batch) maker ∙ s.kind batch; stands = r.3 },
     )
 
--- its answer was taken
+-- The worker has taken the answer.
 pub answer_on : (old new : Stepped) (e : Employed) (at : ℕ) (answer : Result Reply Refusal) → new.made ≡ old.made
     → AllowsSame (λ batch a. a ≡ asked_of new.maker batch) (λ batch a. a ≡ asked_of old.maker batch)
     → AddsAnswer Calls old new at answer → HasAsked at old e → Employs new (answered at answer e)

@@ -1,9 +1,9 @@
--- Texts of answers, where they are wanted.
+-- Texts of answers, which are empty if answers aren't wanted.
 use Rattle.std.proofs.Common.{◌≡◌, ℕ, Bool, true, false, List, [], ◌++◌, refl, sym, ap, ◌∙◌}
 use Rattle.std.proofs.lemmas.List.{append-nil}
 use Rattle.kcl_sim.specs.Keeping.{if_wanted}
 
--- one after another
+-- Two texts, one after the other.
 pub joined : (wanted : Bool) (xs ys : List ℕ) → if_wanted wanted xs ++ if_wanted wanted ys ≡ if_wanted wanted (xs ++ ys)
 joined true xs ys = refl
 joined false xs ys = refl
@@ -12,11 +12,11 @@ pub none_wanted : (wanted : Bool) → [] ≡ if_wanted wanted []
 none_wanted true = refl
 none_wanted false = refl
 
--- where they are, the text was added
+-- If answers are wanted, the text was added.
 pub said : (wanted : Bool) (text before after : List ℕ) → true ≡ wanted → after ≡ before ++ text
     → after ≡ before ++ if_wanted wanted text
 said wanted text before after is wrote = wrote ∙ ap (λ w. before ++ if_wanted w text) is
 
--- where they aren't, nothing was
+-- If answers aren't wanted, nothing was added.
 pub unsaid : (wanted : Bool) (text before : List ℕ) → false ≡ wanted → before ≡ before ++ if_wanted wanted text
 unsaid wanted text before is = sym (append-nil before) ∙ ap (λ w. before ++ if_wanted w text) is

@@ -1,4 +1,4 @@
--- What a line of a schedule makes of a run, and what it adds to the output.
+-- What a line of a schedule makes of a run, and what the line adds to the output.
 use Rattle.std.specs.Prelude.{ℕ, List, [], ◌∷◌, ◌++◌, codes, decimal, length, Bool, false, Option, Some, None}
 use Rattle.std.specs.Prelude.{option_map, Result, Ok, Err}
 use Rattle.kds_base.specs.declared.lease_key.ShardRef.{ShardRef}
@@ -23,12 +23,12 @@ use Rattle.kcl_script.specs.declared.line.Line.TheVariants.{Api, Hand, Raw, Step
 use Rattle.kcl_sim.specs.Workers.{Employed, actor_at, all_called, answered, command_at, employed_by, hired, release_by}
 use Rattle.kcl_sim.specs.Workers.{stopped, with_employed}
 
--- a space and the body, unless it is empty
+-- A space and the body, unless the body is empty.
 abbrev pub body_part : List ℕ → List ℕ
 body_part [] = []
 body_part (b ∷ bs) = 32 ∷ b ∷ bs
 
--- a line of output: a status and a body
+-- A line of output: a status and a body.
 abbrev pub printed : ℕ × List ℕ → List ℕ
 printed r = decimal r.0 ++ (body_part r.1 ++ 10 ∷ [])
 
@@ -38,20 +38,20 @@ pub record Ran : Type 0 where
   pub history : List Turn
   pub workers : List Employed
 
--- a run of no line
+-- A run of no line.
 abbrev pub fresh : Ran
 fresh = record { history = []; workers = [] }
 
 abbrev pub with_turn : Ran → Turn → Ran
 with_turn ran turn = record ran { history = turn ∷ ran.history }
 
--- the worker of an actor becomes this
+-- The run after the worker of the actor `by` became `e`.
 abbrev pub with_worker : Ran → ℕ → Employed → Ran
 with_worker ran by e = record ran { workers = with_employed by e ran.workers }
 
--- ---- requests and raw lines
+-- ---- Requests and raw lines
 
--- the history with a request. A request with a fault is no turn
+-- The history with a request. A request with a fault isn't a turn.
 abbrev pub requested : List Turn → ℕ → Result Command Fault → List Turn
 requested h at (Ok what) = request_turn at what ∷ h
 requested h at (Err f) = h
@@ -60,29 +60,29 @@ abbrev pub request_output : List Turn → ℕ → Result Command Fault → List 
 request_output h at (Ok what) = printed (reply_of (answer h (request_turn at what)))
 request_output h at (Err f) = printed (fault_reply f)
 
--- the turn of a command for leases, by its actor
+-- The turn of a command on leases, by the actor `by` at the moment `at`.
 abbrev pub raw_turn : ℕ → ℕ → Command → Turn
 raw_turn at by what = record { by = by; at = at; what = what }
 
--- its output: the text of the answer
+-- The output of the turn `turn`: the text of its answer.
 abbrev pub raw_output : List Turn → Turn → Bool → List ℕ
 raw_output h turn long = answer_text long (answer h turn) ++ 10 ∷ []
 
--- ---- steps of workers
+-- ---- Steps of workers
 
--- the turn of a worker whose calls were made, where a command comes next
+-- The run after the turn of a worker whose calls were made, if a command comes next.
 abbrev pub with_command : Ran → ℕ → ℕ → Employed → Option Command → Ran
 with_command ran at by e None = with_worker ran by e
 with_command ran at by e (Some what) =
     with_worker (with_turn ran (raw_turn at by what)) by (answered at (answer ran.history (raw_turn at by what)) e)
 
--- its output: the command and the answer, or that it is idle
+-- The output of a step: the command and the answer, or that the worker is idle.
 abbrev pub command_output : List Turn → ℕ → ℕ → Option Command → List ℕ
 command_output h at by None = codes "idle" ++ 10 ∷ []
 command_output h at by (Some what) =
     command_text what ++ (codes " = " ++ (answer_text false (answer h (raw_turn at by what)) ++ 10 ∷ []))
 
--- all calls that are due are made, and then comes the turn
+-- The run after a step: all due calls are made, and then comes the turn.
 abbrev pub with_step : Ran → ℕ → ℕ → Option Employed → Ran
 with_step ran at by None = ran
 with_step ran at by (Some e) = with_command ran at by (all_called e) (command_at at (all_called e))
@@ -91,7 +91,7 @@ abbrev pub step_output : Ran → ℕ → ℕ → Option Employed → List ℕ
 step_output ran at by None = codes "none" ++ 10 ∷ []
 step_output ran at by (Some e) = command_output ran.history at by (command_at at (all_called e))
 
--- ---- stops
+-- ---- Stops
 
 abbrev pub with_stop : Ran → ℕ → Option Employed → Ran
 with_stop ran by None = ran
@@ -101,16 +101,16 @@ abbrev pub stop_output : Option Employed → List ℕ
 stop_output None = codes "none" ++ 10 ∷ []
 stop_output (Some e) = codes "stopping" ++ 10 ∷ []
 
--- ---- hand-offs
+-- ---- Hand-offs
 
--- the worker released a lease of the key, and its hand-off ran: the history, and what happened to the worker and to the
--- hand-off
+-- The run after the worker `e` released a lease of the key `key`, and the hand-off of this lease ran. It has the
+-- history after `run`, and what happened to the worker and to the hand-off.
 abbrev pub with_hand_run : Ran → ℕ → ShardRef → Employed → HandRun → Ran
 with_hand_run ran by key e run =
     with_worker (record ran { history = run.history }) by
     (record e { past = with_hand key run.hand.since e.made e.past })
 
--- it runs to its end at this moment, where one is released
+-- The run after the hand-off ran to its end at the moment `at`, if a lease was released.
 abbrev pub with_release : Ran → ℕ → ℕ → ShardRef → Employed → Option Release → Ran
 with_release ran at by key e None = ran
 with_release ran at by key e (Some r) = with_hand_run ran by key e (hand_run at by ran.history (hand_of r []))
@@ -119,7 +119,7 @@ abbrev pub with_handed : Ran → ℕ → ℕ → ShardRef → Option Employed �
 with_handed ran at by key None = ran
 with_handed ran at by key (Some e) = with_release ran at by key e (release_by key (Some e))
 
--- its output: each command with its answer, and how it ended; or that nothing is released
+-- The output of a hand-off: each command with its answer, and how the hand-off ended, or that nothing was released.
 abbrev pub deal_text : Deal → List ℕ
 deal_text deal = command_text deal.what ++ (codes " = " ++ (answer_text false deal.answer ++ codes "; "))
 
@@ -138,19 +138,19 @@ abbrev pub hand_output : List Turn → ℕ → ℕ → Option Release → List �
 hand_output h at by None = codes "none" ++ 10 ∷ []
 hand_output h at by (Some r) = run_text (hand_run at by h (hand_of r []))
 
--- the history in which at most so many of its commands ran
+-- The history after at most the first `n` commands of the hand-off.
 abbrev pub history_at : ℕ → List Turn → ℕ → ℕ → Release → List Turn
 history_at n h at by r = (run_hand n at by h (hand_of r [])).history
 
--- so of a line, where it is a hand-off that releases something
+-- The history after at most the first `n` commands of the line, if the line is a hand-off that releases something.
 abbrev pub part_of : ℕ → Ran → Line → Option (List Turn)
 part_of n ran (Hand at by key) =
     option_map (history_at n ran.history at by) (release_by key (employed_by by ran.workers))
 part_of n ran _ = None
 
--- ---- lines
+-- ---- Lines
 
--- the run with a line. A raw line is always a turn, also where it is refused
+-- The run with a line. A raw line is always a turn, even if it is refused.
 abbrev pub with_line : Ran → Line → Ran
 with_line ran (Api at operation body) = record ran { history = requested ran.history at (asked operation body) }
 with_line ran (Raw at by what long) = with_turn ran (raw_turn at by what)
@@ -159,7 +159,7 @@ with_line ran (Step at by) = with_step ran at by (employed_by by ran.workers)
 with_line ran (Stop at by) = with_stop ran by (employed_by by ran.workers)
 with_line ran (Hand at by key) = with_handed ran at by key (employed_by by ran.workers)
 
--- what a line adds to the output of a run
+-- What a line adds to the output of a run.
 abbrev pub output_of : Ran → Line → List ℕ
 output_of ran (Api at operation body) = request_output ran.history at (asked operation body)
 output_of ran (Raw at by what long) = raw_output ran.history (raw_turn at by what) long
@@ -168,12 +168,12 @@ output_of ran (Step at by) = step_output ran at by (employed_by by ran.workers)
 output_of ran (Stop at by) = stop_output (employed_by by ran.workers)
 output_of ran (Hand at by key) = hand_output ran.history at by (release_by key (employed_by by ran.workers))
 
--- the run with lines, one after another
+-- The run with the lines, one after another.
 abbrev pub with_schedule : Ran → List Line → Ran
 with_schedule ran [] = ran
 with_schedule ran (l ∷ ls) = with_schedule (with_line ran l) ls
 
--- the output of lines in a run
+-- The output of the lines in a run.
 abbrev pub outputs : Ran → List Line → List ℕ
 outputs ran [] = []
 outputs ran (l ∷ ls) = output_of ran l ++ outputs (with_line ran l) ls

@@ -17,12 +17,12 @@ use Rattle.kcl_sim.specs.Keeping.{AddsText, if_wanted}
 use Rattle.kcl_sim.specs.Output.{Ran, command_output, output_of, part_of, raw_turn, with_line}
 use Rattle.kcl_sim.specs.Workers.{Employed, all_called, answered, command_at, place_of}
 
--- a worker whose processors are of the kinds in stock
+-- A worker whose processors are ready-made ones.
 abbrev pub Stepped : Type 0
 Stepped = WorkerStanding Stock Kind
 
--- the turns that ran, the newest first, those of them that ran before the text of turns was last emptied, the workers,
--- and whether memory ran out in a step or a hand-off of one
+-- The turns that ran, the newest first, those of them that ran before the text of the turns was last emptied, the
+-- workers, and whether memory ran out in a step or a hand-off of a worker.
 pub record SimValue : Type 0 where
   pub history : List Turn
   pub told : List Turn
@@ -32,89 +32,90 @@ pub record SimValue : Type 0 where
 abbrev pub turned : SimValue → Turn → SimValue
 turned s turn = record s { history = turn ∷ s.history }
 
--- no command of it waits for its answer
+-- No command of the worker waits for its answer.
 abbrev pub IsFree : Stepped → Type 0
 IsFree w = w.waiting ≡ None
 
--- the worker is that of this record
+-- The worker `w` is that of the record `e`.
 pub record Employs (w : Stepped) (e : Employed) : Type 0 where
   pub made : w.made ≡ e.made
   pub kind : (batch : List Stored) → asked_of w.maker batch ≡ asked_of e.kind batch
   pub stands : StandsFor Calls w (worker_past e.past)
 
--- each of them is that of its own
+-- Each worker is that of the record at the same index.
 abbrev pub EmployAll : List Stepped → List Employed → Type 0
 EmployAll [] [] = Unit {0}
 EmployAll (w ∷ ws) (e ∷ es) = Employs w e × EmployAll ws es
 EmployAll [] (e ∷ es) = ⊥
 EmployAll (w ∷ ws) [] = ⊥
 
--- the turns are those of the run, and so are the workers, unless memory ran out in a step or a hand-off
+-- The turns of `s` are those of the run `ran`, and so are the workers, unless memory ran out in a step or a hand-off.
 pub record RunsSo (s : SimValue) (ran : Ran) : Type 0 where
   pub history : s.history ≡ ran.history
   pub workers : s.over ≡ false → EmployAll s.workers ran.workers
 
--- ---- what a line does
+-- ---- What a line does
 
--- the line was run after this run: its output was added, where answers are wanted, the run is that with the line, and
--- it isn't over
+-- The line was run after the run `ran`. Its output was added if answers are wanted, `s` is the run with the line, and
+-- `s` isn't over.
 pub record GoesOn (wanted : Bool) (s : SimValue) (ran : Ran) (line : Line) (before after : List ℕ) : Type 0 where
   pub made : RunsSo s (with_line ran line)
   pub wrote : after ≡ before ++ if_wanted wanted (output_of ran line)
   pub going : s.over ≡ false
 
--- what is told of a line was added: its answer, or where answers aren't wanted the text of its turns
+-- What is told of a line was added: its answer if answers are wanted, and otherwise the text of its turns.
 abbrev pub IsTold : Bool → (List Turn → List ℕ) → Ran → Line → List ℕ → List ℕ → Type 0
 IsTold true text ran line before after = after ≡ before ++ output_of ran line
 IsTold false text ran line before after = AddsText (text ran.history) (text (with_line ran line).history) before after
 
--- the line was run after this run, and what is told of it was added
+-- The line was run after the run `ran`, and what is told of it was added.
 pub record Tells (wanted : Bool) (text : List Turn → List ℕ) (s : SimValue) (ran : Ran) (line : Line)
     (before after : List ℕ) : Type 0 where
   pub made : RunsSo s (with_line ran line)
   pub wrote : IsTold wanted text ran line before after
 
--- memory ran out: the line was run or not
+-- Memory ran out, and the line was run or not.
 abbrev pub MayHaveRun : SimValue → Ran → Line → Type 0
 MayHaveRun s ran line = RunsSo s ran ⊎ RunsSo s (with_line ran line)
 
--- memory ran out in the middle of the line, which is a hand-off: the first so many of its turns ran, and the run is
--- over
+-- Memory ran out in the middle of the line, which is a hand-off. The first turns of the line, at most three, ran, and
+-- the run is over.
 pub record HasRunPart (s : SimValue) (ran : Ran) (line : Line) : Type 0 where
   pub ran_of_it : ℕ
   pub few : ran_of_it ≤ 3
   pub history : part_of ran_of_it ran line ≡ Some s.history
   pub over : s.over ≡ true
 
--- memory ran out: the line was run, or not, or in part
+-- Memory ran out, and the line was run, or not, or in part.
 abbrev pub MayHaveBroken : SimValue → Ran → Line → Type 0
 MayHaveBroken s ran line = MayHaveRun s ran line ⊎ HasRunPart s ran line
 
--- at most three turns more
+-- `new` has at most three more turns than `old`.
 pub record GrowsFew (old new : List Turn) : Type 0 where
   pub more : List Turn
   pub few : length more ≤ 3
   pub grows : new ≡ more ++ old
 
--- ---- steps
+-- ---- Steps
 
--- the place of an actor's worker, among so many
+-- The index of the worker of the actor `by` among `count` workers, if the actor has one.
 abbrev pub place_among : ℕ → ℕ → Option ℕ
 place_among by count =
     if nat_le by MOST_ACTOR then None else (if nat_lt (place_of by) count then Some (place_of by) else None)
 
--- the worker of this record was asked for a command at this moment, and waits for the answer
+-- The worker of the record `e` was asked for a command at the moment `at`, and waits for the answer.
 pub record HasAsked (at : ℕ) (w : Stepped) (e : Employed) : Type 0 where
   pub made : w.made ≡ e.made
   pub kind : (batch : List Stored) → asked_of w.maker batch ≡ asked_of e.kind batch
   pub stands : StandsFor Calls w (Gave_command at ∷ worker_past e.past)
 
--- the worker that was asked for this command at this moment, after this history, took its answer
+-- The worker `w`, which was asked for the command `what` at the moment `at` after the history `h`, took the answer and
+-- became `v`.
 abbrev pub TookAnswer : ℕ → ℕ → Command → List Turn → Stepped → Stepped → Type 0
 TookAnswer at by what h w v =
     IsFree v × ((e : Employed) → HasAsked at w e → Employs v (answered at (answer h (raw_turn at by what)) e))
 
--- the worker at a place became another, which has this to do with it
+-- The worker at the index `place` became another one, and `R` relates the two.
 pub record ChangedAt (place : ℕ) (R : Stepped → Stepped → Type 0) (old new : List Stepped) : Type 0 where
   pub was : Stepped
   pub stood : slice_get old place ≡ Some was
@@ -122,30 +123,30 @@ pub record ChangedAt (place : ℕ) (R : Stepped → Stepped → Type 0) (old new
   pub stands : new ≡ slice_set old place is
   pub related : R was is
 
--- the history after a step that gave this command, or none
+-- The history after a step that gave a command, or none.
 abbrev pub history_after : List Turn → ℕ → ℕ → Option Command → List Turn
 history_after h at by None = h
 history_after h at by (Some what) = raw_turn at by what ∷ h
 
--- and its worker
+-- The record of the worker after a step that gave a command, or none.
 abbrev pub employed_after : List Turn → ℕ → ℕ → Option Command → Employed → Employed
 employed_after h at by None e = all_called e
 employed_after h at by (Some what) e = answered at (answer h (raw_turn at by what)) (all_called e)
 
--- all calls that were due were made, this command came next, or none, and its answer was taken
+-- All due calls were made, the command `what` came next, or none, and its answer was taken.
 abbrev pub MadeStep : ℕ → ℕ → Option Command → List Turn → Stepped → Stepped → Type 0
 MadeStep at by what h w v =
     IsFree v × ((e : Employed) → Employs w e → (command_at at (all_called e) ≡ what)
     × Employs v (employed_after h at by what e))
 
--- a step of the worker at a place, which gave the command that comes next, where one does
+-- The worker at the index `place` made a step, which gave the command that comes next, if there is one.
 pub record StepsAt (wanted : Bool) (at by place : ℕ) (old new : SimValue) (before after : List ℕ) : Type 0 where
   pub what : Option Command
   pub history : new.history ≡ history_after old.history at by what
   pub workers : ChangedAt place (MadeStep at by what old.history) old.workers new.workers
   pub wrote : after ≡ before ++ if_wanted wanted (command_output old.history at by what)
 
--- memory ran out after its turn ran
+-- Memory ran out after the turn of the step had run.
 pub record TurnRan (at by place : ℕ) (old new : SimValue) : Type 0 where
   pub was : Stepped
   pub stood : slice_get old.workers place ≡ Some was

@@ -1,4 +1,4 @@
--- Lists: what a test finds or keeps.
+-- What a test finds in a list, or keeps of it.
 use Rattle.std.proofs.Common.{◌≡◌, ℕ, zero, suc, ◌+◌, ◌≤◌, List, [], ◌∷◌, ◌++◌, length, map, take, drop, Bool, true}
 use Rattle.std.proofs.Common.{Some, refl, ap, ◌∙◌, arith, inl, inr, subst}
 use Rattle.std.proofs.lemmas.Bool.{cases_Bool}
@@ -7,7 +7,7 @@ use Rattle.std.specs.List.{AllByRecursion, filter, find}
 use Rattle.std.specs.Prelude.{◌&&◌}
 use Rattle.kds_defs.specs.Streams.{numbers_from}
 
--- what is found has what each has
+-- What is found has each fact that holds of all.
 pub found_is : {A : Type 0} (P : A → Type 0) (p : A → Bool) (xs : List A) (x : A) → AllByRecursion P xs
     → find p xs ≡ Some x → P x
 found_is P p [] x all h = absurd (cc)
@@ -27,18 +27,18 @@ pub unmapped : {A B : Type 0} (Q : B → Type 0) (f : A → B) (xs : List A) →
 unmapped Q f [] all = tt
 unmapped Q f (x ∷ xs) all = (all.0, unmapped Q f xs all.1)
 
--- two tests, one after the other
+-- Two tests, one after the other, keep what passes both.
 pub both_tests : {A : Type 0} (p q : A → Bool) (xs : List A) → filter (λ x. q x && p x) xs ≡ filter q (filter p xs)
 both_tests p q [] = refl
 both_tests p q (x ∷ xs) = grind (arith, both_tests p q xs)
 
--- two tests that agree on each
+-- Two tests that agree on each item keep the same items.
 pub same_kept : {A : Type 0} (p q : A → Bool) (xs : List A) → AllByRecursion (λ x. p x ≡ q x) xs
     → filter p xs ≡ filter q xs
 same_kept p q [] all = refl
 same_kept p q (x ∷ xs) all = grind (arith, all.0, same_kept p q xs all.1)
 
--- ---- numbers
+-- ---- Numbers
 
 pub up_to : (n count most : ℕ) → n + count ≤ most + 1 → AllByRecursion (λ s. s ≤ most) (numbers_from n count)
 up_to n zero most h = tt
@@ -50,7 +50,7 @@ one_more n (suc count) =
     let e : n + 1 + count ≡ n + suc count = omega arith in
     ap (λ ns. n ∷ ns) (one_more (n + 1) count ∙ ap (λ m. numbers_from (n + 1) count ++ m ∷ []) e)
 
--- ---- each is replaced, one after another
+-- ---- Each item is replaced, one after another
 
 pub all_done : {A : Type 0} (f : A → A) (xs : List A) (i : ℕ) → length xs ≤ i
     → map f (take i xs) ++ drop i xs ≡ map f xs

@@ -1,4 +1,4 @@
--- What a scribe tells of a turn, and knows after it.
+-- What a scribe tells of a turn, and what it knows after the turn.
 use Rattle.std.proofs.Common.{false, ◌≡◌, ℕ, ◌+◌, ◌≤◌, max, List, [], ◌∷◌, ◌++◌, map, refl, sym, ap, ◌∙◌, subst}
 use Rattle.std.specs.Prelude.{◌==◌, Ok, Err}
 use Rattle.kds_defs.specs.declared.command.Command.{Command}
@@ -80,7 +80,7 @@ module _ (s : ScribeValue) (log : Journal) (c by : ℕ) (k : Knows log s.made s.
       → Noted s log c by what lines r
   all what lines r is lawful = all_of what lines r is (tells log c by s.made s.streams k what lines r is) lawful
 
--- ---- turns
+-- ---- Turns
 
 pub record NotedTurn (s : ScribeValue) (h : List Turn) (turn : Turn) (d : Decision) (r : Reply) : Type 0 where
   pub can : CanTell s turn.what
@@ -111,14 +111,14 @@ refused s h turn q st e =
     let none = refused_by (decision (journal h) (clock (turn ∷ h)) turn) q e in
     (ap (map told_by) (sym none), subst (λ ls. Knows (with_lines ls (journal h)) s.made s.streams) (sym none) st.knows)
 
--- the scribe at the turn's clock
+-- The scribe stands for the history with the turn, at the turn's clock.
 pub stands_at : (s t : ScribeValue) (h : List Turn) (turn : Turn) → StandsFor s h → t.clock ≡ max s.clock turn.at
     → Knows (journal (turn ∷ h)) t.made t.streams
     → StandsFor t (turn ∷ h)
 stands_at s t h turn st clock_is knows =
     record { clock_is = ap (λ n. max n turn.at) st.clock_is ∙ sym clock_is; knows = knows }
 
--- ---- as the code tells
+-- ---- The lines as the code tells them
 
 pub is_other : (what : Command) → ((name : List ℕ) (count : ℕ) → what ≡ command.Create name count → ⊥) → IsOther what
 is_other (command.Create name count) h = h name count refl
@@ -135,7 +135,7 @@ pub other_after : (s : ScribeValue) (what : Command)
 other_after s (command.Create name count) r o = absurd o
 other_after s what r o = refl
 
--- the streams after the entries of lines
+-- The streams after the entries of lines are those after the entries.
 pub changed_lines : (c by : ℕ) (es : List Entry) (vs : List Known)
     → changed_by (map (λ (l : EntryLine). l.what) (lines_by c by es)) vs ≡ changed_by es vs
 changed_lines c by es vs = ap (λ xs. changed_by xs vs) (what_of c by es)

@@ -1,4 +1,4 @@
--- What a scribe knows of a journal, after a line of it other than the making of a stream.
+-- What a scribe knows of a journal after a line that doesn't make a stream.
 use Rattle.std.proofs.Common.{◌≡◌, ℕ, ◌+◌, ◌<◌, ◌≤◌, List, [], ◌∷◌, length, map, Bool, true, false, refl, sym, ap, ◌∙◌}
 use Rattle.std.proofs.Common.{arith, inl, inr, subst}
 use Rattle.std.proofs.lemmas.Bool.{cases_Bool, eqb-true, ne_eqb}
@@ -21,7 +21,7 @@ use Rattle.kcl_sim_scribe.proofs.Lists.{all_kept, both_tests, mapped, same_kept,
 abbrev pub no_of : Known → ℕ
 no_of v = v.no
 
--- ---- the stream of a name
+-- ---- The stream of a name
 
 named_among : (log : Journal) (name : List ℕ) (vs : List Known) → AllByRecursion (IsKnown log) vs
     → find (λ s. same_name (name_of log s) name) (map no_of vs) ≡ option_map no_of (known_as name vs)
@@ -32,14 +32,14 @@ pub named_is : (log : Journal) (made : ℕ) (vs : List Known) (name : List ℕ) 
     → stream_named log name ≡ option_map no_of (known_as name vs)
 named_is log made vs name k = ap (find (λ s. same_name (name_of log s) name)) k.live ∙ named_among log name vs k.known
 
--- a live stream was made
+-- A live stream was made.
 pub live_below : (log : Journal) → AllByRecursion (λ s. s ≤ made_count log) (live_streams log)
 live_below log = all_filter (λ s. s ≤ made_count log) (is_live log) (numbers_from 1 (made_count log))
     (up_to 1 (made_count log) (made_count log) (omega arith))
 
--- ---- lines
+-- ---- Lines
 
--- the line draws the next number of a stream that was made, and its children come after the stream's shards
+-- The line uses the next number of a stream that was made, and its children come after the stream's shards.
 abbrev pub Fits : Journal → Entry → Type 0
 Fits log (entry.Made s name count) = ⊥
 Fits log (entry.Put s sh number hash bytes key_bytes) =
@@ -67,7 +67,7 @@ lives : (log : Journal) (e : Entry) (n : ℕ) (b : Bool) → Fits log e → is_l
 lives log (entry.Made s name' count) n b f = absurd f
 lives log _ n b f = refl
 
--- ---- what a line draws
+-- ---- The numbers that a line uses
 
 other_stream : (s n m : ℕ) → s ≤ m → m < n → (s == n) ≡ false
 other_stream s n m a b = ne_eqb s n (λ e. absurd (omega arith))
@@ -78,9 +78,9 @@ none_drawn log (entry.Split s sh at q low high) n f h = rw (other_stream s n (ma
 none_drawn log (entry.Merged s sh other q child) n f h = rw (other_stream s n (made_count log) f.0 h) refl
 none_drawn log _ n f h = refl
 
--- ---- a stream that is known
+-- ---- A stream that is known
 
--- what an entry leaves of a stream's readings
+-- What an entry leaves of the journal's readings of a stream.
 record Kept (log : Journal) (line : Line) (e : Entry) (v w : Known) : Type 0 where
   same : w.no ≡ v.no
   name : w.name ≡ v.name
@@ -98,7 +98,7 @@ as_before log line e v k none shards_same = record {
   left = k.left;
 }
 
--- ... where the entry draws a number of a stream, whose last shard is then this one
+-- `Kept` holds if the entry uses a number of a stream, whose last shard then has the number `last`.
 drawn_kept : (log : Journal) (line : Line) (e : Entry) (s q last : ℕ) (v : Known) → IsKnown log v
     → q ≡ next_number log s → q < last_number
     → draws e v.no ≡ (if s == v.no then 1 else 0)
@@ -149,7 +149,7 @@ known_after log line v f k =
     } in
     subst (λ (m : ℕ). IsKnown (line ∷ log) (record w { no = m })) (sym n.same) here
 
--- ---- the live streams
+-- ---- The live streams
 
 same_no : (log : Journal) (line : Line) (e : Entry) (v : Known) → Fits log e → IsKnown log v
     → (renumbered e v).no ≡ v.no
@@ -176,7 +176,7 @@ live_after log line made vs f k =
     ∙ ap (filter (λ s. not (is_gone line.what s))) k.live
     ∙ gone_among log line line.what vs f k.known
 
--- ---- lines, one after another
+-- ---- Lines, one after another
 
 pub knows_after : (log : Journal) (line : Line) (made : ℕ) (vs : List Known) → Fits log line.what → Knows log made vs
     → Knows (line ∷ log) made (changed line.what vs)
@@ -198,7 +198,7 @@ knows_all log [] made vs f k = k
 knows_all log (line ∷ lines) made vs f k =
     knows_all (line ∷ log) lines made (changed line.what vs) f.1 (knows_after log line made vs f.0 k)
 
--- an entry that says of no stream that it is gone leaves each
+-- An entry that doesn't say that a stream is gone leaves each stream in the list.
 pub stay : (e : Entry) → ((s : ℕ) → e ≡ entry.Gone s → ⊥) → (vs : List Known)
     → filter (λ v. not (is_gone e v.no)) vs ≡ vs
 stay (entry.Gone s) h vs = absurd (h s refl)

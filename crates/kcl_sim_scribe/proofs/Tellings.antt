@@ -1,4 +1,4 @@
--- The lines of a command that was accepted are those that a scribe tells.
+-- The lines of an accepted command are those that a scribe tells.
 use Rattle.std.proofs.Common.{◌≡◌, ℕ, suc, ◌+◌, ◌<◌, ◌≤◌, List, [], ◌∷◌, length, map, false, Option, Some, None, refl}
 use Rattle.std.proofs.Common.{sym, ap, ◌∙◌, arith, inl, inr, ◌⊎◌}
 use Rattle.std.proofs.lemmas.Bool.{cases_Bool, or_parts}
@@ -30,7 +30,7 @@ use Rattle.kcl_sim_scribe.specs.Telling.{put_entries, put_entry}
 use Rattle.kcl_sim_scribe.proofs.Lists.{found_is}
 use Rattle.kcl_sim_scribe.proofs.Readings.{FitAll, live_below, named_is, no_of}
 
--- ---- numbers and names
+-- ---- Numbers and names
 
 one_of : (o : Option Known) (s : ℕ) → option_map no_of o ≡ Some s → (v : Known) × (o ≡ Some v) × (v.no ≡ s)
 one_of None s h = absurd (cc)
@@ -42,7 +42,7 @@ below_last n d e l h = grind (arith, nat_tests, e, l, h)
 at_most : (n m : ℕ) → nat_lt n m ≡ false → m ≤ n
 at_most n m h = grind (arith, nat_tests, h)
 
--- ---- puts and steps, one after another
+-- ---- Puts and steps, one after another
 
 puts_fit : (log : Journal) (c by s : ℕ) (items : List NewItem) → s ≤ made_count log
     → next_number log s + length (put_lines log c by s items) ≤ last_number
@@ -72,7 +72,7 @@ puts_told log c by s (item ∷ items) =
       puts_told (put_line log c by s (next_number log s) item ∷ log) c by s items,
     )
 
--- where no item or no outcome is left, there is no further entry
+-- If no item or no outcome is left, there is no further entry.
 pub none_put : (s : ℕ) (items : List NewItem) (outcomes : List Outcome) → (items ≡ []) ⊎ (outcomes ≡ [])
     → put_entries s items outcomes ≡ []
 none_put s [] outcomes h = refl
@@ -113,9 +113,9 @@ read_told : (rs : List Logged) → map (λ (r : Logged). r.seq) rs ≡ numbers_r
 read_told [] = refl
 read_told (r ∷ rs) = ap (λ ns. r.seq ∷ ns) (read_told rs)
 
--- ---- what each command tells
+-- ---- What each command tells
 
--- it makes no stream
+-- The command makes no stream.
 abbrev pub IsOther : Command → Type 0
 IsOther (command.Create name count) = ⊥
 IsOther _ = Unit {0}
@@ -127,7 +127,7 @@ pub record Told (log : Journal) (c by : ℕ) (vs : List Known) (what : Command) 
   pub told : map told_by lines ≡ lines_by c by (entries_of vs what r)
 
 module _ (log : Journal) (c by made : ℕ) (vs : List Known) (k : Knows log made vs) where
-  -- what is known of a stream that a name finds
+  -- What is known of a stream that is found by a name.
   in_named : {A : Type 0} (name : List ℕ) (s : ℕ) → stream_named log name ≡ Some s
       → ((v : Known) → known_as name vs ≡ Some v → s ≡ v.no → s ≤ made_count log → next_number log s ≡ v.drawn + 1
       → length (shards log s) ≡ v.shard + 1
@@ -141,7 +141,7 @@ module _ (log : Journal) (c by made : ℕ) (vs : List Known) (k : Knows log made
       each m.0 m.1 (sym m.2) below (ap (next_number log) (sym m.2) ∙ known.next)
       (ap (λ n. length (shards log n)) (sym m.2) ∙ known.many) known.left
 
-  -- the one line of a command
+  -- The scribe tells the one line of a command.
   tells_line : (what : Command) (line : Line) (r : Reply) → walks.Tells log c by what line r → IsOther what
       → Told log c by vs what (line ∷ []) r
   tells_line _ _ _ (walks.Creates name count fits) other = absurd other
@@ -186,7 +186,7 @@ module _ (log : Journal) (c by made : ℕ) (vs : List Known) (k : Knows log made
   }
   tells_line _ _ _ _ other = record { can = tt; fits = (tt, tt); told = refl }
 
-  -- any command but the making of a stream
+  -- The scribe tells the lines of any command that doesn't make a stream.
   pub tells : (what : Command) (lines : List Line) (r : Reply) → walks.Outcome log c by what lines (Ok r) → IsOther what
       → Told log c by vs what lines r
   tells _ _ _ (walks.Answers _ _ (walks.Surveys keys rows)) other = record { can = tt; fits = tt; told = refl }

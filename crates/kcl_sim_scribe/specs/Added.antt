@@ -7,22 +7,22 @@ use Rattle.kcl_journal.specs.declared.line.EntryLine.{EntryLine}
 use Rattle.kcl_journal.specs.declared.line.TheConstants.{VERSION}
 use Rattle.kcl_journal.specs.Entries.{end_spelling, entry_spelling, heading}
 
--- a line as the text shows it: without a put's key and payload
+-- A line as the text shows it, without a put's key and payload.
 abbrev pub told_by : Line → EntryLine
 told_by line = record { clock = line.clock; by = line.by; what = line.what }
 
--- the lines that a turn adds after a history
+-- The lines that the turn `turn` adds after the history `h`.
 abbrev pub added_entries : List Turn → Turn → List EntryLine
 added_entries h turn = map told_by (lines_of (decision (journal h) (clock (turn ∷ h)) turn))
 
--- the lines of a history's journal, the oldest first
+-- The lines of a history's journal, the oldest first.
 abbrev pub history_entries : List Turn → List EntryLine
 history_entries h = reverse (map told_by (journal h))
 
--- the text of lines, each with its line feed
+-- The text of the lines, each with its line feed.
 abbrev pub entries_text : List EntryLine → List ℕ
 entries_text lines = flat_map (λ line. entry_spelling VERSION line ++ 10 ∷ []) lines
 
--- the text of a history's journal: the first line, the entries, and the last line with the history's clock
+-- The text of a history's journal: the first line, the entries, and the last line with the history's clock.
 abbrev pub journal_text : List Turn → List ℕ
 journal_text h = heading ++ 10 ∷ (entries_text (history_entries h) ++ (end_spelling (clock h) ++ 10 ∷ []))

@@ -12,47 +12,50 @@ use Rattle.kds_defs.specs.Shards.{shards}
 use Rattle.kds_defs.specs.StreamCommands.{last_number}
 use Rattle.kds_defs.specs.Streams.{live_streams, made_count, name_of, same_name}
 
--- a live stream: its number, its name, the sequence number that it drew last, or 0, and the number of its last shard
+-- A live stream: its number, its name, the last sequence number that it gave out, or 0, and the number of its last
+-- shard.
 pub record Known : Type 0 where
   pub no : ℕ
   pub name : List ℕ
   pub drawn : ℕ
   pub shard : ℕ
 
--- the clock, how many streams were made, and the live ones in the order of their numbers
+-- The clock, the number of streams that were made, and the live streams in the order of their numbers.
 pub record ScribeValue : Type 0 where
   pub clock : ℕ
   pub made : ℕ
   pub streams : List Known
 
--- the stream of a name
+-- The known stream with a name.
 abbrev pub known_as : List ℕ → List Known → Option Known
 known_as name streams = find (λ v. same_name v.name name) streams
 
--- ---- what it stands for
+-- ---- What a scribe stands for
 
--- the stream's readings of the journal, and a number that is left to be drawn
+-- What the scribe knows of the stream agrees with the journal: its name, its next number, and how many shards it has. A
+-- sequence number is left.
 pub record IsKnown (log : Journal) (v : Known) : Type 0 where
   pub named : name_of log v.no ≡ v.name
   pub next : next_number log v.no ≡ v.drawn + 1
   pub many : length (shards log v.no) ≡ v.shard + 1
   pub left : v.drawn < last_number
 
--- so many streams were made, these of them are live, and no other draws a number before it is made
+-- In the journal, `made` streams were made and `streams` are the live ones, and no sequence number was given out in a
+-- stream with a greater number.
 pub record Knows (log : Journal) (made : ℕ) (streams : List Known) : Type 0 where
   pub made_is : made_count log ≡ made
   pub live : live_streams log ≡ map (λ (v : Known). v.no) streams
   pub known : AllByRecursion (IsKnown log) streams
   pub unmade : (s : ℕ) → made < s → next_number log s ≡ 1
 
--- these are the turns that it noted, the newest first
+-- The turns that the scribe noted are those of `h`, the newest first.
 pub record StandsFor (s : ScribeValue) (h : List Turn) : Type 0 where
   pub clock_is : clock h ≡ s.clock
   pub knows : Knows (journal h) s.made s.streams
 
--- ---- what an entry changes
+-- ---- What an entry changes
 
--- the stream with the numbers that an entry gives it
+-- The stream with the numbers that an entry gives it.
 abbrev pub renumbered : Entry → Known → Known
 renumbered (entry.Put s sh number hash bytes key_bytes) v = if s == v.no then record v { drawn = number } else v
 renumbered (entry.Split s sh at number low high) v = if s == v.no then record v { drawn = number; shard = high } else v
@@ -60,21 +63,21 @@ renumbered (entry.Merged s sh other number child) v =
     if s == v.no then record v { drawn = number; shard = child } else v
 renumbered _ v = v
 
--- an entry says that this stream is gone
+-- The entry says that the stream `n` is gone.
 abbrev pub is_gone : Entry → ℕ → Bool
 is_gone (entry.Gone s) n = s == n
 is_gone _ n = false
 
--- the streams after an entry other than a making
+-- The streams after an entry that doesn't make a stream.
 abbrev pub changed : Entry → List Known → List Known
 changed e streams = filter (λ v. not (is_gone e v.no)) (map (renumbered e) streams)
 
--- and after entries, one after another
+-- The streams after entries that don't make a stream, one after another.
 abbrev pub changed_by : List Entry → List Known → List Known
 changed_by [] streams = streams
 changed_by (e ∷ entries) streams = changed_by entries (changed e streams)
 
--- a stream that was made
+-- A stream as it is made.
 abbrev pub new_known : ℕ → List ℕ → ℕ → Known
 new_known stream name count = record { no = stream; name = name; drawn = 0; shard = count - 1 }
 

@@ -1,4 +1,5 @@
--- The entries of a command that was accepted, by its reply and what a scribe knows.
+-- The entries of an accepted command, as they follow from its reply and from what a scribe knows. A scribe writes the
+-- journal.
 use Rattle.std.specs.Prelude.{◌≡◌, ℕ, ◌+◌, ◌<◌, ◌≤◌, ◌==◌, Bool, true, false, if◌then◌else◌, List, [], ◌∷◌, length, map}
 use Rattle.std.specs.Prelude.{Option, Some, None}
 use Rattle.std.specs.List.{filter}
@@ -19,26 +20,26 @@ use Rattle.kds_defs.specs.Subjects.{name_of_command}
 use Rattle.kcl_journal.specs.declared.line.EntryLine.{EntryLine}
 use Rattle.kcl_sim_scribe.specs.Known.{Known, ScribeValue, changed_by, known_as, with_made}
 
--- ---- streams
+-- ---- Streams
 
--- a record that was put
+-- The entry of a record that was put.
 abbrev pub put_entry : ℕ → NewItem → Place → Entry
 put_entry s item place = entry.Put s place.shard place.seq item.hash (length item.payload) (length item.key)
 
--- records that were put together: those that the limits held back left no entry
+-- The entries of records that were put together. Records that the limits held back have no entry.
 abbrev pub put_entries : ℕ → List NewItem → List Outcome → List Entry
 put_entries s [] outcomes = []
 put_entries s (item ∷ items) [] = []
 put_entries s (item ∷ items) (outcome.Stored place ∷ outcomes) = put_entry s item place ∷ put_entries s items outcomes
 put_entries s (item ∷ items) (outcome.Throttled sh ∷ outcomes) = put_entries s items outcomes
 
--- a step of a scaling
+-- The entry is a step of a scaling.
 abbrev pub is_step : Entry → Bool
 is_step (entry.Split s sh at number low high) = true
 is_step (entry.Merged s sh other number child) = true
 is_step _ = false
 
--- a command on this stream
+-- The entries of a command on the stream `v`.
 abbrev pub stream_entries : Known → Command → Reply → List Entry
 stream_entries v (command.Delete name) r = entry.Gone v.no ∷ []
 stream_entries v (command.Put name item) (reply.Put place) = put_entry v.no item place ∷ []
@@ -50,17 +51,17 @@ stream_entries v (command.Scale name target) (reply.Scaled of before after entri
 stream_entries v (command.Enforce name on) r = entry.Enforced v.no on ∷ []
 stream_entries v _ r = []
 
--- the name of the stream that a command changes, other than its making
+-- The name of the stream that a command changes without making it.
 abbrev pub changed_name : Command → Option (List ℕ)
 changed_name what = if is_change what then name_of_command what else None
 
--- the numbers that a split or a merge of the stream draws are there
+-- The numbers that a split or a merge of the stream uses are still available.
 abbrev pub HasNumbers : Known → Command → Type 0
 HasNumbers v (command.Split name sh at) = (v.drawn < last_number) × (v.shard + 1 < last_number)
 HasNumbers v (command.Merge name sh other) = (v.drawn < last_number) × (v.shard < last_number)
 HasNumbers v _ = Unit {0}
 
--- ---- leases
+-- ---- Leases
 
 abbrev pub numbers_read : List Stored → List ℕ
 numbers_read batch = map (λ (r : Stored). r.seq) batch
@@ -78,7 +79,7 @@ lease_entries (command.Mark t counter to) (reply.Counter n) = entry.Marked t n t
 lease_entries (command.CutLease key counter) r = entry.LeaseCut key counter ∷ []
 lease_entries _ r = []
 
--- ---- any command but a making of a stream
+-- ---- Any command that doesn't make a stream
 
 abbrev pub of_stream : Option Known → Command → Reply → List Entry
 of_stream None what r = []
@@ -95,33 +96,33 @@ abbrev pub HasNumbersIn : Option Known → Command → Type 0
 HasNumbersIn None what = Unit {0}
 HasNumbersIn (Some v) what = HasNumbers v what
 
--- where the command names a stream
+-- `HasNumbers` holds for the known stream that the command names, if there is one.
 abbrev pub MayNumber : Option (List ℕ) → List Known → Command → Type 0
 MayNumber None streams what = Unit {0}
 MayNumber (Some name) streams what = HasNumbersIn (known_as name streams) what
 
--- ---- lines
+-- ---- Lines
 
--- the line of an entry
+-- The line of an entry.
 abbrev pub line_by : ℕ → ℕ → Entry → EntryLine
 line_by clock by what = record { clock = clock; by = by; what = what }
 
 abbrev pub lines_by : ℕ → ℕ → List Entry → List EntryLine
 lines_by clock by entries = map (line_by clock by) entries
 
--- ---- a command that was accepted
+-- ---- A command that was accepted
 
--- its lines at a clock, by an actor
+-- The lines of a command at the clock `clock`, by the actor `by`.
 abbrev pub told_lines : ScribeValue → ℕ → ℕ → Command → Reply → List EntryLine
 told_lines s clock by (command.Create name count) r = line_by clock by (entry.Made (s.made + 1) name count) ∷ []
 told_lines s clock by what r = lines_by clock by (entries_of s.streams what r)
 
--- what is known after it
+-- What the scribe knows after the command.
 abbrev pub told_after : ScribeValue → Command → Reply → ScribeValue
 told_after s (command.Create name count) r = with_made name count s
 told_after s what r = record s { streams = changed_by (entries_of s.streams what r) s.streams }
 
--- the numbers that it draws are there, and a stream that it makes has a shard
+-- The numbers that the command uses are still available, and a stream that it makes has a shard.
 abbrev pub CanTell : ScribeValue → Command → Type 0
 CanTell s (command.Create name count) = ((s.made == last_number) ≡ false) × (1 ≤ count)
 CanTell s what = MayNumber (changed_name what) s.streams what

@@ -1,4 +1,4 @@
--- A key is in a list where a place of it was found.
+-- A key is in a list if an index for it was found.
 use Rattle.std.proofs.Common.{◌≡◌, ℕ, suc, ◌+◌, nat_lt, length, Bool, true, false, List, [], ◌∷◌, Some, None, refl, sym}
 use Rattle.std.proofs.Common.{◌∙◌, is_some, arith}
 use Rattle.std.specs.Prelude.{cond, not, ◌||◌, slice_get}

@@ -1,4 +1,4 @@
--- What a write at a row's place makes of the rows, and that it keeps their order.
+-- What a write at a row's place makes of the rows. The order of the rows is kept.
 use Rattle.std.proofs.Common.{◌≡◌, ℕ, suc, ◌+◌, ◌<◌, ◌≤◌, Bool, true, false, List, [], ◌∷◌, length, slice_set, Some}
 use Rattle.std.proofs.Common.{None, refl, sym, ap, subst, ◌∙◌, arith}
 use Rattle.std.specs.Prelude.{if◌then◌else◌}
@@ -18,7 +18,7 @@ use Rattle.kcl_table.specs.Writes.{written_row}
 use Rattle.kcl_table.proofs.Keys.{after_else, before_all, not_same}
 use Rattle.kcl_table.proofs.Places.{absent}
 
--- ---- the row of a key
+-- ---- The row of a key
 
 found_here : (key : ShardRef) (x r : Row) (rs : List Row) (d : Bool) → same_key x.key key ≡ d
     → (if d then Some x else row_of rs key) ≡ Some r → AreCounted (x ∷ rs)
@@ -29,14 +29,14 @@ found_here key x r rs true same h counted rest =
     subst (λ (y : Row). (y.key ≡ key) × (y.switches ≤ y.counter)) e (same_ref x.key key same, counted.0)
 found_here key x r rs false same h counted rest = rest h counted.1
 
--- it has the key, and its switches are takes
+-- The row that is found has the key, and its switches are at most its counter.
 pub found : (key : ShardRef) (r : Row) (rs : List Row) → AreCounted rs → row_of rs key ≡ Some r
     → (r.key ≡ key) × (r.switches ≤ r.counter)
 found key r [] counted h = absurd cc
 found key r (x ∷ rs) counted h =
     found_here key x r rs (same_key x.key key) refl h counted (λ g all. found key r rs all g)
 
--- a take keeps that
+-- After a take, the switches are still at most the counter.
 switches_if : (b : Bool) (n m : ℕ) → n ≤ m → (if b then n + 1 else n) ≤ m + 1
 switches_if true n m h = omega arith
 switches_if false n m h = omega arith
@@ -45,7 +45,7 @@ pub switches_taken : (tenure owner : ℕ) (r : Row) → r.switches ≤ r.counter
     → (taken_row tenure owner r).switches ≤ (taken_row tenure owner r).counter
 switches_taken tenure owner r h = switches_if (is_other r.owner owner) r.switches r.counter h
 
--- and so does a renewal, and a freeing; the key stays
+-- After a renewal or a freeing, the switches are still at most the counter. The key stays.
 pub switches_written : (change : Change) (r : Row) → r.switches ≤ r.counter
     → (written_row change r).switches ≤ (written_row change r).counter
 switches_written Renewed r h = omega arith
@@ -55,7 +55,7 @@ pub key_written : (change : Change) (r : Row) → (written_row change r).key ≡
 key_written Renewed r = refl
 key_written Freed r = refl
 
--- ---- a row in the place of another
+-- ---- A row in the place of another
 
 changed_here : (f : Row → Row) (key : ShardRef) (x r : Row) (rs : List Row) (d : Bool) → same_key x.key key ≡ d
     → (if d then Some x else row_of rs key) ≡ Some r
@@ -69,7 +69,7 @@ changed_by : (f : Row → Row) (key : ShardRef) (r : Row) (rs : List Row) → ro
 changed_by f key r [] h = absurd cc
 changed_by f key r (x ∷ rs) h = changed_here f key x r rs (same_key x.key key) refl h (changed_by f key r rs)
 
--- what is put is the row of the key, changed
+-- The row that is put is the row of the key, changed.
 pub record Puts (f : Row → Row) (key : ShardRef) (row : Row) (rs : List Row) : Type 0 where
   pub there : row_of rs row.key ≡ None → ⊥
   pub rows : changed (λ _. row) row.key rs ≡ changed f key rs
@@ -135,7 +135,7 @@ table_changed row (x ∷ rs) counted table =
     table_here row x rs (same_key x.key row.key) refl counted table
     (table_changed row rs counted (table.0.1, table.1.1))
 
--- ---- one row more
+-- ---- One row more
 
 none_of : (key : ShardRef) (x : Row) (rs : List Row) (d : Bool) → same_key x.key key ≡ d
     → (if d then Some x else row_of rs key) ≡ None → (d ≡ false) × (row_of rs key ≡ None)
@@ -196,7 +196,7 @@ table_with new (x ∷ rs) h counted table =
     with_here new x rs (is_before new.key x.key) refl n.0 counted table
     (table_with new rs n.1 counted (table.0.1, table.1.1))
 
--- ---- one row less
+-- ---- One row less
 
 remove_here : (key : ShardRef) (x r : Row) (rs : List Row) (b d : Bool) → is_before x.key key ≡ b
     → same_key x.key key ≡ d → AreInOrder (x ∷ rs) → (if d then Some x else row_of rs key) ≡ Some r

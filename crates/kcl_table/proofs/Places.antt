@@ -1,4 +1,4 @@
--- Where rows stand, and what is found there.
+-- The places of rows, and what is found there.
 use Rattle.std.proofs.Common.{◌≡◌, ℕ, zero, suc, ◌<◌, ◌≤◌, Bool, true, false, List, [], ◌∷◌, length, Some, None, refl}
 use Rattle.std.proofs.Common.{sym, ap, ◌∙◌, arith}
 use Rattle.std.specs.Prelude.{slice_get, slice_index_or, if◌then◌else◌}
@@ -10,7 +10,7 @@ use Rattle.kds_defs.specs.Keys.{is_before, same_key}
 use Rattle.kcl_table.specs.Rows.{AreInOrder, IsBeforeAll, if_key, place_of, row_of}
 use Rattle.kcl_table.proofs.Keys.{after_else, before_all, before_both, not_same, not_same_after}
 
--- the row comes before the key
+-- Whether the row comes before the key.
 abbrev pub comes_before : ShardRef → Row → Bool
 comes_before key r = is_before r.key key
 

@@ -1,4 +1,4 @@
--- What each conditional write of a row answers: what refuses it, or the row's counter after it.
+-- The answer to each conditional write of a row: a refusal, or the row's counter after the write.
 use Rattle.std.specs.Prelude.{ℕ, ◌+◌, Bool, ◌==◌, if◌then◌else◌, Option, Result, Ok, Err}
 use Rattle.kds_defs.specs.declared.command.Target.{Target}
 use Rattle.kds_defs.specs.declared.reply.Refusal.{Refusal}
@@ -10,29 +10,29 @@ use Rattle.kds_defs.specs.StreamCommands.{last_number}
 use Rattle.kcl_table.specs.declared.writes.Change.{Change}
 use Rattle.kcl_table.specs.declared.writes.Change.TheVariants as change
 
--- the counter after one more write
+-- The counter after one more write, or a refusal if the counter can't rise.
 abbrev pub counted : ℕ → Result ℕ Refusal
 counted counter = if counter == last_number then Err refusal.Spent else Ok (counter + 1)
 
--- a worker takes the row at its counter
+-- The answer if a worker takes the row at the counter `counter`.
 abbrev pub take_answer : Option Row → ℕ → Result ℕ Refusal
 take_answer o counter = past_take results o counter (λ r. r.counter == last_number) (λ r. Ok (r.counter + 1))
 
--- what follows where the row is the tenure's, at its counter
+-- The answer is `next` if the row names the tenure and has the counter.
 abbrev pub held_answer : Option Row → ℕ → ℕ → Result ℕ Refusal → Result ℕ Refusal
 held_answer o tenure counter next = past_held results o tenure counter next
 
--- the tenure renews its row, or frees it
+-- The answer if the tenure renews its row, or frees it.
 abbrev pub renew_answer : Option Row → ℕ → ℕ → Result ℕ Refusal
 renew_answer o tenure counter = past_renewal results o tenure counter (Ok (counter_in o + 1))
 
--- the row after it was renewed, or freed
+-- The row after it was renewed, or freed.
 abbrev pub written_row : Change → Row → Row
 written_row change.Renewed = renewed_row
 written_row change.Freed = freed_row
 
--- the tenure sets the checkpoint, where records below `delivered` were given, and `at_end` tells whether the
--- last read that was given ended the shard
+-- The answer if the tenure sets the checkpoint to `to`. Records below `delivered` were given, and `at_end` says whether
+-- the last read that was given ended the shard.
 abbrev pub target_answer : Option Row → Target → ℕ → Bool → Result ℕ Refusal
 target_answer o to delivered at_end = past_checkpoint results o to delivered at_end (counted (counter_in o))
 
@@ -40,6 +40,6 @@ abbrev pub mark_answer : Option Row → ℕ → ℕ → Target → ℕ → Bool 
 mark_answer o tenure counter to delivered at_end =
     past_mark results o tenure counter to delivered at_end (Ok (counter_in o + 1))
 
--- the row is removed at its counter, once its shard isn't listed
+-- The answer if the row is removed at the counter `counter`, which isn't allowed while its shard is listed.
 abbrev pub cut_answer : Option Row → ℕ → Bool → Result (Unit {0}) Refusal
 cut_answer o counter listed = past_cut results o counter listed (Ok tt)

@@ -1,4 +1,4 @@
--- A lease is among those of a worker where a place of it was found.
+-- A lease is among those of a worker if an index for it was found.
 use Rattle.std.proofs.Common.{◌≡◌, ℕ, suc, ◌+◌, nat_lt, length, Bool, true, false, List, [], ◌∷◌, Some, None, refl, sym}
 use Rattle.std.proofs.Common.{◌∙◌, is_some, arith}
 use Rattle.std.specs.Prelude.{cond, not, ◌&&◌, ◌||◌, slice_get}
@@ -37,7 +37,7 @@ pub mine_at : (r : Row) (held : List Held) (i : ℕ) (h : Held) → slice_get he
     → is_mine held r ≡ true
 mine_at r held i h at same = any_passes_from_place (is_held_at r) held i h at same
 
--- in whichever order they are asked
+-- The order of two tests doesn't matter.
 pub both_ways : (a b : Bool) → (a && b) ≡ (b && a)
 both_ways true true = refl
 both_ways true false = refl

@@ -1,4 +1,4 @@
--- Notes on rows, in the order of their keys, and read by their keys.
+-- Notes on rows in the order of their keys, and what is kept of each key.
 use Rattle.std.proofs.Common.{◌≡◌, ℕ, zero, suc, ◌<◌, ◌≤◌, length, slice_set, Bool, true, false}
 use Rattle.std.proofs.Common.{List, [], ◌∷◌, Option, Some, None, refl, sym, ap, subst, ◌∙◌, arith}
 use Rattle.std.specs.Prelude.{◌==◌, cond, if◌then◌else◌, slice_get, slice_index_or}
@@ -14,7 +14,7 @@ use Rattle.kds_defs.proofs.Keys.{same_ref}
 use Rattle.kcl_defs.specs.Plans.{after_row, after_rows, seen_at, with_sight}
 use Rattle.kcl_take.specs.Notes.{AreInOrder, IsBeforeAll, first_note, if_key, noted, noted_all, place_of}
 
--- ---- keys
+-- ---- Keys
 
 before_both : (a b c : ShardRef) → is_before a b ≡ true → is_before b c ≡ true → is_before a c ≡ true
 before_both a b c h g = grind (arith, nat_tests)
@@ -32,9 +32,9 @@ before_all : (a b : ShardRef) (xs : List Seen) → is_before a b ≡ true → Is
 before_all a b [] h all = tt
 before_all a b (s ∷ xs) h all = (before_both a b s.key h all.0, before_all a b xs h all.1)
 
--- ---- where a note stands
+-- ---- The place of a note
 
--- the note comes before the key
+-- Whether the note comes before the key.
 abbrev pub comes_before : ShardRef → Seen → Bool
 comes_before key s = is_before s.key key
 
@@ -88,7 +88,7 @@ seen_there key [] order = refl
 seen_there key (s ∷ xs) order =
     seen_here key s xs (is_before s.key key) (same_key s.key key) refl refl order (seen_there key xs order.1)
 
--- ---- one row: what is written at that place
+-- ---- One row: what is written at its place
 
 none_some : (s : Seen) → None ≡ Some s → ⊥
 none_some s h = cc
@@ -102,7 +102,7 @@ same_then a b h = grind (arith, nat_tests, h)
 differ : (a b : ℕ) → (a ≡ b → ⊥) → (a == b) ≡ false
 differ a b h = grind (arith, nat_tests, h)
 
--- a note with another counter is replaced
+-- A note with another counter is replaced.
 set_here : (first s x : Seen) (xs : List Seen) (b : Bool)
     → if_key first.key (slice_get (x ∷ xs) (if b then suc (place_of first.key xs) else 0)) ≡ Some s
     → (s.counter ≡ first.counter → ⊥)
@@ -128,7 +128,7 @@ set_is first s [] h other = absurd (none_some s h)
 set_is first s (x ∷ xs) h other =
     set_here first s x xs (is_before x.key first.key) h other (λ g. set_is first s xs g other)
 
--- a note with the same counter stays
+-- A note with the same counter stays.
 kept_here : (first s x : Seen) (xs : List Seen) (b : Bool)
     → if_key first.key (slice_get (x ∷ xs) (if b then suc (place_of first.key xs) else 0)) ≡ Some s
     → s.counter ≡ first.counter
@@ -152,7 +152,7 @@ kept_is first s [] h same = absurd (none_some s h)
 kept_is first s (x ∷ xs) h same =
     kept_here first s x xs (is_before x.key first.key) h same (λ g. kept_is first s xs g same)
 
--- where there is no note, the first one is put in
+-- If there is no note, the first one is inserted.
 insert_here : (first x : Seen) (xs : List Seen) (b : Bool)
     → if_key first.key (slice_get (x ∷ xs) (if b then suc (place_of first.key xs) else 0)) ≡ None
     → (if_key first.key (slice_get xs (place_of first.key xs)) ≡ None
@@ -173,7 +173,7 @@ pub insert_is : (first : Seen) (xs : List Seen) → if_key first.key (slice_get 
 insert_is first [] h = refl
 insert_is first (x ∷ xs) h = insert_here first x xs (is_before x.key first.key) h (insert_is first xs)
 
--- ---- one row: the order stays
+-- ---- One row: the order stays
 
 before_noted_here : (k : ShardRef) (first x : Seen) (xs : List Seen) (b d e : Bool) → is_before k first.key ≡ true
     → IsBeforeAll k (x ∷ xs)
@@ -209,7 +209,7 @@ order_noted first (x ∷ xs) order =
     order_here first x xs (is_before x.key first.key) (same_key x.key first.key) (x.counter == first.counter)
     refl refl order (order_noted first xs order.1)
 
--- ---- one row: what is then kept of each key
+-- ---- One row: what is then kept of each key
 
 noted_at : (r : Row) (now : ℕ) (seen : List Seen) (key : ShardRef) → AreInOrder seen
     → seen_at (noted (first_note r now) seen) key
@@ -253,7 +253,7 @@ noted_at r now (s ∷ seen) key order =
     passed false true rest later h ih = refl
     passed false false rest later h ih = ih
 
-    -- a key before which the note stands isn't its own
+    -- A note that comes before a key isn't on this key's row.
     not_both : is_before s.key r.key ≡ true → same_key s.key key ≡ true → same_key r.key key ≡ true → ⊥
     not_both before sk rk =
         apart (same_key s.key r.key)
@@ -263,7 +263,7 @@ noted_at r now (s ∷ seen) key order =
         own : (k : ShardRef) → same_key s.key s.key ≡ true
         own k = grind (arith, nat_tests)
 
-    -- a row without a note
+    -- The row has no note.
     new : (rk : Bool) → same_key r.key key ≡ rk → is_before r.key s.key ≡ true
         → cond rk (Some (first_note r now)) (seen_at (s ∷ seen) key)
         ≡ (if rk then with_sight r now (seen_at (s ∷ seen) key) else seen_at (s ∷ seen) key)
@@ -291,7 +291,7 @@ noted_at r now (s ∷ seen) key order =
         (sym (sight_of (same_key s.key key) (seen_at seen key)))
     head false false before same ih = new (same_key r.key key) refl (after_else s.key r.key before same)
 
--- ---- all rows
+-- ---- All rows
 
 pub noted_all_at : (rows : List Row) (now : ℕ) (seen : List Seen) (key : ShardRef) → AreInOrder seen
     → seen_at (noted_all rows now seen) key ≡ after_rows rows now (seen_at seen) key

@@ -1,4 +1,5 @@
--- How notes on rows are kept in a list, in the order of the rows' keys.
+-- A note says with which counter a row was seen, and since when. Notes are kept in a list, in the order of the rows'
+-- keys.
 use Rattle.std.specs.Prelude.{ℕ, suc, ◌≡◌, true, ◌==◌, if◌then◌else◌, List, [], ◌∷◌, Option, Some, None}
 use Rattle.std.specs.List.{AllByRecursion}
 use Rattle.kds_base.specs.declared.lease_key.ShardRef.{ShardRef}
@@ -9,33 +10,35 @@ use Rattle.kds_defs.specs.Keys.{is_before, same_key}
 abbrev pub first_note : Row → ℕ → Seen
 first_note r now = record { key = r.key; counter = r.counter; since = now }
 
--- the key comes before those of all these notes
+-- The key `key` comes before the keys of all notes in `seen`.
 abbrev pub IsBeforeAll : ShardRef → List Seen → Type 0
 IsBeforeAll key seen = AllByRecursion (λ (s : Seen). is_before key s.key ≡ true) seen
 
--- the keys rise
+-- The keys of the notes rise.
 abbrev pub AreInOrder : List Seen → Type 0
 AreInOrder [] = Unit {0}
 AreInOrder (s ∷ seen) = IsBeforeAll s.key seen × AreInOrder seen
 
--- how many notes come before a key: the place where the note on its row stands, or would stand
+-- The number of notes that come before a key. This is the index of the note on the key's row, or the index at which
+-- such a note would be inserted.
 abbrev pub place_of : ShardRef → List Seen → ℕ
 place_of key [] = 0
 place_of key (s ∷ seen) = if is_before s.key key then suc (place_of key seen) else 0
 
--- the note that stands there, if it is the key's
+-- The note at that index, if it is on the row of the key.
 abbrev pub if_key : ShardRef → Option Seen → Option Seen
 if_key key None = None
 if_key key (Some s) = if same_key s.key key then Some s else None
 
--- one row
+-- The notes after a row was seen. `first` is the note on the row as it was seen now. It replaces an older note only if
+-- the counter has changed.
 abbrev pub noted : Seen → List Seen → List Seen
 noted first [] = first ∷ []
 noted first (s ∷ seen) =
     if is_before s.key first.key then s ∷ noted first seen else
     if same_key s.key first.key then (if s.counter == first.counter then s else first) ∷ seen else first ∷ s ∷ seen
 
--- all rows, in order
+-- The notes after all of `rows` were seen, in order.
 abbrev pub noted_all : List Row → ℕ → List Seen → List Seen
 noted_all [] now seen = seen
 noted_all (r ∷ rows) now seen = noted_all rows now (noted (first_note r now) seen)

@@ -1,4 +1,4 @@
--- What an answer does to the fields of a worker, and what it adds to its record.
+-- What an answer does to the fields of a worker, and what the answer adds to the worker's record.
 use Rattle.std.proofs.Common.{◌≡◌, ℕ, ◌++◌, Bool, List, ◌∷◌, Option, Some, None, refl, sym, ap, subst, ◌∙◌}
 use Rattle.std.specs.Prelude.{Result}
 use Rattle.std.specs.Option.{option_map}
@@ -27,13 +27,13 @@ use Rattle.kcl_worker.proofs.Happenings.{answered_stand, lost_stand}
 use Rattle.kcl_worker.proofs.Outlooks.{IsFoundSo, found_so}
 use Rattle.kcl_worker.proofs.Standings.{settled_shows}
 
--- the command that waits in the record is of this chore
+-- The command that waits in the record is that of the chore.
 waits_for : (o : Option Pending) (chore : Chore) → Some chore ≡ option_map (λ p. p.chore) o
     → (p : Pending) × (o ≡ Some p) × (p.chore ≡ chore)
 waits_for None chore e = absurd cc
 waits_for (Some p) chore e = (p, refl, cc)
 
--- the answer that is absorbed: what the chore leads to, and then the retirement
+-- The worker has absorbed an answer: it has done what the chore leads to, and then retired its consumers.
 pub absorbed_stands : {P F : Type 0} (stands : P → List Call → Type 0) (w new : WorkerStanding P F) (now : ℕ)
     (answer : Result Reply Refusal) (chore : Chore) (round : Round) (seen : List Seen) (held : List Held)
     (consumers : List (Standing P)) (maker : F) (past : WorkerPast) → w.waiting ≡ Some chore
@@ -69,7 +69,7 @@ absorbed_stands {P} {F} stands w new now answer chore round seen held consumers 
           (settled_shows stands before _ (leads s st.shows));
     })
 
--- ---- chores
+-- ---- Chores
 
 pub synced_shows : {P F : Type 0} (stands : P → List Call → Type 0) (w : WorkerStanding P F) (s : WorkerState)
     (syncs : List SyncStep) (takes : List TakeStep) → ShowsState stands w s
@@ -110,7 +110,7 @@ finished_shows stands w s id answer h = record {
   retired = h.retired;
 }
 
--- the consumer of a lease is in the same phase on both sides
+-- The consumer of a lease is in the same phase in the code's list and in the record.
 phase_found : {P : Type 0} (o : Option (Standing P)) (k : Option Known) → IsFoundSo o k
     → phase_or_opening o ≡ phase_in k
 phase_found None None f = refl
@@ -156,7 +156,7 @@ consumed_shows stands w s now id answer h =
       retired = h.retired;
     }
 
--- ---- by the fields that the code leaves, where those before had the value `old`
+-- ---- In terms of the fields that the code leaves, where those before had the value `old`
 
 pub absorbed_leaves : {P F : Type 0} (stands : P → List Call → Type 0) (w old : WorkerStanding P F) → w ≡ old
     → (now : ℕ) (answer : Result Reply Refusal) (chore : Chore) (round : Round) (held : List Held)
@@ -179,7 +179,7 @@ absorbed_leaves stands w old is now answer chore round held consumers cs rs past
     }) leads
     (subst (λ v. StandsFor stands v past) (sym is) st)
 
--- the answer to a renewal
+-- The fields show the state after the answer to a renewal.
 left_shows : {P F : Type 0} (stands : P → List Call → Type 0) (w : WorkerStanding P F) (s t : WorkerState)
     (round : Round) (held : List Held) (cs : List (Standing P)) → ShowsState stands w s
     → Leaves stands (record s { waiting = None; round = round }) t held cs
@@ -220,7 +220,7 @@ renewal_leaves stands w old is now answer h id held consumers cs rs past same wa
     left_shows stands w s _ (AtRenewals (Some (id_of_held h))) held consumers shows
     (leaves (record s { waiting = None; round = AtRenewals (Some (id_of_held h)) }) shows.held shows.consumers)) st)
 
--- the answer to a consumer's command
+-- The worker stands for the record with the answer to a consumer's command added.
 pub consumer_leaves : {P F : Type 0} (stands : P → List Call → Type 0) (w old : WorkerStanding P F) → w ≡ old
     → (now : ℕ) (answer : Result Reply Refusal) (id : LeaseId) (held : List Held) (consumers cs : List (Standing P))
     (rs : List (Retirement P)) (past : WorkerPast) → old.waiting ≡ Some (Consuming id)
@@ -241,7 +241,7 @@ consumer_leaves stands w old is now answer id held consumers cs rs past waits a 
     (λ i. record w { round = AtConsumers (Some id); waiting = None; held = sym a i; consumers = sym b i })
     (consumed_shows stands w s now id answer shows)) st
 
--- the answer to a give at a stop, and to a freeing
+-- The worker stands for the record with the answer to a Give at a stop, or to a freeing, added.
 pub give_leaves : {P F : Type 0} (stands : P → List Call → Type 0) (w old : WorkerStanding P F) → w ≡ old
     → (now : ℕ) (answer : Result Reply Refusal) (id : LeaseId) (consumers cs : List (Standing P))
     (rs : List (Retirement P)) (past : WorkerPast) → old.waiting ≡ Some (Finishing id)
@@ -269,7 +269,7 @@ freeing_leaves stands w old is now answer h held cs rs past waits a live over st
     (λ i. record w { waiting = None; held = sym a i })
     (freed_shows stands w s (id_of_held h) shows)) st
 
--- a refused renewal
+-- After a refused renewal, the leases and the consumers are those of the state that `after_renewal` leads to.
 pub refused_leaves : {P : Type 0} (stands : P → List Call → Type 0) (s : WorkerState) (now : ℕ) (h : Held)
     (answer : Result Reply Refusal) (loss : Bool) (id : LeaseId) (held held' : List Held) (cs cs' : List (Standing P))
     → id ≡ id_of_held h → after_renewal now h answer s ≡ renewal_by now h (written.Refused loss) s

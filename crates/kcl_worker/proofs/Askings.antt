@@ -1,4 +1,4 @@
--- What processors may ask, after what happens to their consumers.
+-- What processors may ask for, after what happens to their consumers.
 use Rattle.std.proofs.Common.{◌≡◌, Bool, true, false, List, [], ◌∷◌, ◌++◌, Some, refl, sym, ap, subst, ◌∙◌}
 use Rattle.std.specs.Prelude.{cond, if◌then◌else◌, is_some, not, Result}
 use Rattle.std.specs.List.{AllByRecursion, find}
@@ -61,12 +61,12 @@ within_live asks may (c ∷ cs) w = head (is_over_in c) (within_live asks may cs
     head true rest = rest
     head false rest = (w.0, rest)
 
--- what is written of the consumers, and then those that are over are retired
+-- `AskWithin` still holds after the consumers that are over were retired.
 pub within_settled : {P : Type 0} (asks : P → List Stored → Ask → Type 0) (may : List Stored → Ask
     → Type 0) (cs live : List (Standing P)) → live ≡ live_among cs → AskWithin asks may cs → AskWithin asks may live
 within_settled asks may cs live is w = subst (AskWithin asks may) (sym is) (within_live asks may cs w)
 
--- a loss changes no processor
+-- A loss changes no processor.
 pub lost_processors : {P : Type 0} (t : LeaseId → Bool) (cs : List (Standing P))
     → processors (lost_among t cs) ≡ processors cs
 lost_processors t [] = refl
@@ -77,14 +77,14 @@ lost_processors t (c ∷ cs) = head (t (id_in c)) (lost_processors t cs)
     head true e = ap (λ ps. c.processor ∷ ps) e
     head false e = ap (λ ps. c.processor ∷ ps) e
 
--- where more may be asked
+-- `AskWithin` still holds if more may be asked for.
 pub within_more : {P : Type 0} (asks : P → List Stored → Ask → Type 0) (may more : List Stored → Ask
     → Type 0) (cs : List (Standing P)) → ((batch : List Stored) (a : Ask) → may batch a → more batch a)
     → AskWithin asks may cs → AskWithin asks more cs
 within_more asks may more [] f w = tt
 within_more asks may more (c ∷ cs) f w = (λ batch a h. f batch a (w.0 batch a h), within_more asks may more cs f w.1)
 
--- ---- the processor that is called
+-- ---- The processor that is called
 
 steady_among : {P : Type 0} (asks : P → List Stored → Ask → Type 0) (may : List Stored → Ask
     → Type 0) (before behind : List (Standing P)) (one same : Standing P)
@@ -144,7 +144,7 @@ ask_among stands asks may asked (c ∷ before) behind one (k ∷ ks) none due ha
     head false e rest = rest
     head true e rest = absurd cc
 
--- what it asks it may ask
+-- The processor that is called asks for what it may ask for.
 pub asked_so : {P : Type 0} (stands : P → List Call → Type 0) (asks : P → List Stored → Ask → Type 0) (may : List Stored
     → Ask → Type 0) (asked : Ask) (old new : List (Standing P)) (ks : List Known)
     → FirstCalled stands asks asked old new → AskWithin asks may old → ConsumersStand stands old ks

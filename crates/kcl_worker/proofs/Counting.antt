@@ -1,4 +1,4 @@
--- Each call leaves fewer that are due.
+-- After each call, fewer calls are due.
 use Rattle.std.proofs.Common.{◌≡◌, ℕ, ◌+◌, ◌<◌, ◌≤◌, Bool, true, false, List, [], ◌∷◌, ◌++◌, length, refl, ap, ◌∙◌}
 use Rattle.std.proofs.Common.{arith}
 use Rattle.std.specs.Prelude.{cond, is_some, not}
@@ -13,7 +13,7 @@ use Rattle.kcl_consumer.specs.Standing.{Standing}
 use Rattle.kcl_worker_lists.specs.Changes.{FirstCalled, is_over_in, live_among}
 use Rattle.kcl_worker_lists.specs.Lists.{due_count, is_due}
 
--- after its call a processor isn't due again
+-- After its call, a processor has no call that is due.
 pub not_again : (made : Tenancy) (a : Ask) (p : Phase) → is_some (due_call p) ≡ true
     → is_some (due_call (after_call made a p)) ≡ false
 not_again made a Opening h = absurd cc

@@ -1,4 +1,4 @@
--- The next command, by the consumers as the code keeps them and by those of the record.
+-- The next command, in terms of the consumers as the code keeps them, is the one of the record.
 use Rattle.std.proofs.Common.{◌≡◌, ℕ, ◌<◌, ◌≤◌, suc, get_or, drop, length, Bool, true, false, List, [], ◌∷◌, Option}
 use Rattle.std.proofs.Common.{Some, None, refl, sym, ap, subst, ◌∙◌, arith}
 use Rattle.std.specs.Prelude.{◌==◌, ◌&&◌, ◌||◌, cond, is_some, not}
@@ -33,7 +33,7 @@ use Rattle.kcl_worker.specs.Standing.{ConsumersStand, ShowsState, StandsFor, Wor
 use Rattle.kcl_worker.specs.Standing.{is_idle_in}
 use Rattle.kcl_worker.proofs.Happenings.{phase_known}
 
--- ---- the same consumer is found on both sides
+-- ---- The same consumer is found in the code's list and in the record
 
 abbrev pub IsFoundSo : {P : Type 0} → Option (Standing P) → Option Known → Type 0
 IsFoundSo None None = Unit {0}
@@ -62,7 +62,7 @@ found_so stands t (c ∷ cs) (k ∷ ks) s =
 found_so stands t [] (k ∷ ks) s = absurd s
 found_so stands t (c ∷ cs) [] s = absurd s
 
--- ---- what is found by its lease is the first of that lease
+-- ---- A consumer that is found by its lease is the first of that lease
 
 same_numbers : (a b c d e f : ℕ) → ((a == d) && (b == e) && (c == f)) ≡ true → (a ≡ d) × (b ≡ e) × (c ≡ f)
 same_numbers a b c d e f h =
@@ -118,7 +118,7 @@ by_id t k (x ∷ xs) h = head (t (id_of x)) refl h (λ g. by_id t k xs g)
         let r = rest g in
         (ap (λ b. cond b (Some x) (known_of (id_of k) xs)) (passes (same_id (id_of x) (id_of k)) refl e r.1) ∙ r.0, r.1)
 
--- ---- what holds of all holds of what is found
+-- ---- A fact about all consumers holds of the one that is found
 
 pub all_found : {A : Type 0} (P : A → Type 0) (t : A → Bool) (x : A) (xs : List A) → find t xs ≡ Some x
     → AllByRecursion P xs → P x
@@ -132,7 +132,7 @@ all_found {A} P t x (y ∷ ys) h all = head (t y) h (λ g. all_found P t x ys g 
     head true g rest = subst P (same y x g) all.0
     head false g rest = rest g
 
--- no call is due, and none is over: each is ready
+-- If no call is due and no consumer is over, each consumer is ready.
 pub ready : {P : Type 0} (cs : List (Standing P)) → due_in cs ≡ None → AllByRecursion (λ c. over_at c.phase ≡ None) cs
     → AllByRecursion IsReady cs
 ready [] none all = tt
@@ -143,7 +143,7 @@ ready (c ∷ cs) none all = head (due_call c.phase) refl none (λ n. ready cs n 
     head None e n rest = ((e, all.0), rest n)
     head (Some due) e n rest = absurd cc
 
--- ---- a consumer's command
+-- ---- A consumer's command
 
 pub consumer_given : {P : Type 0} (stands : P → List Call → Type 0) (made : WorkerMade) (s : WorkerState)
     (syncs : List SyncStep) (takes : List TakeStep) (place : Option LeaseId) (cs : List (Standing P)) (held : List Held)
@@ -185,7 +185,7 @@ survey_given {P} stands made s syncs takes place cs stand found =
     go None f = record { which = Surveying; is = refl; asks = refl; command = refl }
     go (Some k) f = absurd f
 
--- ---- at a stop
+-- ---- At a stop
 
 pub giving_given : {P : Type 0} (stands : P → List Call → Type 0) (made : WorkerMade) (s : WorkerState)
     (syncs : List SyncStep) (takes : List TakeStep) (cs : List (Standing P)) (c : Standing P)
@@ -237,7 +237,7 @@ pub nothing_given : {P : Type 0} (stands : P → List Call → Type 0) (s : Work
 nothing_given stands s cs held stand same found none =
     none_giving stands s cs stand found ∙ ap freeing_chore (sym same ∙ none)
 
--- ---- a command is given
+-- ---- A command is given
 
 none_mapped : (o : Option Pending) → None ≡ option_map (λ p. p.chore) o → o ≡ None
 none_mapped None e = refl
@@ -274,7 +274,7 @@ asked_stands {P} {F} stands w new now syncs takes asked what past free is g st =
       }),
     )
 
--- ---- lists by their first element
+-- ---- Lists, told by their first element
 
 pub empty_list : {X : Type 0} (xs : List X) → length xs < 1 → xs ≡ []
 empty_list [] h = refl
@@ -313,7 +313,7 @@ consumer_as stands made s syncs takes place cs held c id counter what a b stand 
     (ap (λ i. next_command c.made c.phase (counter_of i held)) (sym a) ∙ ap (λ n. next_command c.made c.phase n) (sym b)
     ∙ next))
 
--- ---- where nothing is left to do
+-- ---- Nothing is left to do
 
 none_due_any : {P : Type 0} (cs : List (Standing P)) → due_in cs ≡ None → list_any is_due cs ≡ false
 none_due_any [] none = refl
@@ -372,7 +372,7 @@ idle_so stands w s failover now shows none chore =
     (none_giving_in stands w.consumers s.consumers shows.consumers l.0))
     ∙ nothing_held w.held (ap freeing_chore shows.held ∙ l.1)
 
--- ---- by the fields that the code has, whose value is `old`
+-- ---- In terms of the fields that the code has, whose value is `old`
 
 pub asked_leaves : {P F : Type 0} (stands : P → List Call → Type 0) (w old : WorkerStanding P F) → w ≡ old
     → (now : ℕ) (syncs : List SyncStep) (takes : List TakeStep) (asked : Asked) (what : Command) (past : WorkerPast)
@@ -402,9 +402,9 @@ none_left stands w old is now past none busy left st =
     ∙ idle_so stands w s w.made.settings.failover now st0.shows (ap (λ v. due_in v.consumers) is ∙ none)
     (left s st0.shows.consumers st0.shows.held)) busy
 
--- ---- what callers see of a worker, beside its record
+-- ---- What callers see of a worker, and its record
 
--- where no call is due, none is in the record
+-- If no call is due, none is due in the record.
 pub none_due : {P : Type 0} (stands : P → List Call → Type 0) (cs : List (Standing P)) (ks : List Known)
     → due_in cs ≡ None → ConsumersStand stands cs ks → find is_due_known ks ≡ None
 none_due stands [] [] none s = refl
@@ -430,7 +430,7 @@ any_same stands f (c ∷ cs) (k ∷ ks) s =
     ap (λ p. f p || list_any (λ d. f d.phase) cs) (phase_known stands c k (s.0, s.1))
     ∙ ap (λ r. f (phase_of_known k) || r) (any_same stands f cs ks s.2)
 
--- it is idle where its record says so
+-- The worker is idle exactly if its record says so.
 pub idle_same : {P F : Type 0} (stands : P → List Call → Type 0) (w : WorkerStanding P F) (past : WorkerPast)
     → StandsFor stands w past → is_idle_in w ≡ is_idle (worker_after w.made past)
 idle_same stands w past s =

@@ -1,4 +1,4 @@
--- What a call does to the fields of a worker, and what it adds to its record.
+-- What a call does to the fields of a worker, and what the call adds to the worker's record.
 use Rattle.std.proofs.Common.{◌≡◌, true, List, ◌∷◌, ◌++◌, Option, Some, None, Ok, Err, refl, sym, subst, ◌∙◌}
 use Rattle.std.specs.Option.{option_map}
 use Rattle.std.specs.Prelude.{OnErr, Result}
@@ -20,12 +20,12 @@ none_mapped : (o : Option Pending) → None ≡ option_map (λ p. p.chore) o →
 none_mapped None e = refl
 none_mapped (Some p) e = absurd cc
 
--- no command waits in the record
+-- No command waits in the record.
 pub is_free : {P F : Type 0} (stands : P → List Call → Type 0) (w : WorkerStanding P F) (s : WorkerState)
     → w.waiting ≡ None → ShowsState stands w s → s.waiting ≡ None
 is_free stands w s free shows = none_mapped s.waiting (sym free ∙ shows.waiting)
 
--- consumers that are over are retired
+-- The fields still show the state after the consumers that are over were retired.
 pub settled_shows : {P F : Type 0} (stands : P → List Call → Type 0) (w : WorkerStanding P F) (s : WorkerState)
     → ShowsState stands w s → ShowsState stands (settled_in w) (settled s)
 settled_shows stands w s h = record {
@@ -38,7 +38,7 @@ settled_shows stands w s h = record {
       (retired_stand stands w.consumers s.consumers h.consumers);
 }
 
--- a stop
+-- The worker stands for the record with a stop added.
 pub stop_stands : {P F : Type 0} (stands : P → List Call → Type 0) (w new : WorkerStanding P F) (past : WorkerPast)
     → w.waiting ≡ None → new
     ≡ settled_in (record w { round = AtStopping; consumers = lost_among (λ id. true) w.consumers })
@@ -60,7 +60,7 @@ stop_stands {P} {F} stands w new past free is st =
           });
     })
 
--- the processor's call that is due
+-- The worker stands for the record with the due call of a processor added.
 pub call_stands : {P F : Type 0} (stands : P → List Call → Type 0) (asks : P → List Stored → Ask
     → Type 0) (asked : Ask) (w new : WorkerStanding P F) (cs : List (Standing P)) (past : WorkerPast)
     → w.waiting ≡ None → FirstCalled stands asks asked w.consumers cs → new ≡ settled_in (record w { consumers = cs })
@@ -82,7 +82,7 @@ call_stands {P} {F} stands asks asked w new cs past free called is st =
           });
     })
 
--- after running out of memory in it
+-- After a call that ran out of memory, the worker stands for the same record.
 pub uncalled_stands : {P F : Type 0} (stands : P → List Call → Type 0) (asks : P → List Stored → Ask
     → Type 0) (w new : WorkerStanding P F) (cs : List (Standing P)) (past : WorkerPast)
     → FirstUncalled stands asks w.consumers cs → new ≡ record w { consumers = cs } → StandsFor stands w past
@@ -102,9 +102,9 @@ uncalled_stands {P} {F} stands asks w new cs past f is st =
       };
     })
 
--- ---- by the fields that the code leaves
+-- ---- In terms of the fields that the code leaves
 
--- a stop, where what was written of the consumers is known
+-- The worker stands for the record with a stop added, given what was written of its consumers.
 pub stop_leaves : {P F : Type 0} (stands : P → List Call → Type 0) (w : WorkerStanding P F) (cs : List (Standing P))
     (rs : List (Retirement P)) (past : WorkerPast) → w.waiting ≡ None
     → cs ≡ live_among (lost_among (λ id. true) w.consumers)
@@ -114,7 +114,7 @@ stop_leaves stands w cs rs past free live over st =
     stop_stands stands w (record w { round = AtStopping; consumers = cs; retired = rs }) past free
     (λ i. record w { round = AtStopping; consumers = live i; retired = over i }) st
 
--- a call
+-- The worker stands for the record with a call added, given what was written of its consumers.
 pub call_leaves : {P F : Type 0} (stands : P → List Call → Type 0) (asks : P → List Stored → Ask
     → Type 0) (asked : Ask) (w : WorkerStanding P F) (called cs : List (Standing P)) (rs : List (Retirement P))
     (past : WorkerPast) → w.waiting ≡ None → FirstCalled stands asks asked w.consumers called → cs ≡ live_among called

@@ -1,4 +1,4 @@
--- What the answer to a survey does to the fields of a worker, and what it adds to its record.
+-- What the answer to a survey does to the fields of a worker, and what it adds to the worker's record.
 use Rattle.std.proofs.Common.{◌≡◌, ℕ, ◌++◌, List, ◌∷◌, Some, None, Ok, Err, refl, sym, ap, subst, ◌∙◌}
 use Rattle.std.specs.Prelude.{Result}
 use Rattle.std.specs.List.{filter}
@@ -108,7 +108,7 @@ planned_leaves stands w old is now (Ok _) p syncs takes consumers cs rs past wai
 planned_leaves stands w old is now (Err r) p syncs takes consumers cs rs past waits planned a b e live over st =
     absurd planned
 
--- another answer than a survey's
+-- The fields still show the state after an answer that isn't a survey's.
 kept_shows : {P F : Type 0} (stands : P → List Call → Type 0) (w : WorkerStanding P F) (s : WorkerState)
     → ShowsState stands w s → ShowsState stands (record w { waiting = None }) (record s { waiting = None })
 kept_shows stands w s h = record {

@@ -1,4 +1,4 @@
--- What a worker's processors may ask.
+-- What a worker's processors may ask for.
 use Rattle.std.specs.Prelude.{◌≡◌, List, map, Option, Some, None}
 use Rattle.std.specs.List.{AllByRecursion}
 use Rattle.kcl_defs.specs.declared.consumer.Ask.{Ask}
@@ -8,28 +8,28 @@ use Rattle.kcl_defs.specs.Consumers.{Phase, Holding, first_batch}
 use Rattle.kcl_defs.specs.Workers.{Known, phase_of_known}
 use Rattle.kcl_consumer.specs.Standing.{Standing}
 
--- a processor asks no more after a batch than may be asked
+-- After a batch, the processor `p` asks for no more than `may` allows.
 abbrev pub IsWithin : {P : Type 0} → (P → List Stored → Ask → Type 0) → (List Stored → Ask → Type 0) → P → Type 0
 IsWithin asks may p = (batch : List Stored) (a : Ask) → asks p batch a → may batch a
 
 abbrev pub processors : {P : Type 0} → List (Standing P) → List P
 processors cs = map (λ c. c.processor) cs
 
--- those of all consumers
+-- The processor of each consumer asks for no more than `may` allows.
 abbrev pub AskWithin : {P : Type 0} → (P → List Stored → Ask → Type 0) → (List Stored → Ask → Type 0)
     → List (Standing P) → Type 0
 AskWithin asks may cs = AllByRecursion (IsWithin asks may) (processors cs)
 
--- after a batch a processor asks what may be asked of it, and after another call nothing
+-- After a batch, a processor asks for what `may` allows. After any other call it asks for nothing.
 abbrev pub IsAsk : (List Stored → Ask → Type 0) → Phase → Ask → Type 0
 IsAsk may (Holding reach waiting) asked = may (first_batch waiting) asked
 IsAsk may _ asked = asked ≡ ask.None
 
--- of the consumer whose processor is called
+-- `IsAsk` holds for the consumer whose processor is called.
 abbrev pub IsAskOf : (List Stored → Ask → Type 0) → Option Known → Ask → Type 0
 IsAskOf may None asked = ⊥
 IsAskOf may (Some k) asked = IsAsk may (phase_of_known k) asked
 
--- the same may be asked
+-- `may` and `other` allow the same.
 abbrev pub AllowsSame : (List Stored → Ask → Type 0) → (List Stored → Ask → Type 0) → Type 0
 AllowsSame may other = (batch : List Stored) (a : Ask) → (may batch a → other batch a) × (other batch a → may batch a)

@@ -1,4 +1,4 @@
--- What decides the next command, by the consumers and the leases as the code keeps them.
+-- What decides the next command, in terms of the consumers and the leases as the code keeps them.
 use Rattle.std.specs.Prelude.{ℕ, ◌≡◌, false, List, Option, Some, None}
 use Rattle.std.specs.List.{AllByRecursion, find}
 use Rattle.kds_defs.specs.declared.command.Command.{Command}
@@ -18,11 +18,11 @@ use Rattle.kcl_worker.specs.Parts.{chore_of, round_of}
 use Rattle.kcl_worker.specs.Standing.{ConsumersStand}
 use Rattle.kcl_worker_lists.specs.Lists.{due_in}
 
--- no call of it is due, and it is not over
+-- No call of the consumer's processor is due, and the consumer isn't over.
 abbrev pub IsReady : {P : Type 0} → Standing P → Type 0
 IsReady c = (due_call c.phase ≡ None) × (over_at c.phase ≡ None)
 
--- what is asked is this chore, with its command
+-- There is a chore, which `asked` stands for, and `what` is its command.
 pub record IsGiven (made : WorkerMade) (s : WorkerState) (syncs : List SyncStep) (takes : List TakeStep)
     (chore : Option Chore) (asked : Asked)
     (what : Command) : Type 0 where
@@ -31,7 +31,8 @@ pub record IsGiven (made : WorkerMade) (s : WorkerState) (syncs : List SyncStep)
   pub asks : chore_of asked syncs takes ≡ Some which
   pub command : command_of made s which ≡ Some what
 
--- each state with these consumers and leases has this chore, which is asked with its command
+-- In each state with the consumers `cs` and the leases `held`, the chore `chore` is the one in `given`, with its
+-- command.
 abbrev pub IsNext : {P : Type 0} → (P → List Call → Type 0) → List (Standing P) → List Held → WorkerMade → List SyncStep
     → List TakeStep
     → (WorkerState → Option Chore) → Asked × Command → Type 0
@@ -39,34 +40,34 @@ IsNext stands cs held made syncs takes chore given = (s : WorkerState) → Consu
     → held ≡ s.held
     → IsGiven made s syncs takes (chore s) given.0 given.1
 
--- whoever the worker is, and whatever it has planned
+-- `IsNext` holds for every worker, whatever it was made with and has planned.
 abbrev pub IsNextOfAny : {P : Type 0} → (P → List Call → Type 0) → List (Standing P) → List Held
     → (WorkerState → Option Chore) → Asked × Command → Type 0
 IsNextOfAny stands cs held chore given = (made : WorkerMade) (syncs : List SyncStep) (takes : List TakeStep)
     → IsNext stands cs held made syncs takes chore given
 
--- no state with these consumers and leases has such a chore
+-- No state with the consumers `cs` and the leases `held` has the chore `chore`.
 abbrev pub HasNoChore : {P : Type 0} → (P → List Call → Type 0) → List (Standing P) → List Held
     → (WorkerState → Option Chore) → Type 0
 HasNoChore stands cs held chore = (s : WorkerState) → ConsumersStand stands cs s.consumers → held ≡ s.held
     → chore s ≡ None
 
--- the chore of a state in this part of the round, and at a stop
+-- The chore of a state in a part of the round, and the chore at a stop.
 abbrev pub chore_in : WorkerMade → ℕ → Part → List SyncStep → List TakeStep → WorkerState → Option Chore
 chore_in made now part syncs takes s = chore_from made.settings.failover now s (round_of part syncs takes)
 
 abbrev pub chore_at_stop : WorkerState → Option Chore
 chore_at_stop s = stopping_chore s (find is_giving s.consumers)
 
--- the command may be asked, and is one for leases
+-- The command is lawful, and is a command on leases.
 abbrev pub IsLeaseCommand : Command → Type 0
 IsLeaseCommand what = IsLawfulCommand what × (is_service what ≡ false)
 
--- while a command waits no call is due
+-- While a command waits, no processor call is due.
 abbrev pub IsAsking : {P : Type 0} → Option Chore → List (Standing P) → Type 0
 IsAsking None cs = Unit {0}
 IsAsking (Some chore) cs = due_in cs ≡ None
 
--- none of these is over
+-- None of the consumers is over.
 abbrev pub NoneOver : {P : Type 0} → List (Standing P) → Type 0
 NoneOver cs = AllByRecursion (λ c. over_at c.phase ≡ None) cs

@@ -1,4 +1,4 @@
--- How a worker keeps its round and the chore that waits.
+-- How a worker stores its round and the chore whose command waits.
 use Rattle.std.specs.Prelude.{List, [], ◌∷◌, Option, Some, None}
 use Rattle.kcl_defs.specs.declared.plans.SyncStep.{SyncStep}
 use Rattle.kcl_defs.specs.declared.plans.TakeStep.{TakeStep}
@@ -9,7 +9,7 @@ use Rattle.kcl_worker.specs.declared.round.Part.TheVariants as part
 use Rattle.kcl_worker.specs.declared.round.Asked.{Asked}
 use Rattle.kcl_worker.specs.declared.round.Asked.TheVariants as asked
 
--- the steps that are left
+-- The round at this part, with the steps that are left.
 abbrev pub round_of : Part → List SyncStep → List TakeStep → Round
 round_of part.Survey syncs takes = AtSurvey
 round_of part.Sync syncs takes = AtSync syncs takes
@@ -18,7 +18,8 @@ round_of (part.Renewals place) syncs takes = AtRenewals place
 round_of (part.Consumers place) syncs takes = AtConsumers place
 round_of part.Stopping syncs takes = AtStopping
 
--- the step that was asked is the first of those that are left
+-- `chore_of` is the chore whose command waits. A step of a plan that was asked for is the first of the steps that are
+-- left.
 abbrev pub syncing : List SyncStep → List TakeStep → Option Chore
 syncing [] takes = None
 syncing (step ∷ syncs) takes = Some (Syncing step syncs takes)
@@ -37,7 +38,7 @@ chore_of (asked.Consume id) syncs takes = Some (Consuming id)
 chore_of (asked.Finish id) syncs takes = Some (Finishing id)
 chore_of (asked.Free h) syncs takes = Some (Freeing h)
 
--- the command that waits is a step of the sync plan, or a taking
+-- The command that waits is a step of the sync plan (`IsSyncing`) or a take (`IsTaking`).
 abbrev pub IsSyncing : Option Chore → Type 0
 IsSyncing (Some (Syncing step syncs takes)) = Unit {0}
 IsSyncing _ = ⊥

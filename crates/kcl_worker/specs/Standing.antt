@@ -23,7 +23,7 @@ use Rattle.kcl_worker_lists.specs.Changes.{live_among, retired_among}
 use Rattle.kcl_worker_lists.specs.Lists.{Retirement, is_due}
 use Rattle.kcl_worker_lists.specs.Planning.{IsPlannedAfter}
 
--- the fields of a worker
+-- The fields of a worker.
 pub record WorkerStanding (P F : Type 0) : Type 0 where
   pub made : WorkerMade
   pub round : Round
@@ -34,15 +34,15 @@ pub record WorkerStanding (P F : Type 0) : Type 0 where
   pub retired : List (Retirement P)
   pub maker : F
 
--- consumers that are over are retired
+-- The worker after its consumers that are over were retired.
 abbrev pub settled_in : {P F : Type 0} → WorkerStanding P F → WorkerStanding P F
 settled_in w = record w { consumers = live_among w.consumers; retired = w.retired ++ retired_among w.consumers }
 
--- what is planned of an answer at a moment, by what it has seen and the leases that it has
+-- `p` is what the worker plans after the answer at the moment `now`, given what it has seen and the leases that it has.
 abbrev pub IsPlannedIn : {P F : Type 0} → WorkerStanding P F → ℕ → Result Reply Refusal → Option Planned → Type 0
 IsPlannedIn w now answer p = IsPlannedAfter w.made w.seen w.held now answer p
 
--- ---- what a caller can see of it
+-- ---- What a caller can see of a worker
 
 abbrev pub is_due_in : {P F : Type 0} → WorkerStanding P F → Bool
 is_due_in w = list_any is_due w.consumers
@@ -53,9 +53,9 @@ is_giving_in w = list_any (λ c. is_giving_phase c.phase) w.consumers
 abbrev pub is_idle_in : {P F : Type 0} → WorkerStanding P F → Bool
 is_idle_in w = is_stopping w.round && not (is_due_in w) && not (is_giving_in w) && is_nothing_held w.held
 
--- ---- the record that it stands for
+-- ---- The record that a worker stands for
 
--- each consumer stands for its own record
+-- Each consumer stands for its own record.
 abbrev pub ConsumersStand : {P : Type 0} → (P → List Call → Type 0) → List (Standing P) → List Known → Type 0
 ConsumersStand stands [] [] = Unit {0}
 ConsumersStand stands (c ∷ cs) (k ∷ ks) = (c.made ≡ k.made) × ConsumerStandsFor stands c k.past
@@ -75,7 +75,7 @@ RetirementsStand stands (r ∷ rs) (k ∷ ks) = IsRetirement stands r k × Retir
 RetirementsStand stands [] (k ∷ ks) = ⊥
 RetirementsStand stands (r ∷ rs) [] = ⊥
 
--- the fields are those of this state
+-- The fields of the worker `w` are those of the state `s`.
 pub record ShowsState {P F : Type 0} (stands : P → List Call → Type 0) (w : WorkerStanding P F) (s : WorkerState) :
     Type 0 where
   pub round : w.round ≡ s.round
@@ -85,20 +85,22 @@ pub record ShowsState {P F : Type 0} (stands : P → List Call → Type 0) (w : 
   pub consumers : ConsumersStand stands w.consumers s.consumers
   pub retired : RetirementsStand stands w.retired s.retired
 
--- the worker stands for this record
+-- The worker `w` stands for the record `past`.
 pub record StandsFor {P F : Type 0} (stands : P → List Call → Type 0) (w : WorkerStanding P F) (past : WorkerPast) :
     Type 0 where
   pub orderly : IsOrderly w.made past
   pub shows : ShowsState stands w (worker_after w.made past)
 
--- ---- what its processors were called for
+-- ---- What a worker's processors were called for
 
--- the consumer is of a tenure of the history, and its processor's calls are the given reads of that tenure
+-- The consumer `c` is of a tenure of the history `h`, and its processor's calls are those for the given reads of that
+-- tenure.
 abbrev pub IsServedIn : {P : Type 0} → (P → List Call → Type 0) → ℕ → List Turn → Standing P → Type 0
 IsServedIn stands by h c =
     IsOfTenure by h c.made × ((calls : List Call) × stands c.processor calls × IsLifeIn by h c.made calls)
 
--- and no batch that a retired one was handed waits
+-- The retired consumer `r` is of a tenure of the history `h`, its processor's calls are those for the given reads of
+-- that tenure, and no batch that it was handed waits to be given.
 abbrev pub IsRetiredIn : {P : Type 0} → (P → List Call → Type 0) → ℕ → List Turn → Retirement P → Type 0
 IsRetiredIn stands by h r = (made : Tenancy) × (r.key ≡ made.key) × (r.tenure ≡ made.tenure) × IsOfTenure by h made
     × ((calls : List Call) × stands r.processor calls × IsWholeLifeIn by h made calls)

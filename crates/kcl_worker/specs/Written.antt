@@ -1,4 +1,4 @@
--- What a write of a row was answered, as a worker takes it.
+-- The answer to a write of a row, in the form in which a worker uses it.
 use Rattle.std.specs.Prelude.{ℕ, ◌≡◌, ◌&&◌, Bool, if◌then◌else◌, List, Option, Some, None, Result, Ok, Err}
 use Rattle.kcl_defs.specs.declared.consumer.Call.{Call}
 use Rattle.kcl_defs.specs.declared.plans.Held.{Held}
@@ -15,13 +15,13 @@ use Rattle.kcl_worker.specs.declared.answers.Written.{Written}
 use Rattle.kcl_worker.specs.declared.answers.Written.TheVariants as written
 use Rattle.kcl_worker.specs.Standing.{ConsumersStand}
 
--- what it does to a lease after a consumer's command, which wrote or did not
+-- The leases after the answer to a consumer's command. `writing` says whether the command was a Mark or an OpenShard.
 abbrev pub held_by : ℕ → LeaseId → Bool → Written → List Held → List Held
 held_by now id writing (written.Counter counter) held = renewed id counter now held
 held_by now id writing written.Nothing held = held
 held_by now id writing (written.Refused loss) held = if loss && writing then without_held id held else held
 
--- and after a renewal
+-- The worker after the answer to a renewal of the lease `h`.
 abbrev pub renewal_by : ℕ → Held → Written → WorkerState → WorkerState
 renewal_by now h (written.Counter counter) w = record w { held = renewed (id_of_held h) counter now w.held }
 renewal_by now h written.Nothing w = w
@@ -35,7 +35,7 @@ pub record IsWritten (answer : Result Reply Refusal) (w : Written) : Type 0 wher
   pub held : (now : ℕ) (id : LeaseId) (phase : Phase) (held : List Held)
       → held_after now id phase answer held ≡ held_by now id (is_marking_or_opening phase) w held
 
--- these leases and consumers show the state t, which is s but for them
+-- The leases `held` and the consumers `cs` are those of the state `t`, which is otherwise equal to `s`.
 pub record Leaves {P : Type 0} (stands : P → List Call → Type 0) (s t : WorkerState) (held : List Held)
     (cs : List (Standing P)) : Type 0 where
   pub held_so : held ≡ t.held
@@ -45,7 +45,8 @@ pub record Leaves {P : Type 0} (stands : P → List Call → Type 0) (s t : Work
   pub seen : t.seen ≡ s.seen
   pub retired : t.retired ≡ s.retired
 
--- of each state with the leases and consumers before, those after show what the change makes of it
+-- If a state has the leases `held` and the consumers `cs`, then after `change` it has the leases `held_after` and the
+-- consumers `cs_after`, and is otherwise unchanged.
 abbrev pub LeadsTo : {P : Type 0} → (P → List Call → Type 0) → (WorkerState → WorkerState) → List Held
     → List (Standing P) → List Held
     → List (Standing P) → Type 0
@@ -53,7 +54,7 @@ LeadsTo stands change held cs held_after cs_after = (s : WorkerState) → held �
     → ConsumersStand stands cs s.consumers
     → Leaves stands s (change s) held_after cs_after
 
--- what a Take was answered
+-- What the answer to a Take says, or `None` if the row wasn't taken.
 abbrev pub IsTaken : Result Reply Refusal → Option Taken → Type 0
 IsTaken (Ok (reply.Taken tenure counter start)) o =
     o ≡ Some (record { tenure = tenure; counter = counter; start = start })

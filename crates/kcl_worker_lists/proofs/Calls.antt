@@ -59,14 +59,14 @@ pub on_err : {A E : Type 0} (P Q : Type 0) (r : Result A E) → (P → Q) → On
 on_err P Q (Ok x) f h = h
 on_err P Q (Err e) f h = f h
 
--- ---- a loop that writes over each element
+-- ---- A loop that writes over each element
 
 pub map_over : {X : Type 0} (f : X → X) (xs ys : List X) (i : ℕ) (x y : X) → i < length xs
     → ys ≡ map f (take i xs) ++ drop i xs → x ≡ get_or ys i x → y ≡ f x
     → set ys i y ≡ map f (take (i + 1) xs) ++ drop (i + 1) xs
 map_over f xs ys i x y lt so_far at is = ap (λ z. set ys i z) is ∙ map_over_more f xs ys i x lt so_far at
 
--- ---- the consumer that absorbs
+-- ---- The consumer that absorbs
 
 pub answered_same : {P : Type 0} (answer : Result Reply Refusal) (c d : Standing P) → d.made ≡ c.made
     → d.phase ≡ after_answer c.made answer c.phase → d.given ≡ given_after answer c.phase c.given

@@ -1,4 +1,4 @@
--- Where rows stand whose keys rise, and what is found there.
+-- The places of rows whose keys rise, and what is found there.
 use Rattle.std.proofs.Common.{◌≡◌, ℕ, zero, suc, ◌+◌, ◌<◌, ◌≤◌, drop, Bool, true, false, List, [], ◌∷◌, length, Some}
 use Rattle.std.proofs.Common.{None, refl, sym, ap, subst, ◌∙◌, arith}
 use Rattle.std.specs.Prelude.{slice_get, slice_index_or, if◌then◌else◌}
@@ -11,7 +11,7 @@ use Rattle.kds_defs.specs.Keys.{is_before, same_key}
 use Rattle.kcl_defs.specs.Plans.{AreRising, IsBeforeFirst, keys_of, row_of}
 use Rattle.kcl_worker_lists.specs.Places.{before_next, if_key, place_of}
 
--- ---- keys
+-- ---- Keys
 
 before_both : (a b c : ShardRef) → is_before a b ≡ true → is_before b c ≡ true → is_before a c ≡ true
 before_both a b c h g = grind (arith, nat_tests)
@@ -30,7 +30,7 @@ before_first : (a b : ShardRef) (rs : List Row) → is_before a b ≡ true → I
 before_first a b [] h first = tt
 before_first a b (r ∷ rs) h first = before_both a b r.key h first
 
--- ---- one row more from the end
+-- ---- One row more from the end
 
 pub rising_more : (rs : List Row) (i : ℕ) (d : Row) → i < length rs
     → before_next (slice_index_or rs i d).key (slice_get rs (suc i)) ≡ true
@@ -50,9 +50,9 @@ rising_back rs k j r e within is h rising =
     (subst (λ n. before_next r.key (slice_get rs n) ≡ true) more h))
     (subst (λ n. AreRising (keys_of (drop n rs))) (sym e) rising)
 
--- ---- where a row stands
+-- ---- The place of a row
 
--- the row comes before the key
+-- Whether the row comes before the key.
 abbrev pub comes_before : ShardRef → Row → Bool
 comes_before key r = is_before r.key key
 

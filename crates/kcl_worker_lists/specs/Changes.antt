@@ -19,9 +19,10 @@ use Rattle.kcl_consumer.specs.Standing.{HasCalled, IsAsBefore, Standing}
 use Rattle.kcl_worker_lists.specs.Lists.{id_in}
 use Rattle.kcl_worker_lists.specs.Lists.{Retirement, is_due}
 
--- ---- one consumer
+-- ---- One consumer
 
--- its lease is known to be lost; it absorbs an answer
+-- `lost_in` is the consumer once its lease is known to be lost, and `answered_in` is the consumer after it absorbed an
+-- answer.
 abbrev pub lost_in : {P : Type 0} → Standing P → Standing P
 lost_in c = record c { phase = after_loss c.phase }
 
@@ -29,7 +30,7 @@ abbrev pub answered_in : {P : Type 0} → Result Reply Refusal → Standing P �
 answered_in answer c =
     record c { phase = after_answer c.made answer c.phase; given = given_after answer c.phase c.given }
 
--- it is over, and why
+-- Whether the consumer is over, why it is, and what is kept of it.
 abbrev pub is_over_in : {P : Type 0} → Standing P → Bool
 is_over_in c = is_some (over_at c.phase)
 
@@ -40,49 +41,49 @@ why_of _ = why.Lost
 abbrev pub retire : {P : Type 0} → Standing P → Retirement P
 retire c = record { key = c.made.key; tenure = c.made.tenure; why = why_of c.phase; processor = c.processor }
 
--- ---- many
+-- ---- Several consumers
 
--- those that pass a test of their lease lose it
+-- The consumers after those whose lease passes `test` have lost it.
 abbrev pub lost_among : {P : Type 0} → (LeaseId → Bool) → List (Standing P) → List (Standing P)
 lost_among test cs = map (λ c. if test (id_in c) then lost_in c else c) cs
 
--- the first of this lease absorbs an answer
+-- The consumers after the first one of the lease `id` absorbed an answer.
 abbrev pub answered_among : {P : Type 0} → LeaseId → Result Reply Refusal → List (Standing P) → List (Standing P)
 answered_among id answer [] = []
 answered_among id answer (c ∷ cs) =
     if same_id (id_in c) id then answered_in answer c ∷ cs else c ∷ answered_among id answer cs
 
--- one more, in its place
+-- The consumers with `c` inserted in the order of the leases.
 abbrev pub with_consumer : {P : Type 0} → Standing P → List (Standing P) → List (Standing P)
 with_consumer c [] = c ∷ []
 with_consumer c (d ∷ ds) = if is_before_id (id_in c) (id_in d) then c ∷ d ∷ ds else d ∷ with_consumer c ds
 
--- the first of a lease is taken out
+-- The consumers without the first one of the lease `id`.
 abbrev pub without_consumer : {P : Type 0} → LeaseId → List (Standing P) → List (Standing P)
 without_consumer id [] = []
 without_consumer id (c ∷ cs) = if same_id (id_in c) id then cs else c ∷ without_consumer id cs
 
--- the first lease of a key that has a consumer
+-- `leaving_in` is the first lease of the key `key` that has a consumer.
 abbrev pub has_one : {P : Type 0} → List (Standing P) → Held → Bool
 has_one cs h = list_any (λ c. same_id (id_in c) (id_of_held h)) cs
 
 abbrev pub leaving_in : {P : Type 0} → ShardRef → List (Standing P) → List Held → Option Held
 leaving_in key cs held = find (λ h. same_key h.key key && has_one cs h) held
 
--- those that go on, and those that are over
+-- The consumers that go on, and what is kept of those that are over.
 abbrev pub live_among : {P : Type 0} → List (Standing P) → List (Standing P)
 live_among cs = filter (λ c. not (is_over_in c)) cs
 
 abbrev pub retired_among : {P : Type 0} → List (Standing P) → List (Retirement P)
 retired_among cs = map retire (filter is_over_in cs)
 
--- the first consumer whose processor must be called stands at this place
+-- The first consumer whose processor must be called has the index `i`.
 pub record IsFirstDue {P : Type 0} (i : ℕ) (cs : List (Standing P)) : Type 0 where
   pub within : i < length cs
   pub none_due : AllByRecursion (λ c. is_due c ≡ false) (take i cs)
   pub due : (c : Standing P) → c ≡ get_or cs i c → is_due c ≡ true
 
--- the processor of the first one whose processor must be called was called
+-- The processor of the first consumer that has a due call was called.
 pub record FirstCalled {P : Type 0} (stands : P → List Call → Type 0) (asks : P → List Stored → Ask
     → Type 0) (asked : Ask)
     (old new : List (Standing P)) : Type 0 where
@@ -96,9 +97,9 @@ pub record FirstCalled {P : Type 0} (stands : P → List Call → Type 0) (asks 
   pub due : is_due one ≡ true
   pub has : HasCalled stands asks asked one called
 
--- ---- the leases after a consumer's answer
+-- ---- The leases after a consumer's answer
 
--- the first consumer of a lease, and its phase
+-- The first consumer of the lease `id`, and its phase.
 abbrev pub one_of : {P : Type 0} → LeaseId → List (Standing P) → Option (Standing P)
 one_of id cs = find (λ c. same_id (id_in c) id) cs
 
@@ -106,7 +107,7 @@ abbrev pub phase_or_opening : {P : Type 0} → Option (Standing P) → Phase
 phase_or_opening None = Opening
 phase_or_opening (Some c) = c.phase
 
--- the lease goes where its consumer is over
+-- The leases `held`, without the lease `id` if its consumer is over.
 abbrev pub kept_unless_over : {P : Type 0} → LeaseId → Option (Standing P) → List Held → List Held
 kept_unless_over id None held = held
 kept_unless_over id (Some c) held = if is_over_in c then without_held id held else held
@@ -116,7 +117,7 @@ held_in now id answer cs held =
     kept_unless_over id (one_of id (answered_among id answer cs))
     (held_after now id (phase_or_opening (one_of id cs)) answer held)
 
--- the processor's call of the first one ran out of memory, and nothing was done
+-- The processor call of one consumer ran out of memory, and nothing was done.
 pub record FirstUncalled {P : Type 0} (stands : P → List Call → Type 0) (asks : P → List Stored → Ask
     → Type 0) (old new : List (Standing P)) : Type 0 where
   pub before : List (Standing P)
@@ -131,7 +132,7 @@ abbrev pub is_over_one : {P : Type 0} → Option (Standing P) → Bool
 is_over_one None = false
 is_over_one (Some c) = is_over_in c
 
--- the first consumer of a lease stands at this place
+-- The first consumer of the lease `id` has the index `i`.
 pub record IsFirstOf {P : Type 0} (id : LeaseId) (i : ℕ) (cs : List (Standing P)) : Type 0 where
   pub within : i < length cs
   pub before : (answer : Result Reply Refusal) → take i cs ++ answered_among id answer (drop i cs)

@@ -14,11 +14,11 @@ use Rattle.kcl_defs.specs.Plans.{after_rows, expiry, seen_at, sync_plan, take_pl
 use Rattle.kcl_defs.specs.Workers.{id_of_held, same_id, still_stands}
 use Rattle.kcl_worker_lists.specs.declared.planning.Planned.{Planned}
 
--- the leases that stand no more
+-- The leases whose row is gone or names another tenure.
 abbrev pub gone : List Row → List Held → List Held
 gone rows held = filter (λ h. not (still_stands rows h)) held
 
--- one of these is of this lease
+-- Whether one of the leases `held` is the lease `id`.
 abbrev pub is_among : List Held → LeaseId → Bool
 is_among held id = list_any (λ h. same_id (id_of_held h) id) held
 
@@ -31,7 +31,7 @@ pub record IsPlanned (made : WorkerMade) (seen : List Seen) (held : List Held) (
   pub takes_so : p.takes
       ≡ take_plan (expiry (seen_at p.observed) now made.settings.failover) made.name p.held.items rows
 
--- what was planned after the answer, if it is a survey's
+-- The plans were made from the answer if it is a survey's, and nothing was planned after any other answer.
 abbrev pub IsPlannedAfter : WorkerMade → List Seen → List Held → ℕ → Result Reply Refusal → Option Planned → Type 0
 IsPlannedAfter made seen held now (Ok (reply.Survey shards rows)) (Some p) = IsPlanned made seen held shards rows now p
 IsPlannedAfter made seen held now (Ok (reply.Survey shards rows)) None = ⊥

@@ -1,4 +1,4 @@
--- A consumer that is over, as the fields show it.
+-- A consumer that is over, as its fields show it.
 use Rattle.kcl_worker_lists.specs.declared.retired.Retired.{Retired}
 use Rattle.kcl_worker_lists.specs.Lists.{Retirement}
 

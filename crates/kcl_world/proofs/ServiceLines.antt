@@ -20,11 +20,11 @@ use Rattle.kcl_leases.proofs.LeaseSteps.{HasRows, HasTenures, rows_of, stands_of
 use Rattle.kcl_leases.proofs.StreamLines.{rows_beside, tenures_beside}
 use Rattle.kcl_world.specs.Standing.{Leads, world}
 
--- what leases see of the service
+-- What leases see of the service.
 abbrev pub seen : ServiceValue → Facing
 seen s = facing s.clock (ShowsAll s)
 
--- each of the lines speaks of a stream
+-- Each of the lines is about a stream.
 abbrev AreOfStreams : List Line → Type 0
 AreOfStreams lines = AllByRecursion (λ line. is_some (stream_of line.what) ≡ true) lines
 
@@ -40,7 +40,7 @@ service_lines log c by what h =
     each_line (λ line. is_some (stream_of line.what) ≡ true) log c by what
     (λ line added. service_line log c by what line added h)
 
--- ---- what such lines leave
+-- ---- What lines of streams leave
 
 rows_along : (rs : List Row) (lines : List Line) (log : Journal) → AreOfStreams lines → HasRows log rs
     → HasRows (with_lines lines log) rs
@@ -54,7 +54,7 @@ tenures_along ts [] log of has = has
 tenures_along ts (line ∷ lines) log of has =
     tenures_along ts lines (line ∷ log) of.1 (tenures_beside log line ts (of_some (stream_of line.what) of.0) has)
 
--- a command to the service leads the whole machine where it leads the service
+-- If a command leads the service from one state to another, it leads the whole machine so.
 pub service_leads : {E : Type 0} (r : Result (Result Reply Refusal) E) (s s' : ServiceValue) (rs : List Row)
     (ts : List TenureValue) (by : ℕ) (what : Command)
     → is_service what ≡ true → IfOk r (service.Leads s s' what)

@@ -1,4 +1,4 @@
--- A survey.
+-- The decision on a survey.
 use Rattle.std.proofs.Common.{◌≡◌, ℕ, List, sym, ap, ◌∙◌}
 use Rattle.std.specs.Prelude.{Ok}
 use Rattle.kds_base.specs.declared.lease_key.ShardRef.{ShardRef}

@@ -21,7 +21,7 @@ no_tenure : (t : ℕ) → option_map kept None ≡ tenure_at [] t
 no_tenure zero = refl
 no_tenure (suc n) = refl
 
--- a machine without streams and leases has answered nothing
+-- A machine without streams and leases has answered nothing.
 pub stands_new : (s : ServiceValue) → s.clock ≡ 0 → s.turn ≡ 0 → ShowsAll s [] → StandsFor (world s [] []) []
 stands_new s clock first shows = record {
   clock_is = clock;
@@ -35,18 +35,20 @@ stands_new s clock first shows = record {
       (record { count_is = refl; few = omega arith; tenure_is = no_tenure; given = λ t. tt });
 }
 
--- at another clock
+-- A machine still stands for a journal at another clock.
 pub stands_at : (s s' : ServiceValue) (rs : List Row) (ts : List TenureValue) (log : Journal)
     → Stands (world s rs ts) log → ShowsAll s' log → Stands (world s' rs ts) log
 stands_at s s' rs ts log st shows =
     stands_of (seen s') rs ts log shows (rows_of (seen s) rs ts log st) (tenures_of (seen s) rs ts log st)
 
--- what each part of a turn leaves of whose turn it is: the clock's, the command's, and the settling
+-- What each part of a turn, which are the clock's, the command's and the settling, leaves of the place of the stream
+-- that is settled next.
 abbrev pub TakesTurns : ServiceValue → ServiceValue → ServiceValue → ServiceValue → Type 0
 TakesTurns s at mid last = (at.turn ≡ s.turn) × (mid.turn ≡ at.turn)
     × (last.turn ≡ turn_after (length mid.streams) mid.turn)
 
--- the services: before the turn, at its clock, after the command, and settled
+-- The machine stands for the history with the turn added. The services are those before the turn, at its clock, after
+-- the command, and settled.
 pub turn_done : (s at mid last : ServiceValue) (rs rs' : List Row) (ts ts' : List TenureValue) (h : List Turn)
     (turn : Turn) (gives : Result Reply Refusal) → StandsFor (world s rs ts) h
     → ShowsAll at (journal h) → at.clock ≡ max s.clock turn.at
@@ -69,7 +71,7 @@ turn_done s at mid last rs rs' ts ts' h turn gives stood shows at_is led mid_is 
       },
     )
 
--- the same, for some history
+-- The same holds for some history.
 pub turn_stands : (s at mid last : ServiceValue) (rs rs' : List Row) (ts ts' : List TenureValue) (turn : Turn)
     (gives : Result Reply Refusal) → ((h : List Turn) × StandsFor (world s rs ts) h)
     → ((log : Journal) → ShowsAll s log → ShowsAll at log) → at.clock ≡ max s.clock turn.at

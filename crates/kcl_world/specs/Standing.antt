@@ -14,7 +14,7 @@ use Rattle.kcl_leases.specs.Standing.{LeasesValue, over}
 use Rattle.kds_service.specs.Clocks.{turn_after}
 use Rattle.kds_service.specs.Shown.{ServiceValue, ShowsAll}
 
--- what contracts see of a machine: its service, the rows of its leases, and its tenures in the order of their numbers
+-- What contracts see of a machine: its service, the rows of its leases, and its tenures in the order of their numbers.
 pub record WorldValue : Type 0 where
   pub service : ServiceValue
   pub rows : List Row
@@ -23,25 +23,25 @@ pub record WorldValue : Type 0 where
 abbrev pub world : ServiceValue → List Row → List TenureValue → WorldValue
 world s rows ts = record { service = s; rows = rows; tenures = ts }
 
--- the rows and the tenures beside the shards of the service
+-- The rows and the tenures of a machine, beside the shards of its service.
 abbrev pub leased : WorldValue → LeasesValue
 leased w = over w.service.clock (ShowsAll w.service) w.rows w.tenures
 
--- the streams, the rows and the tenures of the journal are those of the machine
+-- The streams, the rows and the tenures of the journal are those of the machine.
 abbrev pub Stands : WorldValue → Journal → Type 0
 Stands w log = lease.Stands (leased w) log
 
--- the command of this actor, at the service's clock, is answered so and leads from one to the other
+-- The command `what` of the actor `by`, at the service's clock, is answered by `gives`, and leads from `old` to `new`.
 abbrev pub Leads : WorldValue → WorldValue → ℕ → Command → Result Reply Refusal → Type 0
 Leads old new by what gives = lease.Leads (leased old) (leased new) by what gives
 
--- The place of the stream that is settled next: each turn settled one of those that were live after it, and they took
--- turns.
+-- The place of the stream that is settled next. Each turn settled one of the streams that were live after it, and the
+-- streams took turns.
 abbrev pub turn_of : List Turn → ℕ
 turn_of [] = 0
 turn_of (turn ∷ h) = turn_after (length (live_streams (journal (turn ∷ h)))) (turn_of h)
 
--- the machine has answered these turns, the newest first, and no others
+-- The machine has answered the turns of the history `h`, and no others.
 pub record StandsFor (w : WorldValue) (h : List Turn) : Type 0 where
   pub clock_is : w.service.clock ≡ clock_of h
   pub stands : Stands w (journal h)

@@ -4,7 +4,7 @@ use Rattle.kds_defs.specs.Records.{left_among}
 use Rattle.kcl_audit_streams.specs.Standing.{records_in}
 use Rattle.kcl_audit_streams.proofs.records.none_left.Given as goal
 
--- none so far was left
+-- No record so far was left.
 abbrev pub invariant-loop-item : goal.invariant-loop-item
 invariant-loop-item l =
     are_none (left_among l.floor l.position (records_in (drop l.item-index l.records) l.shard))

@@ -8,7 +8,7 @@ use Rattle.kds_turn.specs.Passes.{accounts_of}
 use Rattle.kcl_drill_run.specs.Running.{accounts_in}
 use Rattle.kcl_drill_run.proofs.closing.join_all.Given as goal
 
--- those that are left are to be taken in
+-- The passes of the workers that are left have still to be taken in.
 abbrev pub invariant-loop-member : goal.invariant-loop-member
 invariant-loop-member l =
     let p = l.fn.participants in

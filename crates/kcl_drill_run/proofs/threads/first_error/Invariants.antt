@@ -3,7 +3,7 @@ use Rattle.kds_turn.specs.declared.pass.TurnErr.{TurnErr}
 use Rattle.kcl_drill_run.specs.Ends.{AllEnded, SomeFailed}
 use Rattle.kcl_drill_run.proofs.threads.first_error.Given as goal
 
--- those that are left decide
+-- The workers that are left decide.
 abbrev pub invariant-loop-member : goal.invariant-loop-member
 invariant-loop-member l = record {
   ok : AllEnded (drop l.member-index l.members) → AllEnded l.members;

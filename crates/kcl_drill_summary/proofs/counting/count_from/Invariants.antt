@@ -6,7 +6,7 @@ use Rattle.kcl_drill_summary.specs.Reading.{HasRead}
 use Rattle.kcl_drill_summary.specs.Counting.{CanCount, GoesOn}
 use Rattle.kcl_drill_summary.proofs.counting.count_from.Given as goal
 
--- the machine has read on in the same shard, and what is counted and what is left are all
+-- The machine has read on in the same shard, and what is counted and what is left are all records.
 abbrev pub invariant-loop-now : goal.invariant-loop-now
 invariant-loop-now g l =
     ((h : List Asked) → HasRead (g.M.Machine.stands_for l.fn.machine) l.by l.at h

@@ -6,7 +6,7 @@ use Rattle.kcl_drill_summary.specs.Summing.{CanTell, IsTold}
 use Rattle.kcl_drill_summary.specs.Reading.{HasRead}
 use Rattle.kcl_drill_summary.proofs.summing.sum_shards.Given as goal
 
--- the machine has only read, and what is told so far and what is to be told of the rest are all
+-- The machine has only read, and what is told so far and what is to be told of the rest are all that is told.
 abbrev pub invariant-loop-key : goal.invariant-loop-key
 invariant-loop-key g l =
     ((h : List Asked) → HasRead (g.M.Machine.stands_for l.fn.machine) l.by l.at h

@@ -3,7 +3,7 @@ use Rattle.kcl_journal.specs.Entries.{numbers_of, words}
 use Rattle.kcl_journal.proofs.WordLists.{with_front}
 use Rattle.kcl_journal.proofs.numbers.numbers.Given as goal
 
--- the numbers so far, and those that are left
+-- The numbers are those so far and those that are left.
 abbrev pub invariant-loop-front : goal.invariant-loop-front
 invariant-loop-front l = numbers_of (words l.fn.text) ≡ with_front l.numbers (numbers_of (words l.rest))
 

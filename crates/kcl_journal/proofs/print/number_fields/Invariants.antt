@@ -2,6 +2,6 @@ use Rattle.std.proofs.Common.{◌≡◌, ◌∷◌, ◌++◌, take, decimal}
 use Rattle.std.specs.Prelude.{flat_map}
 use Rattle.kcl_journal.proofs.print.number_fields.Given as goal
 
--- the numbers so far were added
+-- The numbers so far were added.
 abbrev pub invariant-loop-number : goal.invariant-loop-number
 invariant-loop-number l = l.to ≡ l.initial.to ++ flat_map (λ n. 32 ∷ decimal n) (take l.number-index l.numbers)

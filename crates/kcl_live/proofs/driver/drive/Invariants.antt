@@ -4,7 +4,7 @@ use Rattle.kcl_live.specs.Records.{AreOnLeasesAt}
 use Rattle.kcl_live.specs.Steps.{IsGoing}
 use Rattle.kcl_live.proofs.driver.drive.Given as goal
 
--- the first turns, at their moments
+-- The turns so far are at their moments.
 abbrev pub invariant-loop-k : goal.invariant-loop-k
 invariant-loop-k g l = record {
   kept : (l.pass.hall ≡ l.fn.pass.hall) × (l.pass.by ≡ l.fn.pass.by) × (l.pass.joined ≡ l.fn.pass.joined);

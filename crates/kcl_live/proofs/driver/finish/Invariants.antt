@@ -5,7 +5,7 @@ use Rattle.kcl_live.specs.Records.{AreOnLeasesAt}
 use Rattle.kcl_live.specs.Steps.{IsFinishing}
 use Rattle.kcl_live.proofs.driver.finish.Given as goal
 
--- the turns so far, at their moments, and those that are left
+-- The turns so far are at their moments, and the others are left.
 abbrev pub invariant-loop-at : goal.invariant-loop-at
 invariant-loop-at g l = record {
   kept : (l.pass.hall ≡ l.fn.pass.hall) × (l.pass.by ≡ l.fn.pass.by) × (l.pass.joined ≡ l.fn.pass.joined);

@@ -6,7 +6,7 @@ use Rattle.kcl_worker.specs.Standing.{StandsFor}
 use Rattle.kcl_live.specs.Records.{with_calls}
 use Rattle.kcl_live.proofs.steps.call_all.Given as goal
 
--- calls were made, and nothing else
+-- Calls were made, and nothing else has happened.
 abbrev pub invariant-loop-due : goal.invariant-loop-due
 invariant-loop-due g l = record {
   made : l.worker.made ≡ l.fn.worker.made;

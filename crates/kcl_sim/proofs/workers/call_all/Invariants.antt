@@ -4,7 +4,7 @@ use Rattle.kcl_sim.specs.Standing.{Employs}
 use Rattle.kcl_sim.specs.Workers.{Employed, all_called}
 use Rattle.kcl_sim.proofs.workers.call_all.Given as goal
 
--- the calls so far lead to where all of them lead
+-- The calls so far lead to where all of the calls lead.
 abbrev pub invariant-loop-worker : goal.invariant-loop-worker
 invariant-loop-worker l =
     (l.worker.waiting ≡ None)

@@ -2,6 +2,6 @@ use Rattle.std.proofs.Common.{◌≡◌, ◌++◌, drop, map}
 use Rattle.kcl_defs.specs.Plans.{take_step}
 use Rattle.kcl_take.proofs.taking.steps_of.Given as goal
 
--- the steps so far, and those for the rows that are left
+-- The steps are those so far and those for the rows that are left.
 abbrev pub invariant-loop-r : goal.invariant-loop-r
 invariant-loop-r l = l.steps ++ map take_step (drop l.r-index l.rows) ≡ map take_step l.rows

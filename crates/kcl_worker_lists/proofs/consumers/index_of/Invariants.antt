@@ -5,7 +5,7 @@ use Rattle.kds_defs.specs.declared.reply.Reply.{Reply}
 use Rattle.kcl_worker_lists.specs.Changes.{answered_among}
 use Rattle.kcl_worker_lists.proofs.consumers.index_of.Given as goal
 
--- none before the place is of this lease
+-- No consumer before the index is of the lease.
 abbrev pub invariant-loop-i : goal.invariant-loop-i
 invariant-loop-i g l =
     (answer : Result Reply Refusal) → take l.i l.consumers ++ answered_among l.fn.id answer (drop l.i l.consumers)

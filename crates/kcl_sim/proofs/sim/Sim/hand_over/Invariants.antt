@@ -2,7 +2,7 @@ use Rattle.kcl_hand.specs.Standing.{turns_left_in}
 use Rattle.kcl_sim.proofs.HandRuns.{UnderWay}
 use Rattle.kcl_sim.proofs.sim.Sim.hand_over.Given as goal
 
--- so many of its commands ran, and what is left of it is left of the whole
+-- The first commands of the hand-off ran, and what is left of it is what is left of the whole run.
 abbrev pub invariant-loop-alloc : goal.invariant-loop-alloc
 invariant-loop-alloc g l = UnderWay g.K.Keep.wanted l.at l.by l.fn.self l.self l.fn.hand l.hand l.text
 

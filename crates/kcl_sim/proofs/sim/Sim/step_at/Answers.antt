@@ -6,7 +6,7 @@ use Rattle.kcl_sim.proofs.Employing.{set_again}
 use Rattle.kcl_sim.proofs.Running.{Asked, asked_at, err_so, idle_steps, on_ok_all, on_ok_so, turn_may, turn_steps}
 use Rattle.kcl_sim.proofs.sim.Sim.step_at.Goals as goal
 
--- the worker of the place, once it was asked
+-- The worker at the index, once it was asked for a command.
 asked_turn : (g : _) (c : goal.After-turn_of g)
     → Asked c.args.at c.args.place c.args.self.now c.ask.result c.ask.new.worker
 asked_turn g c =

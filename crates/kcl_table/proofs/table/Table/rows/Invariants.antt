@@ -1,6 +1,6 @@
 use Rattle.std.proofs.Common.{◌≡◌, take}
 use Rattle.kcl_table.proofs.table.Table.rows.Given as goal
 
--- the rows so far
+-- The rows so far.
 abbrev pub invariant-loop-row : goal.invariant-loop-row
 invariant-loop-row l = l.rows ≡ take l.row-index l.self
