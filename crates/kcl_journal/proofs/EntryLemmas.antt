@@ -6,7 +6,8 @@ use Rattle.std.proofs.lemmas.Slice.Eq.{bytes_eq-Decides}
 use Rattle.std.specs.Str.{bytes_eq}
 use Rattle.kds_defs.specs.declared.entry.Entry.{Entry}
 use Rattle.kds_defs.specs.declared.entry.Entry.TheVariants as entry
-use Rattle.kcl_script_fields.specs.Fields.{◌>>=◌, field, moment_of, greatest32}
+use Rattle.kds_base.specs.Moments.{moment_of}
+use Rattle.kcl_script_fields.specs.Fields.{◌>>=◌, field, greatest32}
 use Rattle.kcl_script_fields.proofs.Parts.{parted_at, parted_spells, bind_some, map_some}
 use Rattle.kcl_script_fields.proofs.Forms.{IsForm, IsWorker, number_form, moment_form, decimal_lacks}
 use Rattle.kcl_script_fields.proofs.RawLemmas.{choose, row_form}

@@ -10,7 +10,8 @@ use Rattle.kds_defs.specs.declared.entry.Entry.TheVariants as entry
 use Rattle.kds_defs.specs.declared.limits.TheConstants.{MOST, LEAST_SHARDS, MOST_SHARDS, LEAST_HOURS, MOST_HOURS}
 use Rattle.kds_defs.specs.declared.limits.TheConstants.{RECORD_BYTES}
 use Rattle.kcl_script_fields.specs.Commands.{row_of, target_of, target_text}
-use Rattle.kcl_script_fields.specs.Fields.{◌>>=◌, field, two, moment_of, number, greatest32, worker_of, worker_text}
+use Rattle.kds_base.specs.Moments.{moment_of}
+use Rattle.kcl_script_fields.specs.Fields.{◌>>=◌, field, two, number, greatest32, worker_of, worker_text}
 use Rattle.kcl_script_fields.specs.Fields.{key_of, key_text}
 use Rattle.kcl_script_fields.specs.Origins.{origin_text}
 use Rattle.kcl_journal.specs.declared.line.EntryLine.{EntryLine}

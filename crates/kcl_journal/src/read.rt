@@ -8,7 +8,7 @@ use crate::numbers::within32;
 use crate::streams::{
     parse_enforced, parse_gone, parse_kept, parse_made, parse_merged, parse_put, parse_split,
 };
-use kcl_script_fields::{field, moment};
+use kcl_script_fields::field;
 use kds_base::{Memory, Moment};
 use kds_defs::Entry;
 use std::alloc::Global;
@@ -48,7 +48,7 @@ pub fn read_entry(alloc: Global, text: &[u8], version: u8) -> Result<Option<Entr
     let Some((first, rest)) = field(text) else {
         return Ok(None);
     };
-    let Some(clock) = moment(first) else {
+    let Some(clock) = Moment::read(first) else {
         return Ok(None);
     };
     let Some((second, rest)) = field(rest) else {
@@ -74,7 +74,7 @@ pub fn read_end(text: &[u8]) -> Option<Moment>
 {
     let (word, rest) = field(text)?;
     if word == b"end".as_slice() {
-        moment(rest)
+        Moment::read(rest)
     } else {
         None
     }

@@ -3,13 +3,15 @@ use Rattle.std.proofs.Common.{◌≡◌, ℕ, ◌<◌, ◌≤◌, ◌^◌, List,
 use Rattle.std.proofs.Common.{ap, ◌∙◌, arith, decimal, inl, inr, subst}
 use Rattle.std.proofs.lemmas.Grind.{common_steps}
 use Rattle.std.proofs.lemmas.Bool.{cases_Bool, eqb-true}
-use Rattle.std.specs.Prelude.{◌==◌, ◌&&◌, if◌then◌else◌, option_map, option_and_then, nat_le, nat_lt}
+use Rattle.std.specs.Prelude.{◌==◌, ◌&&◌, if◌then◌else◌, option_map, option_and_then, nat_le}
 use Rattle.std.proofs.lemmas.Fmt.{digits_decimal}
 use Rattle.std.specs.Char.{is_ascii_digit}
 use Rattle.kds_base.specs.declared.lease_key.ShardRef.{ShardRef}
+use Rattle.kds_base.specs.Moments.{moment_of}
 use Rattle.kds_base.specs.NumberText.{number_of}
+use Rattle.kds_base.proofs.MomentLemmas.{moment_spells, moment_again}
 use Rattle.kds_base.proofs.NumberLemmas.{own, decimal_of_number, number_of_decimal}
-use Rattle.kcl_script_fields.specs.Fields.{parted, Lacks, two, in_time, moment_of, number, from_one_to, count_of}
+use Rattle.kcl_script_fields.specs.Fields.{parted, Lacks, two, number, from_one_to, count_of}
 use Rattle.kcl_script_fields.specs.Fields.{greatest32, worker_of, worker_text, key_from, key_of, key_text}
 use Rattle.kcl_script_fields.specs.Commands.{IsKey}
 use Rattle.kcl_script_fields.proofs.Parts.{lacks-append, parted_at, parted_spells, kind_lacks, bind_some, map_some}
@@ -65,29 +67,9 @@ decimal_lacks sep n other small = kind_lacks is_ascii_digit sep (decimal n) othe
 abbrev pub IsMoment : ℕ → Type 0
 IsMoment at = at < 2 ^ 62
 
-in_time_is : (n m : ℕ) → in_time n ≡ Some m → (n ≡ m) × (m < 2 ^ 62)
-in_time_is n m h = elim (cases_Bool (nat_lt n (2 ^ 62))) [
-  | inl small ↦ let e : Some n ≡ Some m = rw small at h in let same : n ≡ m = cc in (same, grind (arith, common_steps))
-  | inr big ↦ let e : None ≡ Some m = rw big at h in absurd (cc)
-]
-
-moment_of_text : (o : Option ℕ) (text : List ℕ) (at : ℕ) → number_of 64 text ≡ o → option_and_then in_time o ≡ Some at
-    → (text ≡ decimal at) × (at < 2 ^ 62)
-moment_of_text None text at e h = absurd (cc)
-moment_of_text (Some n) text at e h =
-    let t = in_time_is n at h in
-    let d = decimal_of_number text n e in
-    (d.0 ∙ ap decimal t.0, t.1)
-
-in_time_again : (at : ℕ) → at < 2 ^ 62 → in_time at ≡ Some at
-in_time_again at small = grind (arith, common_steps)
-
-moment_again : (at : ℕ) → at < 2 ^ 62 → moment_of (decimal at) ≡ Some at
-moment_again at small = ap (option_and_then in_time) (number_of_decimal at (omega arith)) ∙ in_time_again at small
-
 pub moment_form : IsForm IsMoment moment_of decimal
 moment_form = record {
-  spells = λ text at h. let d = moment_of_text _ text at refl h in (d.1, d.0);
+  spells = λ text at h. let d = moment_spells text at h in (d.1, d.0);
   again = moment_again;
 }
 

@@ -7,7 +7,8 @@ use Rattle.std.specs.Prelude.{if◌then◌else◌, option_map}
 use Rattle.std.specs.Str.{bytes_eq}
 use Rattle.kds_defs.specs.declared.command.Origin.{Origin}
 use Rattle.kds_defs.specs.declared.command.Origin.TheVariants as origin
-use Rattle.kcl_script_fields.specs.Fields.{field, Lacks, moment_of}
+use Rattle.kds_base.specs.Moments.{moment_of}
+use Rattle.kcl_script_fields.specs.Fields.{field, Lacks}
 use Rattle.kcl_script_fields.specs.Origins.{IsOrigin, origin_of, origin_text, time_of, with_origin, with_origin_at}
 use Rattle.kcl_script_fields.proofs.Parts.{parted_at, parted_none, parted_spells, bind_some, map_some}
 use Rattle.kcl_script_fields.proofs.Forms.{IsForm, moment_form}

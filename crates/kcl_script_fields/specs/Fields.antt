@@ -1,5 +1,5 @@
 -- The fields of a line, and the numbers, workers and keys in them.
-use Rattle.std.specs.Prelude.{◌≡◌, ℕ, ◌-◌, ◌^◌, List, [], ◌∷◌, ◌++◌, decimal, false, ◌&&◌, ◌==◌, nat_lt, nat_le}
+use Rattle.std.specs.Prelude.{◌≡◌, ℕ, ◌-◌, ◌^◌, List, [], ◌∷◌, ◌++◌, decimal, false, ◌&&◌, ◌==◌, nat_le}
 use Rattle.std.specs.Prelude.{if◌then◌else◌, Option, Some, None, option_map, option_and_then}
 use Rattle.kds_base.specs.declared.lease_key.ShardRef.{ShardRef}
 use Rattle.kds_base.specs.NumberText.{number_of}
@@ -30,13 +30,6 @@ two sep f g text = do
   a ← f p.0
   b ← g p.1
   Some (a, b)
-
-abbrev pub in_time : ℕ → Option ℕ
-in_time n = if nat_lt n (2 ^ 62) then Some n else None
-
--- The moment that a text denotes.
-abbrev pub moment_of : List ℕ → Option ℕ
-moment_of text = option_and_then in_time (number_of 64 text)
 
 -- The number below 2^64 that a text denotes.
 abbrev pub number : List ℕ → Option ℕ

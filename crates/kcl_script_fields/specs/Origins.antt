@@ -4,7 +4,8 @@ use Rattle.std.specs.Prelude.{option_map}
 use Rattle.std.specs.Str.{bytes_eq}
 use Rattle.kds_defs.specs.declared.command.Origin.{Origin}
 use Rattle.kds_defs.specs.declared.command.Origin.TheVariants as origin
-use Rattle.kcl_script_fields.specs.Fields.{◌>>=◌, field, moment_of}
+use Rattle.kds_base.specs.Moments.{moment_of}
+use Rattle.kcl_script_fields.specs.Fields.{◌>>=◌, field}
 
 -- The origin `time M`.
 abbrev pub time_of : List ℕ → Option Origin

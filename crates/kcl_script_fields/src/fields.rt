@@ -1,10 +1,10 @@
 //! Reads the fields of a line, and the numbers, workers and lease keys in these fields. If a text can't be read, the
 //! result is `None`.
 ghost use Rattle.std.specs.Prelude.{◌≡◌, ◌∷◌, option_map};
-ghost use Rattle.kcl_script_fields.specs.Fields.{parted, field as field_of, two, moment_of, number, from_one_to};
+ghost use Rattle.kcl_script_fields.specs.Fields.{parted, field as field_of, two, number, from_one_to};
 ghost use Rattle.kcl_script_fields.specs.Fields.{count_of, worker_of, key_of};
 
-use kds_base::{Moment, ShardNo, ShardRef, StreamNo, WorkerNo, read_u64};
+use kds_base::{ShardNo, ShardRef, StreamNo, WorkerNo, read_u64};
 use memchr::memchr;
 
 /// Splits `text` at the first byte `sep`, and returns the part before this byte and the part after it. Returns `None`
@@ -28,13 +28,6 @@ pub fn field(text: &[u8]) -> Option<(&[u8], &[u8])>
     ensures { option_map (λ p. (p.0.now, p.1.now)) result ≡ field_of text.now }
 {
     part(text, b' ')
-}
-
-/// Reads a moment, written as a decimal number of milliseconds.
-pub fn moment(text: &[u8]) -> Option<Moment>
-    ensures { result ≡ moment_of text.now }
-{
-    Moment::new(read_u64(text)?)
 }
 
 fn from_one(n: u64, most: u32) -> Option<u32>

@@ -12,7 +12,7 @@ mod words;
 
 pub use answer::{fill_answer, print_answer, refusal_name};
 pub use command::{origin_field, owner_field, print_command, target_field};
-pub use fields::{count, field, key_of, moment, worker};
+pub use fields::{count, field, key_of, worker};
 pub use laws::one_command_text;
 pub use origins::origin;
 pub use raw::{raw_command, row, target};

@@ -2,7 +2,8 @@
 ghost use Rattle.std.specs.Prelude.{◌≡◌};
 ghost use Rattle.kcl_script_fields.specs.Origins.{time_of, origin_of};
 
-use crate::fields::{field, moment};
+use crate::fields::field;
+use kds_base::Moment;
 use kds_defs::Origin;
 
 /// Reads the text `time M` as an origin, where M is a moment in milliseconds.
@@ -11,7 +12,7 @@ fn time(text: &[u8]) -> Option<Origin>
 {
     let (word, rest) = field(text)?;
     if word == b"time".as_slice() {
-        let at = moment(rest)?;
+        let at = Moment::read(rest)?;
         Some(Origin::Time(at))
     } else {
         None

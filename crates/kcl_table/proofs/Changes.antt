@@ -3,20 +3,18 @@ use Rattle.std.proofs.Common.{◌≡◌, ℕ, suc, ◌+◌, ◌<◌, ◌≤◌, 
 use Rattle.std.proofs.Common.{None, refl, sym, ap, subst, ◌∙◌, arith}
 use Rattle.std.specs.Prelude.{if◌then◌else◌}
 use Rattle.std.specs.List.{insert, remove}
-use Rattle.std.proofs.lemmas.Bool.Decides.{nat_tests}
 use Rattle.kds_base.specs.declared.lease_key.ShardRef.{ShardRef}
 use Rattle.kds_base.proofs.Facts.{apart, same_some}
 use Rattle.kds_defs.specs.declared.reply.Row.{Row}
 use Rattle.kds_defs.specs.Keys.{is_before, same_key}
 use Rattle.kds_defs.specs.Leases.{is_other, taken_row}
-use Rattle.kds_defs.proofs.Keys.{same_ref}
+use Rattle.kds_defs.proofs.Keys.{after_else, before_else, not_before_after, not_same, same_ref}
 use Rattle.kcl_table.specs.declared.writes.Change.{Change}
 use Rattle.kcl_table.specs.declared.writes.Change.TheVariants.{Renewed, Freed}
 use Rattle.kcl_table.specs.Rows.{AreCounted, AreInOrder, IsBeforeAll, IsTable, changed, place_of, row_of, with_row}
 use Rattle.kcl_table.specs.Rows.{without_row}
 use Rattle.kcl_table.specs.Writes.{written_row}
-use Rattle.kcl_table.proofs.Keys.{after_else, before_all, not_same}
-use Rattle.kcl_table.proofs.Places.{absent}
+use Rattle.kcl_table.proofs.Places.{absent, before_all}
 
 -- ---- The row of a key
 
@@ -145,9 +143,6 @@ none_of key x rs true same h = absurd (no x h)
     no x h = cc
 none_of key x rs false same h = (refl, h)
 
-not_before_after : (a b : ShardRef) → is_before a b ≡ true → is_before b a ≡ false
-not_before_after a b h = grind (arith, nat_tests)
-
 insert_here : (new x : Row) (rs : List Row) (b : Bool) → is_before x.key new.key ≡ b → same_key x.key new.key ≡ false
     → insert rs (place_of new.key rs) new ≡ with_row new rs
     → insert (x ∷ rs) (if b then suc (place_of new.key rs) else 0) new
@@ -183,10 +178,7 @@ with_here : (new x : Row) (rs : List Row) (b : Bool) → is_before new.key x.key
 with_here new x rs true before same counted table rest =
     (((before, before_all new.key x.key rs before table.0.0), table.0), (counted, table.1))
 with_here new x rs false before same counted table rest =
-    ((before_with x.key new rs (after x.key new.key before same) table.0.0, rest.0), (table.1.0, rest.1))
-  where
-    after : (a b : ShardRef) → is_before b a ≡ false → same_key a b ≡ false → is_before a b ≡ true
-    after a b h g = grind (arith, nat_tests)
+    ((before_with x.key new rs (before_else x.key new.key before same) table.0.0, rest.0), (table.1.0, rest.1))
 
 pub table_with : (new : Row) (rs : List Row) → row_of rs new.key ≡ None → new.switches ≤ new.counter → IsTable rs
     → IsTable (with_row new rs)

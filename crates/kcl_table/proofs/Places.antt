@@ -7,8 +7,12 @@ use Rattle.kds_base.specs.declared.lease_key.ShardRef.{ShardRef}
 use Rattle.kds_base.proofs.Facts.{apart}
 use Rattle.kds_defs.specs.declared.reply.Row.{Row}
 use Rattle.kds_defs.specs.Keys.{is_before, same_key}
+use Rattle.kds_defs.proofs.Keys.{after_else, before_both, not_same, not_same_after}
 use Rattle.kcl_table.specs.Rows.{AreInOrder, IsBeforeAll, if_key, place_of, row_of}
-use Rattle.kcl_table.proofs.Keys.{after_else, before_all, before_both, not_same, not_same_after}
+
+pub before_all : (a b : ShardRef) (rs : List Row) → is_before a b ≡ true → IsBeforeAll b rs → IsBeforeAll a rs
+before_all a b [] h all = tt
+before_all a b (r ∷ rs) h all = (before_both a b r.key h all.0, before_all a b rs h all.1)
 
 -- Whether the row comes before the key.
 abbrev pub comes_before : ShardRef → Row → Bool

@@ -1,23 +1,10 @@
 //! Finds the row with a given key among the rows of the lease table.
 ghost use Rattle.std.specs.Prelude.{◌≡◌, ◌≤◌, length, slice_get};
 ghost use Rattle.std.specs.Option.{option_map};
-ghost use Rattle.kds_defs.specs.Keys.{is_before};
 ghost use Rattle.kcl_table.specs.Rows.{AreInOrder, if_key, place_of, row_of};
 
 use kds_base::ShardRef;
-use kds_defs::Row;
-
-/// Whether the key `a` comes before the key `b`. Keys are ordered by stream number, and within a stream by shard
-/// number.
-fn is_before(a: &ShardRef, b: &ShardRef) -> bool
-    ensures { result ≡ is_before a.now b.now }
-{
-    if a.stream == b.stream {
-        a.shard < b.shard
-    } else {
-        a.stream < b.stream
-    }
-}
+use kds_defs::{Row, is_before};
 
 /// Returns the number of rows whose keys come before `key`. This is the index at which a row with the key `key`
 /// belongs.

@@ -10,23 +10,11 @@ use Rattle.kds_base.proofs.Facts.{apart, same_some}
 use Rattle.kcl_defs.specs.declared.plans.Seen.{Seen}
 use Rattle.kds_defs.specs.declared.reply.Row.{Row}
 use Rattle.kds_defs.specs.Keys.{is_before, same_key}
-use Rattle.kds_defs.proofs.Keys.{same_ref}
+use Rattle.kds_defs.proofs.Keys.{same_ref, before_both, not_same, not_same_after, after_else}
 use Rattle.kcl_defs.specs.Plans.{after_row, after_rows, seen_at, with_sight}
 use Rattle.kcl_take.specs.Notes.{AreInOrder, IsBeforeAll, first_note, if_key, noted, noted_all, place_of}
 
 -- ---- Keys
-
-before_both : (a b c : ShardRef) → is_before a b ≡ true → is_before b c ≡ true → is_before a c ≡ true
-before_both a b c h g = grind (arith, nat_tests)
-
-not_same : (a b : ShardRef) → is_before a b ≡ true → same_key a b ≡ false
-not_same a b h = grind (arith, nat_tests)
-
-not_same_after : (a b : ShardRef) → is_before b a ≡ true → same_key a b ≡ false
-not_same_after a b h = grind (arith, nat_tests)
-
-after_else : (a b : ShardRef) → is_before a b ≡ false → same_key a b ≡ false → is_before b a ≡ true
-after_else a b h g = grind (arith, nat_tests)
 
 before_all : (a b : ShardRef) (xs : List Seen) → is_before a b ≡ true → IsBeforeAll b xs → IsBeforeAll a xs
 before_all a b [] h all = tt

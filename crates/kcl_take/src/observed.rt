@@ -2,13 +2,12 @@
 //! of a lease in the lease table. Each write of a row raises its counter.
 ghost use Rattle.std.specs.Prelude.{◌≡◌, ◌≤◌, [], length, slice_get, IfOk, OnOk, OnErr};
 ghost use Rattle.kds_base.specs.declared.lease_key.ShardRef.{ShardRef};
-ghost use Rattle.kds_defs.specs.Keys.{is_before};
 ghost use Rattle.kcl_defs.specs.Plans.{after_rows, is_expired_since, seen_at};
 ghost use Rattle.kcl_take.specs.Notes.{AreInOrder, first_note, if_key, noted, noted_all, place_of};
 
 use kcl_defs::Seen;
 use kds_base::{Memory, Moment, ShardRef};
-use kds_defs::Row;
+use kds_defs::{Row, is_before};
 use std::alloc::Global;
 use std::marker::Model;
 
@@ -43,18 +42,6 @@ fn first_note(r: &Row, now: Moment) -> Seen
     }
 }
 
-/// Whether the key `a` comes before the key `b`. Keys are ordered by stream number, and within a stream by shard
-/// number.
-fn precedes(a: &ShardRef, b: &ShardRef) -> bool
-    ensures { result ≡ is_before a.now b.now }
-{
-    if a.stream == b.stream {
-        a.shard < b.shard
-    } else {
-        a.stream < b.stream
-    }
-}
-
 /// Returns the number of notes on rows whose keys come before `key`. This is the index at which the note on the row
 /// with the key `key` belongs.
 fn index_of(seen: &[Seen], key: &ShardRef) -> usize
@@ -62,7 +49,7 @@ fn index_of(seen: &[Seen], key: &ShardRef) -> usize
     ensures value { result ≡ place_of key.now seen.now }
     ensures within { result ≤ length seen.now }
 {
-    seen.partition_point(|s| precedes(&s.key, key))
+    seen.partition_point(|s| is_before(&s.key, key))
 }
 
 /// Returns the note at the index `index` if it is a note on the row with the key `key`, and otherwise `None`.

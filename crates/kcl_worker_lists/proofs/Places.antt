@@ -3,27 +3,15 @@ use Rattle.std.proofs.Common.{◌≡◌, ℕ, zero, suc, ◌+◌, ◌<◌, ◌�
 use Rattle.std.proofs.Common.{None, refl, sym, ap, subst, ◌∙◌, arith}
 use Rattle.std.specs.Prelude.{slice_get, slice_index_or, if◌then◌else◌}
 use Rattle.std.specs.List.Sorted.{IsPartitionedBy, IsPartitionPoint}
-use Rattle.std.proofs.lemmas.Bool.Decides.{nat_tests}
 use Rattle.kds_base.specs.declared.lease_key.ShardRef.{ShardRef}
 use Rattle.kds_base.proofs.Facts.{apart}
 use Rattle.kds_defs.specs.declared.reply.Row.{Row}
 use Rattle.kds_defs.specs.Keys.{is_before, same_key}
+use Rattle.kds_defs.proofs.Keys.{before_both, not_same, not_same_after, after_else}
 use Rattle.kcl_defs.specs.Plans.{AreRising, IsBeforeFirst, keys_of, row_of}
 use Rattle.kcl_worker_lists.specs.Places.{before_next, if_key, place_of}
 
 -- ---- Keys
-
-before_both : (a b c : ShardRef) → is_before a b ≡ true → is_before b c ≡ true → is_before a c ≡ true
-before_both a b c h g = grind (arith, nat_tests)
-
-not_same : (a b : ShardRef) → is_before a b ≡ true → same_key a b ≡ false
-not_same a b h = grind (arith, nat_tests)
-
-not_same_after : (a b : ShardRef) → is_before b a ≡ true → same_key a b ≡ false
-not_same_after a b h = grind (arith, nat_tests)
-
-after_else : (a b : ShardRef) → is_before a b ≡ false → same_key a b ≡ false → is_before b a ≡ true
-after_else a b h g = grind (arith, nat_tests)
 
 before_first : (a b : ShardRef) (rs : List Row) → is_before a b ≡ true → IsBeforeFirst b (keys_of rs)
     → IsBeforeFirst a (keys_of rs)

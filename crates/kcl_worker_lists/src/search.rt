@@ -2,31 +2,18 @@
 //! did is looked at once, so that no caller has to know it.
 ghost use Rattle.std.specs.Prelude.{◌≡◌, ◌≤◌, length, slice_get, true};
 ghost use Rattle.std.specs.Option.{option_map};
-ghost use Rattle.kds_defs.specs.Keys.{is_before};
 ghost use Rattle.kcl_defs.specs.Plans.{AreRising, keys_of, row_of};
 ghost use Rattle.kcl_worker_lists.specs.Places.{before_next, if_key, place_of};
 
 use kds_base::ShardRef;
-use kds_defs::Row;
-
-/// Whether the key `a` comes before the key `b`. Keys are ordered by stream number, and within a stream by shard
-/// number.
-fn precedes(a: &ShardRef, b: &ShardRef) -> bool
-    ensures { result ≡ is_before a.now b.now }
-{
-    if a.stream == b.stream {
-        a.shard < b.shard
-    } else {
-        a.stream < b.stream
-    }
-}
+use kds_defs::{Row, is_before};
 
 /// Whether `key` comes before the key of the row at the index `next`, if there is one.
 fn before_next(key: &ShardRef, rows: &[Row], next: usize) -> bool
     ensures { result ≡ before_next key.now (slice_get rows.now next) }
 {
     match rows.get(next) {
-        Some(r) => precedes(key, &r.key),
+        Some(r) => is_before(key, &r.key),
         None => true,
     }
 }
@@ -53,7 +40,7 @@ fn index_of(rows: &[Row], key: &ShardRef) -> usize
     ensures value { result ≡ place_of key.now rows.now }
     ensures within { result ≤ length rows.now }
 {
-    rows.partition_point(|row| precedes(&row.key, key))
+    rows.partition_point(|row| is_before(&row.key, key))
 }
 
 /// Returns the row at the index `index` if the row's key is `key`, and otherwise `None`.

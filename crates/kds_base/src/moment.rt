@@ -1,6 +1,8 @@
 //! Points in time, in milliseconds.
 ghost use Rattle.std.specs.Prelude.{◌≡◌, ◌<◌, ◌^◌, max, SomeIff};
+ghost use Rattle.kds_base.specs.Moments.{moment_of};
 
+use crate::number_text::read_u64;
 use std::marker::Model;
 
 /// The least number of milliseconds that is too great for a moment: 2^62.
@@ -34,6 +36,17 @@ impl Moment {
             Some(Moment { ms })
         } else {
             None
+        }
+    }
+
+    /// Reads a moment: a number of milliseconds below `MOMENT_END`, in decimal, without needless leading zeros. Returns
+    /// `None` for every other text.
+    pub fn read(text: &[u8]) -> Option<Moment>
+        ensures { result ≡ moment_of text.now }
+    {
+        match read_u64(text) {
+            Some(ms) => Moment::new(ms),
+            None => None,
         }
     }
 

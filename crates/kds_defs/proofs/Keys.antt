@@ -1,10 +1,11 @@
--- Two keys of leases are one where the test says so.
-use Rattle.std.proofs.Common.{◌≡◌, true}
+-- Tests on keys: when two keys are the same, and which of two comes first.
+use Rattle.std.proofs.Common.{◌≡◌, true, false, arith}
 use Rattle.std.specs.Prelude.{◌==◌}
 use Rattle.std.proofs.lemmas.Bool.{and_parts, and_from}
+use Rattle.std.proofs.lemmas.Bool.Decides.{nat_tests}
 use Rattle.kds_base.specs.declared.lease_key.ShardRef.{ShardRef}
 use Rattle.kds_base.proofs.Facts.{equal_so, is_itself}
-use Rattle.kds_defs.specs.Keys.{same_key}
+use Rattle.kds_defs.specs.Keys.{is_before, same_key}
 
 pub same_ref : (a b : ShardRef) → same_key a b ≡ true → a ≡ b
 same_ref a b h =
@@ -16,3 +17,29 @@ same_ref a b h =
 pub key_itself : (key : ShardRef) → same_key key key ≡ true
 key_itself key = and_from (key.stream == key.stream) (key.shard == key.shard) (is_itself key.stream)
     (is_itself key.shard)
+
+-- ---- The order of keys is total
+
+-- If `a` comes before `b`, and `b` before `c`, then `a` comes before `c`.
+pub before_both : (a b c : ShardRef) → is_before a b ≡ true → is_before b c ≡ true → is_before a c ≡ true
+before_both a b c h g = grind (arith, nat_tests)
+
+-- A key that comes before `b` isn't `b`.
+pub not_same : (a b : ShardRef) → is_before a b ≡ true → same_key a b ≡ false
+not_same a b h = grind (arith, nat_tests)
+
+-- A key that `b` comes before isn't `b`.
+pub not_same_after : (a b : ShardRef) → is_before b a ≡ true → same_key a b ≡ false
+not_same_after a b h = grind (arith, nat_tests)
+
+-- Of two keys, at most one comes before the other.
+pub not_before_after : (a b : ShardRef) → is_before a b ≡ true → is_before b a ≡ false
+not_before_after a b h = grind (arith, nat_tests)
+
+-- If `a` isn't `b` and doesn't come before it, then `b` comes before `a`.
+pub after_else : (a b : ShardRef) → is_before a b ≡ false → same_key a b ≡ false → is_before b a ≡ true
+after_else a b h g = grind (arith, nat_tests)
+
+-- If `a` isn't `b`, and `b` doesn't come before it, then `a` comes before `b`.
+pub before_else : (a b : ShardRef) → is_before b a ≡ false → same_key a b ≡ false → is_before a b ≡ true
+before_else a b h g = grind (arith, nat_tests)

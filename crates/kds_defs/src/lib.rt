@@ -6,6 +6,7 @@
 pub mod command;
 mod copy;
 pub mod entry;
+mod key_order;
 mod laws;
 mod limit_laws;
 pub mod limits;
@@ -17,6 +18,7 @@ mod shard_laws;
 
 pub use command::{Command, NewItem, Origin, Start, Target, Turn};
 pub use entry::Entry;
+pub use key_order::is_before;
 pub use laws::{lease_answers, refusal_chain, service_answers};
 pub use limit_laws::{lease_limits, rate_limits, request_limits, schedule_limits, service_limits};
 pub use machine::{Answer, Machine, let_go};

@@ -4,13 +4,12 @@ use Rattle.std.proofs.Common.{false, Option, Some, None, refl, ap, ◌∙◌, ar
 use Rattle.std.proofs.lemmas.Grind.{common_steps}
 use Rattle.std.proofs.lemmas.Bool.{cases_Bool, eqb-true, and_parts}
 use Rattle.std.proofs.lemmas.Fmt.{digits_decimal}
-use Rattle.std.specs.Prelude.{◌==◌, if◌then◌else◌, option_map, option_and_then, nat_lt}
+use Rattle.std.specs.Prelude.{◌==◌, if◌then◌else◌, option_map}
 use Rattle.std.specs.List.{list_all}
 use Rattle.std.specs.Char.{is_ascii_digit}
-use Rattle.kds_base.specs.NumberText.{number_of}
-use Rattle.kds_base.proofs.NumberLemmas.{own, decimal_of_number, number_of_decimal}
+use Rattle.kds_base.proofs.NumberLemmas.{own}
 use Rattle.memchr.specs.Find.{NoneBefore, Passes, is_byte}
-use Rattle.kds_token.specs.Fields.{◌>>=◌, field, HasNoColon, in_time, moment_of}
+use Rattle.kds_token.specs.Fields.{◌>>=◌, field, HasNoColon}
 
 pub field_at : (a b : List ℕ) → HasNoColon a → field (a ++ 58 ∷ b) ≡ Some (a, b)
 field_at [] b n = refl
@@ -74,31 +73,6 @@ field_cases false b bs p c rest e = field_rest b bs (field bs) p c rest e
 pub field_spells : (text : List ℕ) (p : List ℕ × List ℕ) → field text ≡ Some p → IsField text p
 field_spells [] p e = absurd (cc)
 field_spells (b ∷ bs) p e = field_cases (b == 58) b bs p refl (field_spells bs) e
-
--- ---- moments
-
-in_time_is : (n m : ℕ) → in_time n ≡ Some m → (n ≡ m) × (m < 2 ^ 62)
-in_time_is n m h = elim (cases_Bool (nat_lt n (2 ^ 62))) [
-  | inl small ↦ let e : Some n ≡ Some m = rw small at h in let same : n ≡ m = cc in (same, grind (arith, common_steps))
-  | inr big ↦ let e : None ≡ Some m = rw big at h in absurd (cc)
-]
-
-moment_of_text : (o : Option ℕ) (text : List ℕ) (at : ℕ) → number_of 64 text ≡ o → option_and_then in_time o ≡ Some at
-    → (text ≡ decimal at) × (at < 2 ^ 62)
-moment_of_text None text at e h = absurd (cc)
-moment_of_text (Some n) text at e h =
-    let t = in_time_is n at h in
-    let d = decimal_of_number text n e in
-    (d.0 ∙ ap decimal t.0, t.1)
-
-pub moment_spells : (text : List ℕ) (at : ℕ) → moment_of text ≡ Some at → (text ≡ decimal at) × (at < 2 ^ 62)
-moment_spells text at h = moment_of_text (number_of 64 text) text at refl h
-
-in_time_again : (at : ℕ) → at < 2 ^ 62 → in_time at ≡ Some at
-in_time_again at small = grind (arith, common_steps)
-
-pub moment_again : (at : ℕ) → at < 2 ^ 62 → moment_of (decimal at) ≡ Some at
-moment_again at small = ap (option_and_then in_time) (number_of_decimal at (omega arith)) ∙ in_time_again at small
 
 -- ---- steps that may fail
 

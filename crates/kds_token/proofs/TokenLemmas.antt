@@ -15,10 +15,12 @@ use Rattle.kds_base.proofs.NumberLemmas.{decimal_of_number, number_of_decimal}
 use Rattle.kds_base.proofs.Facts.{same_some}
 use Rattle.kds_defs.specs.declared.reply.Iter.{Iter}
 use Rattle.kds_defs.specs.declared.reply.Page.{Page}
-use Rattle.kds_token.specs.Fields.{◌>>=◌, field, moment_of}
+use Rattle.kds_base.specs.Moments.{moment_of}
+use Rattle.kds_token.specs.Fields.{◌>>=◌, field}
 use Rattle.kds_token.specs.Tokens.{iter_text, iter_token, IsIter, ReadsAsIter, iter_from, iter_in, iter_of, page_text}
 use Rattle.kds_token.specs.Tokens.{page_token, IsPage, ReadsAsPage, page_from, page_in, page_of}
-use Rattle.kds_token.proofs.FieldLemmas.{field_at, field_spells, moment_spells, moment_again, bind_some}
+use Rattle.kds_base.proofs.MomentLemmas.{moment_spells, moment_again}
+use Rattle.kds_token.proofs.FieldLemmas.{field_at, field_spells, bind_some}
 use Rattle.kds_token.proofs.FieldLemmas.{decimal_no_colon, AreSmall, decimal_small, small-append}
 
 -- ---- base64

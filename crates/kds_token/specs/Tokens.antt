@@ -6,7 +6,8 @@ use Rattle.base64.specs.GeneralPurpose.{encode_of, decoded_of}
 use Rattle.kds_base.specs.NumberText.{number_of}
 use Rattle.kds_defs.specs.declared.reply.Iter.{Iter}
 use Rattle.kds_defs.specs.declared.reply.Page.{Page}
-use Rattle.kds_token.specs.Fields.{◌>>=◌, field, moment_of}
+use Rattle.kds_base.specs.Moments.{moment_of}
+use Rattle.kds_token.specs.Fields.{◌>>=◌, field}
 
 -- ---- iterators
 

@@ -1,11 +1,10 @@
 //! Writes and parses the fields of a token. Colons separate the fields.
 ghost use Rattle.std.specs.Prelude.{◌≡◌, ◌≤◌, ◌+◌, ◌++◌, decimal, option_map};
 ghost use Rattle.arrayvec.specs.ArrayString.{array_string_len};
-ghost use Rattle.kds_token.specs.Fields.{field, moment_of};
+ghost use Rattle.kds_token.specs.Fields.{field};
 
 use arrayvec::ArrayString;
 use itoa::Buffer;
-use kds_base::{Moment, read_u64};
 use memchr::memchr;
 
 /// Splits the text at its first colon, and returns the parts before and after this colon. Returns `None` if the text
@@ -31,15 +30,4 @@ pub fn put_number(text: &mut ArrayString<96>, n: u64)
 {
     let mut digits = Buffer::new();
     text.push_str(digits.format(n));
-}
-
-/// Parses a moment: a number of milliseconds below 2^62, in decimal, without needless leading zeros. Returns `None` for
-/// every other text.
-pub fn moment(text: &[u8]) -> Option<Moment>
-    ensures { result ≡ moment_of text.now }
-{
-    match read_u64(text) {
-        Some(ms) => Moment::new(ms),
-        None => None,
-    }
 }

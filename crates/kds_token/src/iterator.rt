@@ -3,9 +3,9 @@ ghost use Rattle.std.specs.Prelude.{◌≡◌, IfOk};
 ghost use Rattle.kds_token.specs.Tokens.{iter_text, iter_token, iter_from, iter_in, iter_of, ReadsAsIter};
 
 use crate::code::{bytes_of, encoded};
-use crate::fields::{moment, put_number, split_at_colon};
+use crate::fields::{put_number, split_at_colon};
 use arrayvec::ArrayString;
-use kds_base::{Memory, Octets, ShardNo, StreamNo, read_u64};
+use kds_base::{Memory, Moment, Octets, ShardNo, StreamNo, read_u64};
 use kds_defs::Iter;
 use std::alloc::Global;
 
@@ -41,7 +41,7 @@ fn from_fields(stream: &[u8], shard: &[u8], position: &[u8], issued: &[u8]) -> O
     let stream = StreamNo(read_u64(stream)?);
     let shard = ShardNo(read_u64(shard)?);
     let position = read_u64(position)?;
-    let issued = moment(issued)?;
+    let issued = Moment::read(issued)?;
     Some(Iter {
         stream,
         shard,

@@ -3,9 +3,9 @@ ghost use Rattle.std.specs.Prelude.{◌≡◌, IfOk};
 ghost use Rattle.kds_token.specs.Tokens.{page_text, page_token, page_from, page_in, page_of, ReadsAsPage};
 
 use crate::code::{bytes_of, encoded};
-use crate::fields::{moment, put_number, split_at_colon};
+use crate::fields::{put_number, split_at_colon};
 use arrayvec::ArrayString;
-use kds_base::{Memory, Octets, ShardNo, StreamNo, read_u64};
+use kds_base::{Memory, Moment, Octets, ShardNo, StreamNo, read_u64};
 use kds_defs::Page;
 use std::alloc::Global;
 
@@ -39,7 +39,7 @@ fn from_fields(stream: &[u8], after: &[u8], issued: &[u8]) -> Option<Page>
 {
     let stream = StreamNo(read_u64(stream)?);
     let after = ShardNo(read_u64(after)?);
-    let issued = moment(issued)?;
+    let issued = Moment::read(issued)?;
     Some(Page {
         stream,
         after,
