@@ -9,6 +9,7 @@ ghost use Rattle.kds_turn.specs.Known.{Continues};
 ghost use Rattle.kcl_live.specs.Records.{AreOnLeasesAt, AreServedLater, HasAdded};
 ghost use Rattle.kcl_live.specs.Runs.{AreServedSoFar, HasRun, WasCut};
 ghost use Rattle.kcl_live.specs.Steps.{IsFinishing, IsGoing};
+ghost use Rattle.kds_turn.specs.Passes.{IsSamePass};
 
 use crate::gate::Gate;
 use crate::steps::{call_all, make_turn};
@@ -40,7 +41,7 @@ fn round<M: Machine, P: Processor + Drop, F: Maker<P>, G: Gate, R: Wait>(
     requires hall { pass.old.hall ≡ hall.now.id }
     requires free { worker.old.waiting ≡ None }
     requires going { IsGoing P.stands_for worker.old pass.old }
-    ensures kept { (pass.new.hall ≡ pass.old.hall) × (pass.new.by ≡ pass.old.by) × (pass.new.joined ≡ pass.old.joined) }
+    ensures kept { IsSamePass pass.new pass.old }
     ensures made { worker.new.made ≡ worker.old.made }
     ensures seen { Continues pass.new.seen pass.old.seen }
     ensures free { OnOk result (worker.new.waiting ≡ None) }
@@ -70,7 +71,7 @@ fn last_round<M: Machine, P: Processor + Drop, F: Maker<P>, G: Gate, R: Wait>(
     requires none_due { due_in worker.old.consumers ≡ None }
     requires busy { is_idle_in worker.old ≡ false }
     requires finishing { (most : ℕ) × IsFinishing P.stands_for worker.old pass.old most }
-    ensures kept { (pass.new.hall ≡ pass.old.hall) × (pass.new.by ≡ pass.old.by) × (pass.new.joined ≡ pass.old.joined) }
+    ensures kept { IsSamePass pass.new pass.old }
     ensures made { worker.new.made ≡ worker.old.made }
     ensures seen { Continues pass.new.seen pass.old.seen }
     ensures free { OnOk result (worker.new.waiting ≡ None) }
@@ -104,7 +105,7 @@ fn finish<M: Machine, P: Processor + Drop, F: Maker<P>, G: Gate, R: Wait>(
     requires free { worker.old.waiting ≡ None }
     requires finishing { IsFinishing P.stands_for worker.old pass.old (3 * turns) }
     requires so_far { AreOnLeasesAt tick pass.old.own × (length pass.old.own ≡ turns) }
-    ensures kept { (pass.new.hall ≡ pass.old.hall) × (pass.new.by ≡ pass.old.by) × (pass.new.joined ≡ pass.old.joined) }
+    ensures kept { IsSamePass pass.new pass.old }
     ensures made { worker.new.made ≡ worker.old.made }
     ensures seen { Continues pass.new.seen pass.old.seen }
     ensures moments { AreOnLeasesAt tick pass.new.own }
@@ -140,7 +141,7 @@ fn drive<M: Machine, P: Processor + Drop, F: Maker<P>, G: Gate, R: Wait>(
     requires hall { pass.old.hall ≡ hall.now.id }
     requires new { StandsFor P.stands_for worker.old [] × (pass.old.own ≡ []) }
     requires moments { 3 * turns * tick < 2 ^ 62 }
-    ensures kept { (pass.new.hall ≡ pass.old.hall) × (pass.new.by ≡ pass.old.by) × (pass.new.joined ≡ pass.old.joined) }
+    ensures kept { IsSamePass pass.new pass.old }
     ensures made { worker.new.made ≡ worker.old.made }
     ensures seen { Continues pass.new.seen pass.old.seen }
     ensures moments { AreOnLeasesAt tick pass.new.own }
@@ -178,7 +179,7 @@ pub fn run_worker<M: Machine, P: Processor + Drop, F: Maker<P>, G: Gate, R: Wait
     requires moments { 3 * turns * tick < 2 ^ 62 }
     // The pass keeps its hall and its number, and no other pass is joined into it. The worker keeps its name and
     // settings.
-    ensures kept { (pass.new.hall ≡ pass.old.hall) × (pass.new.by ≡ pass.old.by) × (pass.new.joined ≡ pass.old.joined) }
+    ensures kept { IsSamePass pass.new pass.old }
     ensures made { worker.new.made ≡ worker.old.made }
     ensures seen { Continues pass.new.seen pass.old.seen }
 

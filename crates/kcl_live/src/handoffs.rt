@@ -10,7 +10,7 @@ ghost use Rattle.kcl_hand.specs.Handing.{left_at};
 ghost use Rattle.kcl_hand.specs.Standing.{turns_left_in};
 ghost use Rattle.kcl_worker.specs.Standing.{StandsFor};
 ghost use Rattle.kds_turn.specs.Known.{Continues};
-ghost use Rattle.kds_turn.specs.Passes.{Standing};
+ghost use Rattle.kds_turn.specs.Passes.{IsSamePass, Standing};
 ghost use Rattle.kcl_live.specs.Hands.{Goes, HandWasCut, HasHandedOff, HasNothing, StoodStill};
 
 use kcl_consumer::{Maker, Processor};
@@ -53,7 +53,7 @@ fn answer_one<M: Machine, P: Processor, R: Wait>(
     requires hall { pass.old.hall ≡ hall.now.id }
     requires none_due { due_call hand.old.consumer.phase ≡ None }
     requires going { left_at hand.old.stand ≡ None }
-    ensures kept { (pass.new.hall ≡ pass.old.hall) × (pass.new.by ≡ pass.old.by) × (pass.new.joined ≡ pass.old.joined) }
+    ensures kept { IsSamePass pass.new pass.old }
     ensures held { hand.new.held ≡ hand.old.held }
     ensures made { hand.new.consumer.made ≡ hand.old.consumer.made }
     ensures seen { Continues pass.new.seen pass.old.seen }
@@ -81,7 +81,7 @@ fn advance<M: Machine, P: Processor, R: Wait>(
     at: Moment,
 ) -> Result<Option<Left>, TurnErr>
     requires hall { pass.old.hall ≡ hall.now.id }
-    ensures kept { (pass.new.hall ≡ pass.old.hall) × (pass.new.by ≡ pass.old.by) × (pass.new.joined ≡ pass.old.joined) }
+    ensures kept { IsSamePass pass.new pass.old }
     ensures held { hand.new.held ≡ hand.old.held }
     ensures made { hand.new.consumer.made ≡ hand.old.consumer.made }
     ensures seen { Continues pass.new.seen pass.old.seen }
@@ -112,7 +112,7 @@ fn carry<M: Machine, P: Processor, R: Wait>(
     at: Moment,
 ) -> Result<Left, TurnErr>
     requires hall { pass.old.hall ≡ hall.now.id }
-    ensures kept { (pass.new.hall ≡ pass.old.hall) × (pass.new.by ≡ pass.old.by) × (pass.new.joined ≡ pass.old.joined) }
+    ensures kept { IsSamePass pass.new pass.old }
     ensures held { hand.new.held ≡ hand.old.held }
     ensures made { hand.new.consumer.made ≡ hand.old.consumer.made }
     ensures seen { Continues pass.new.seen pass.old.seen }
@@ -146,7 +146,7 @@ pub fn hand_over<M: Machine, P: Processor + Drop, F: Maker<P>, R: Wait>(
 ) -> Result<Option<(Left, P)>, TurnErr>
     requires hall { pass.old.hall ≡ hall.now.id }
     requires free { worker.old.waiting ≡ None }
-    ensures kept { (pass.new.hall ≡ pass.old.hall) × (pass.new.by ≡ pass.old.by) × (pass.new.joined ≡ pass.old.joined) }
+    ensures kept { IsSamePass pass.new pass.old }
     ensures made { worker.new.made ≡ worker.old.made }
     ensures maker { worker.new.maker ≡ worker.old.maker }
     ensures free { worker.new.waiting ≡ None }

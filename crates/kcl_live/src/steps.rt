@@ -10,6 +10,7 @@ ghost use Rattle.kds_turn.specs.Known.{Continues};
 ghost use Rattle.kcl_live.specs.Records.{HasAdded, IsDriven, with_calls};
 ghost use Rattle.kcl_live.specs.Runs.{WasCut};
 ghost use Rattle.kcl_live.specs.Steps.{HasTurned};
+ghost use Rattle.kds_turn.specs.Passes.{IsSamePass};
 
 use crate::gate::Gate;
 use kcl_consumer::{Maker, Processor};
@@ -71,7 +72,7 @@ pub(crate) fn make_turn<M: Machine, P: Processor + Drop, F: Maker<P>, R: Wait>(
     requires free { worker.old.waiting ≡ None }
     requires none_due { due_in worker.old.consumers ≡ None }
     requires busy { is_idle_in worker.old ≡ false }
-    ensures kept { (pass.new.hall ≡ pass.old.hall) × (pass.new.by ≡ pass.old.by) × (pass.new.joined ≡ pass.old.joined) }
+    ensures kept { IsSamePass pass.new pass.old }
     ensures made { worker.new.made ≡ worker.old.made }
     ensures seen { Continues pass.new.seen pass.old.seen }
     ensures free { OnOk result (worker.new.waiting ≡ None) }

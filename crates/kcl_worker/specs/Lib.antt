@@ -4,3 +4,4 @@ pub mod Outlook
 pub mod Written
 pub mod Asks
 pub mod Adding
+pub mod Whole

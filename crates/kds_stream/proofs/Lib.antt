@@ -1,5 +1,6 @@
 pub mod Clocks
 pub mod Cuts
+pub mod Insides
 pub mod Listed
 pub mod LogLemmas
 pub mod NewStreams

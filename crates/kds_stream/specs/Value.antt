@@ -54,6 +54,10 @@ pub record IsStream (v : StreamValue) : Type 0 where
   pub drawn : 1 ≤ v.next
   pub fits : v.next < 2 ^ 64
 
+-- A change of a stream leaves its number, its name, its clock and whose turn it is to be settled.
+abbrev pub KeepsFields : StreamValue → StreamValue → Type 0
+KeepsFields new old = (new.no ≡ old.no) × (new.name ≡ old.name) × (new.clock ≡ old.clock) × (new.turn ≡ old.turn)
+
 -- after a change: when it was made, its retention, and what is trimmed, are as before, and going back to before the
 -- last advance leaves the present clock and cut
 pub record IsChangedAt (old new : StreamValue) : Type 0 where

@@ -48,7 +48,10 @@ pub struct Stream {
     next: Seq,
     clock: Moment,
     cut: Option<Moment>,
+    /// The clock to which `retreat` goes back. Each function that changes the stream sets `clock_before` and
+    /// `cut_before` to the present clock and trim horizon, because the clock can't go back behind an accepted command.
     clock_before: Moment,
+    /// The trim horizon to which `retreat` goes back.
     cut_before: Option<Moment>,
     /// The index of the log from which `settle` removes the trimmed (expired) records next.
     turn: usize,

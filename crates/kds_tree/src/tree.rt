@@ -45,10 +45,8 @@ pub struct ShardTree {
 impl Model for ShardTree {
     ghost use Rattle.std.specs.Prelude.{min, vec_capacity, vec_len, ◌-◌};
     ghost use Rattle.kds_defs.specs.Streams.{floor_of};
-    ghost use Rattle.kds_tree.specs.Families.{AreFamilies};
-    ghost use Rattle.kds_tree.specs.Front.{AreLeft};
-    ghost use Rattle.kds_tree.specs.Starts.{AreStarts};
-    ghost use Rattle.kds_tree.specs.Tree.{IsTree, TreeValue};
+    ghost use Rattle.kds_tree.specs.Tree.{TreeValue};
+    ghost use Rattle.kds_tree.specs.Whole.{FitTogether};
 
     ghost Value = { TreeValue };
 
@@ -59,9 +57,8 @@ impl Model for ShardTree {
           (vec_capacity t.first_children - vec_len t.first_children));
     } };
 
-    ghost invariant = { λ t. IsTree t.shards.items × AreStarts t.starts.items t.shards.items
-        × AreFamilies t.first_children.items t.shards.items
-        × AreLeft (floor_of t.front.cut) 0 t.front.count t.front.left.items t.shards.items };
+    ghost invariant = { λ t. FitTogether t.shards.items t.starts.items t.first_children.items (floor_of t.front.cut)
+        t.front.count t.front.left.items };
 }
 
 impl ShardTree {

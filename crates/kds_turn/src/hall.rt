@@ -10,7 +10,7 @@ ghost use Rattle.kds_defs.specs.Machines.{NeedsNoMemory};
 ghost use Rattle.kds_defs.specs.Safe.{IsSafe};
 ghost use Rattle.kds_turn.specs.declared.pass.TurnErr.TheVariants as failed;
 ghost use Rattle.kds_turn.specs.Known.{Continues, first_view};
-ghost use Rattle.kds_turn.specs.Passes.{accounts_of, new_pass, IsAnswered, HasAll, AreAllBy, IsSplitInto};
+ghost use Rattle.kds_turn.specs.Passes.{AreAllBy, HasAll, IsAnswered, IsSamePass, IsSplitInto, accounts_of, new_pass};
 
 use crate::pass::{Note, Pass, Past, TurnErr};
 use crate::rule::InOrder;
@@ -113,8 +113,7 @@ impl<M: Machine> Hall<M> {
     ) -> Result<Answer, TurnErr>
         requires hall { pass.old.hall ≡ self.now.id }
         requires lawful { IsLawful record { by = pass.old.by; at = now; what = what } }
-        ensures kept { (pass.new.hall ≡ pass.old.hall) × (pass.new.by ≡ pass.old.by)
-            × (pass.new.joined ≡ pass.old.joined) }
+        ensures kept { IsSamePass pass.new pass.old }
         ensures seen { Continues pass.new.seen pass.old.seen }
         ensures answered { IfOk result (λ a. IsAnswered record {
           by = pass.old.by;

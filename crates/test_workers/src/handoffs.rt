@@ -1,6 +1,7 @@
 //! A test of the graceful hand-off of a lease. The worker sends its commands to a machine through a hall, the lock
 //! around the machine. A pass is the right to send commands through the hall. Each such command is a turn.
 ghost use Rattle.std.specs.Prelude.{◌≡◌, [], None, true};
+ghost use Rattle.kds_turn.specs.Passes.{IsSamePass};
 
 use crate::crews::request;
 use kcl_defs::Settings;
@@ -38,7 +39,7 @@ fn worker_step<M: Machine, R: Wait>(
 ) -> bool
     requires hall { pass.old.hall ≡ hall.now.id }
     requires free { worker.old.waiting ≡ None }
-    ensures kept { (pass.new.hall ≡ pass.old.hall) × (pass.new.by ≡ pass.old.by) × (pass.new.joined ≡ pass.old.joined) }
+    ensures kept { IsSamePass pass.new pass.old }
     ensures free { result ≡ true → worker.new.waiting ≡ None }
 {
     if !call_due(worker) || worker.due().is_some() || worker.idle() {
@@ -71,7 +72,7 @@ fn hand_off<M: Machine, R: Wait>(
 ) -> Result<Option<(Left, u64)>, TurnErr>
     requires hall { pass.old.hall ≡ hall.now.id }
     requires free { worker.old.waiting ≡ None }
-    ensures kept { (pass.new.hall ≡ pass.old.hall) × (pass.new.by ≡ pass.old.by) × (pass.new.joined ≡ pass.old.joined) }
+    ensures kept { IsSamePass pass.new pass.old }
     ensures free { worker.new.waiting ≡ None }
 {
     match hand_over(rt, hall, pass, worker, key, at) {

@@ -4,7 +4,7 @@ ghost use Rattle.kds_defs.specs.PutCommands.{enforce};
 ghost use Rattle.kds_defs.specs.Rates.{SizedPut, is_throttled};
 ghost use Rattle.kds_stream_logs.specs.Rating.{StandFor};
 ghost use Rattle.kds_stream.specs.Showing.{Decides};
-ghost use Rattle.kds_stream.specs.Value.{IsChangedAt};
+ghost use Rattle.kds_stream.specs.Value.{IsChangedAt, KeepsFields};
 
 use crate::stream::Stream;
 use kds_base::ShardNo;
@@ -17,8 +17,7 @@ impl Stream {
     /// Data Streams Developer Guide, Quotas and Limits.
     pub fn enforce(&mut self, on: bool) -> Answer
         ensures answered { Decides self.old self.new result (λ log by. enforce log self.old.clock by self.old.no on) }
-        ensures fields { (self.new.no ≡ self.old.no) × (self.new.name ≡ self.old.name)
-            × (self.new.clock ≡ self.old.clock) × (self.new.turn ≡ self.old.turn) }
+        ensures fields { KeepsFields self.new self.old }
         ensures done { result ≡ Ok Reply.Done }
         ensures changed { IsChangedAt self.old self.new }
         ensures enforced { self.new.enforced ≡ on }

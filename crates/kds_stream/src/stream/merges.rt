@@ -2,7 +2,7 @@
 ghost use Rattle.std.specs.Prelude.{◌≡◌, ◌≢◌, IfOk, IfNone, None, OnErr, OnOk};
 ghost use Rattle.kds_defs.specs.StreamCommands.{last_number, merge};
 ghost use Rattle.kds_stream.specs.Showing.{Decides, RefusesAs, merge_line};
-ghost use Rattle.kds_stream.specs.Value.{IsChangedAt};
+ghost use Rattle.kds_stream.specs.Value.{IsChangedAt, KeepsFields};
 ghost use Rattle.kds_tree.specs.Tree.{merge_refusal};
 
 use crate::stream::Stream;
@@ -42,8 +42,7 @@ impl Stream {
     pub fn merge(&mut self, shard: ShardNo, other: ShardNo) -> Result<Answer, Memory>
         ensures answered { IfOk result
             (λ a. Decides self.old self.new a (λ log by. merge log self.old.clock by self.old.no shard other)) }
-        ensures fields { (self.new.no ≡ self.old.no) × (self.new.name ≡ self.old.name)
-            × (self.new.clock ≡ self.old.clock) × (self.new.turn ≡ self.old.turn) }
+        ensures fields { KeepsFields self.new self.old }
         ensures refused { IfOk result (λ a. OnErr a (self.new ≡ self.old)) }
         ensures changed { IfOk result (λ a. OnOk a (IsChangedAt self.old self.new)) }
         ensures kept { OnErr result (self.new ≡ self.old) }

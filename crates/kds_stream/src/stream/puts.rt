@@ -3,7 +3,7 @@ ghost use Rattle.std.specs.Prelude.{◌≡◌, IfOk, OnErr, OnOk};
 ghost use Rattle.kds_defs.specs.Lawful.{AreItems, IsItem};
 ghost use Rattle.kds_defs.specs.PutCommands.{put, put_many};
 ghost use Rattle.kds_stream.specs.Showing.{Decides};
-ghost use Rattle.kds_stream.specs.Value.{IsChangedAt};
+ghost use Rattle.kds_stream.specs.Value.{IsChangedAt, KeepsFields};
 
 use crate::stream::Stream;
 use kds_base::{Items, Memory, Seq};
@@ -22,8 +22,7 @@ impl Stream {
         requires { IsItem item }
         ensures answered { IfOk result
             (λ a. Decides self.old self.new a (λ log by. put log self.old.clock by self.old.no item)) }
-        ensures fields { (self.new.no ≡ self.old.no) × (self.new.name ≡ self.old.name)
-            × (self.new.clock ≡ self.old.clock) × (self.new.turn ≡ self.old.turn) }
+        ensures fields { KeepsFields self.new self.old }
         ensures refused { IfOk result (λ a. OnErr a (self.new ≡ self.old)) }
         ensures changed { IfOk result (λ a. OnOk a (IsChangedAt self.old self.new)) }
         ensures kept { OnErr result (self.new ≡ self.old) }
@@ -61,8 +60,7 @@ impl Stream {
         requires { AreItems items }
         ensures answered { IfOk result
             (λ a. Decides self.old self.new a (λ log by. put_many log self.old.clock by self.old.no items)) }
-        ensures fields { (self.new.no ≡ self.old.no) × (self.new.name ≡ self.old.name)
-            × (self.new.clock ≡ self.old.clock) × (self.new.turn ≡ self.old.turn) }
+        ensures fields { KeepsFields self.new self.old }
         ensures refused { IfOk result (λ a. OnErr a (self.new ≡ self.old)) }
         ensures changed { IfOk result (λ a. OnOk a (IsChangedAt self.old self.new)) }
         ensures kept { OnErr result (self.new ≡ self.old) }

@@ -3,7 +3,7 @@ ghost use Rattle.std.specs.Prelude.{◌≡◌, nat_lt, if◌then◌else◌, OnEr
 ghost use Rattle.kds_defs.specs.Lawful.{IsRetention};
 ghost use Rattle.kds_defs.specs.StreamCommands.{keep};
 ghost use Rattle.kds_stream.specs.Showing.{Decides};
-ghost use Rattle.kds_stream.specs.Value.{IsKeptAt};
+ghost use Rattle.kds_stream.specs.Value.{IsKeptAt, KeepsFields};
 
 use crate::stream::Stream;
 use crate::stream::clock::{cut_at, later_cut};
@@ -30,8 +30,7 @@ impl Stream {
         requires { IsRetention hours }
         ensures answered { Decides self.old self.new result
             (λ log by. keep log self.old.clock by self.old.no hours raise) }
-        ensures fields { (self.new.no ≡ self.old.no) × (self.new.name ≡ self.old.name)
-            × (self.new.clock ≡ self.old.clock) × (self.new.turn ≡ self.old.turn) }
+        ensures fields { KeepsFields self.new self.old }
         ensures refused { OnErr result (self.new ≡ self.old) }
         ensures changed { OnOk result (IsKeptAt hours self.old self.new) }
     {

@@ -4,7 +4,7 @@ ghost use Rattle.kds_defs.specs.Lawful.{IsShardCount};
 ghost use Rattle.kds_defs.specs.ScaleCommands.{made_by};
 ghost use Rattle.kds_stream.specs.Showing.{Decides};
 ghost use Rattle.kds_stream.specs.Steps.{IsPlan, is_over, scale_where};
-ghost use Rattle.kds_stream.specs.Value.{IsChangedAt};
+ghost use Rattle.kds_stream.specs.Value.{IsChangedAt, KeepsFields};
 
 use crate::stream::Stream;
 use kds_base::{Items, Memory, Seq};
@@ -23,8 +23,7 @@ impl Stream {
         requires { IsShardCount target }
         ensures answered { IfOk result (λ a. Decides self.old self.new a (λ log by.
             scale_where (is_over target room) log self.old.clock by self.old.name self.old.no target)) }
-        ensures fields { (self.new.no ≡ self.old.no) × (self.new.name ≡ self.old.name)
-            × (self.new.clock ≡ self.old.clock) × (self.new.turn ≡ self.old.turn) }
+        ensures fields { KeepsFields self.new self.old }
         ensures refused { IfOk result (λ a. OnErr a (self.new ≡ self.old)) }
         ensures changed { IfOk result (λ a. OnOk a (IsChangedAt self.old self.new)) }
         ensures kept { OnErr result (self.new ≡ self.old) }
@@ -59,8 +58,7 @@ impl Stream {
         requires made { made ≡ made_by steps.now }
         ensures answered { IfOk result (λ reply. Decides self.old self.new (Ok reply) (λ log by.
             scale_where false log self.old.clock by self.old.name self.old.no target)) }
-        ensures fields { (self.new.no ≡ self.old.no) × (self.new.name ≡ self.old.name)
-            × (self.new.clock ≡ self.old.clock) × (self.new.turn ≡ self.old.turn) }
+        ensures fields { KeepsFields self.new self.old }
         ensures changed { OnOk result (IsChangedAt self.old self.new) }
         ensures kept { OnErr result (self.new ≡ self.old) }
     {

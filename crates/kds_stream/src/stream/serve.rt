@@ -2,6 +2,7 @@
 ghost use Rattle.std.specs.Prelude.{◌≡◌, ℕ, Some, true, IfOk, OnErr};
 ghost use Rattle.kds_defs.specs.Lawful.{IsLawfulCommand};
 ghost use Rattle.kds_stream.specs.Serving.{Serves, is_of_stream, token_of};
+ghost use Rattle.kds_stream.specs.Value.{KeepsFields};
 
 use crate::stream::Stream;
 use kds_base::Memory;
@@ -18,8 +19,7 @@ impl Stream {
         requires own { is_of_stream what ≡ true }
         requires token { (s : ℕ) → token_of what ≡ Some s → s ≡ self.old.no }
         ensures answered { IfOk result (λ a. Serves what room self.old self.new a) }
-        ensures fields { (self.new.no ≡ self.old.no) × (self.new.name ≡ self.old.name)
-            × (self.new.clock ≡ self.old.clock) × (self.new.turn ≡ self.old.turn) }
+        ensures fields { KeepsFields self.new self.old }
         ensures kept { OnErr result (self.new ≡ self.old) }
     {
         // Each arm binds the name although no arm uses it, because the borrow checker doesn't track a field that a

@@ -5,7 +5,7 @@ ghost use Rattle.kds_defs.specs.declared.limits.TheConstants.{OPEN_SHARDS};
 ghost use Rattle.kds_defs.specs.Shards.{is_open};
 ghost use Rattle.kds_defs.specs.StreamCommands.{last_number, split_where};
 ghost use Rattle.kds_stream.specs.Showing.{Decides, RefusesAs, is_full, split_line};
-ghost use Rattle.kds_stream.specs.Value.{IsChangedAt};
+ghost use Rattle.kds_stream.specs.Value.{IsChangedAt, KeepsFields};
 ghost use Rattle.kds_tree.specs.Tree.{split_refusal};
 
 use crate::stream::Stream;
@@ -61,8 +61,7 @@ impl Stream {
     pub fn split(&mut self, shard: ShardNo, at: u128, room: u64) -> Result<Answer, Memory>
         ensures answered { IfOk result (λ a. Decides self.old self.new a (λ log by.
             split_where (is_full self.old room) log self.old.clock by self.old.no shard at)) }
-        ensures fields { (self.new.no ≡ self.old.no) × (self.new.name ≡ self.old.name)
-            × (self.new.clock ≡ self.old.clock) × (self.new.turn ≡ self.old.turn) }
+        ensures fields { KeepsFields self.new self.old }
         ensures refused { IfOk result (λ a. OnErr a (self.new ≡ self.old)) }
         ensures changed { IfOk result (λ a. OnOk a (IsChangedAt self.old self.new)) }
         ensures kept { OnErr result (self.new ≡ self.old) }

@@ -5,21 +5,20 @@ use Rattle.kcl_worker.specs.Asks.{AskWithin}
 use Rattle.kcl_worker.proofs.Askings.{within_answered, within_settled}
 use Rattle.kcl_worker.proofs.Absorbings.{give_leaves}
 use Rattle.kcl_worker.proofs.Happenings.{live_on}
+use Rattle.kcl_worker.proofs.Wholes.{still_worker}
 use Rattle.kcl_worker.proofs.worker.Worker.absorb_give.Goals as goal
 
 pub invariant_of-self : goal.invariant_of-self
-invariant_of-self g c = (
-  subst NoneOver (sym c.retire_finished.ensures.live) (live_on c.absorb_one.new.consumers.items),
-  tt,
-  c.retire_finished.ensures.room,
-  c.self.invariant.3,
-  c.self.invariant.4,
-  within_settled g.P.Processor.asks (g.F.Maker.asks c.self.inside.maker) c.absorb_one.new.consumers.items _
-      c.retire_finished.ensures.live
-      (subst (AskWithin g.P.Processor.asks (g.F.Maker.asks c.self.inside.maker)) (sym c.absorb_one.ensures.absorbed)
-      (within_answered g.P.Processor.asks (g.F.Maker.asks c.self.inside.maker) _ _ c.self.inside.consumers.items
-      c.self.invariant.5)),
-)
+invariant_of-self g c =
+    still_worker c.self.invariant
+    (subst NoneOver (sym c.retire_finished.ensures.live) (live_on c.absorb_one.new.consumers.items))
+    tt
+    c.retire_finished.ensures.room
+    (within_settled g.P.Processor.asks (g.F.Maker.asks c.self.inside.maker) c.absorb_one.new.consumers.items _
+    c.retire_finished.ensures.live
+    (subst (AskWithin g.P.Processor.asks (g.F.Maker.asks c.self.inside.maker)) (sym c.absorb_one.ensures.absorbed)
+    (within_answered g.P.Processor.asks (g.F.Maker.asks c.self.inside.maker) _ _ c.self.inside.consumers.items
+    c.self.invariant.within)))
 
 pub returns-clause-absorbed : goal.returns-clause-absorbed
 returns-clause-absorbed g c = λ past st.

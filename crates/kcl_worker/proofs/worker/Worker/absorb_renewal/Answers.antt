@@ -6,20 +6,19 @@ use Rattle.kcl_worker_lists.specs.Retirements.{retirement}
 use Rattle.kcl_worker.proofs.Askings.{within_settled}
 use Rattle.kcl_worker.proofs.Absorbings.{renewal_leaves}
 use Rattle.kcl_worker.proofs.Happenings.{live_on}
+use Rattle.kcl_worker.proofs.Wholes.{still_worker}
 use Rattle.kcl_worker.proofs.worker.Worker.absorb_renewal.Goals as goal
 
 pub invariant_of-self : goal.invariant_of-self
-invariant_of-self g c = (
-  subst NoneOver (sym c.retire_finished.ensures.live) (live_on c.after_renewal.new.consumers.items),
-  tt,
-  c.retire_finished.ensures.room,
-  c.self.invariant.3,
-  c.self.invariant.4,
-  within_settled g.P.Processor.asks (g.F.Maker.asks c.self.inside.maker) c.after_renewal.new.consumers.items _
-      c.retire_finished.ensures.live
-      (subst (AllByRecursion (IsWithin g.P.Processor.asks (g.F.Maker.asks c.self.inside.maker)))
-      (sym c.after_renewal.ensures.processors) c.self.invariant.5),
-)
+invariant_of-self g c =
+    still_worker c.self.invariant
+    (subst NoneOver (sym c.retire_finished.ensures.live) (live_on c.after_renewal.new.consumers.items))
+    tt
+    c.retire_finished.ensures.room
+    (within_settled g.P.Processor.asks (g.F.Maker.asks c.self.inside.maker) c.after_renewal.new.consumers.items _
+    c.retire_finished.ensures.live
+    (subst (AllByRecursion (IsWithin g.P.Processor.asks (g.F.Maker.asks c.self.inside.maker)))
+    (sym c.after_renewal.ensures.processors) c.self.invariant.within))
 
 pub returns-clause-absorbed : goal.returns-clause-absorbed
 returns-clause-absorbed g c = λ past st.

@@ -12,7 +12,7 @@ pub next_in_part-requires-clause-ready : goal.next_in_part-requires-clause-ready
 next_in_part-requires-clause-ready g c =
     subst (AllByRecursion IsReady) (sym c.as_slice.ensures.value)
     (ready c.self.inside.consumers.items (ap (λ v. due_in v.consumers) c.self.view_is ∙ c.requires.none_due)
-    c.self.invariant.0)
+    c.self.invariant.live)
 
 pub returns-in-Some-clause-next : goal.returns-in-Some-clause-next
 returns-in-Some-clause-next g c = λ past st.

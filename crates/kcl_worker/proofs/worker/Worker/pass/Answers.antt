@@ -5,18 +5,17 @@ use Rattle.kcl_worker_lists.specs.Retirements.{retirement}
 use Rattle.kcl_worker.proofs.Askings.{within_settled}
 use Rattle.kcl_worker.proofs.Happenings.{live_on}
 use Rattle.kcl_worker.proofs.Steppings.{pass_leaves, taking_so}
+use Rattle.kcl_worker.proofs.Wholes.{still_worker}
 use Rattle.kcl_worker.proofs.worker.Worker.pass.Goals as goal
 
 pub invariant_of-self : goal.invariant_of-self
-invariant_of-self g c = (
-  subst NoneOver (sym c.retire_finished.ensures.live) (live_on c.self.inside.consumers.items),
-  tt,
-  c.retire_finished.ensures.room,
-  c.self.invariant.3,
-  c.self.invariant.4,
-  within_settled g.P.Processor.asks (g.F.Maker.asks c.self.inside.maker) c.self.inside.consumers.items _
-      c.retire_finished.ensures.live (c.self.invariant.5),
-)
+invariant_of-self g c =
+    still_worker c.self.invariant
+    (subst NoneOver (sym c.retire_finished.ensures.live) (live_on c.self.inside.consumers.items))
+    tt
+    c.retire_finished.ensures.room
+    (within_settled g.P.Processor.asks (g.F.Maker.asks c.self.inside.maker) c.self.inside.consumers.items _
+    c.retire_finished.ensures.live (c.self.invariant.within))
 
 pub returns-clause-absorbed : goal.returns-clause-absorbed
 returns-clause-absorbed g c = λ now answer none past st.

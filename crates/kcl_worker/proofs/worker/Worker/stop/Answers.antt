@@ -8,23 +8,22 @@ use Rattle.kcl_worker.specs.Asks.{AskWithin}
 use Rattle.kcl_worker.proofs.Askings.{within_lost, within_settled}
 use Rattle.kcl_worker.proofs.Happenings.{live_on}
 use Rattle.kcl_worker.proofs.Standings.{stop_leaves}
+use Rattle.kcl_worker.proofs.Wholes.{still_worker}
 use Rattle.kcl_worker.proofs.worker.Worker.stop.Goals as goal
 
 pub invariant_of-self : goal.invariant_of-self
 invariant_of-self g c =
     let free : chore_of c.self.inside.asked c.self.inside.syncs c.self.inside.takes ≡ None =
-    ap (λ v. v.waiting) c.self.view_is ∙ c.requires in (
-      subst NoneOver (sym c.retire_finished.ensures.live) (live_on c.lose_all.new.consumers.items),
-      subst (λ o. IsAsking o c.retire_finished.new.consumers.items) (sym free) tt,
-      c.retire_finished.ensures.room,
-      c.self.invariant.3,
-      c.self.invariant.4,
-      within_settled g.P.Processor.asks (g.F.Maker.asks c.self.inside.maker) c.lose_all.new.consumers.items _
-          c.retire_finished.ensures.live
-          (subst (AskWithin g.P.Processor.asks (g.F.Maker.asks c.self.inside.maker)) (sym c.lose_all.ensures)
-          (within_lost g.P.Processor.asks (g.F.Maker.asks c.self.inside.maker) (λ id. true)
-          c.self.inside.consumers.items c.self.invariant.5)),
-    )
+    ap (λ v. v.waiting) c.self.view_is ∙ c.requires in
+    still_worker c.self.invariant
+    (subst NoneOver (sym c.retire_finished.ensures.live) (live_on c.lose_all.new.consumers.items))
+    (subst (λ o. IsAsking o c.retire_finished.new.consumers.items) (sym free) tt)
+    c.retire_finished.ensures.room
+    (within_settled g.P.Processor.asks (g.F.Maker.asks c.self.inside.maker) c.lose_all.new.consumers.items _
+    c.retire_finished.ensures.live
+    (subst (AskWithin g.P.Processor.asks (g.F.Maker.asks c.self.inside.maker)) (sym c.lose_all.ensures)
+    (within_lost g.P.Processor.asks (g.F.Maker.asks c.self.inside.maker) (λ id. true)
+    c.self.inside.consumers.items c.self.invariant.within)))
 
 pub returns-clause-stands : goal.returns-clause-stands
 returns-clause-stands g c = λ past st.

@@ -7,6 +7,7 @@ use Rattle.kds_defs.specs.Scaling.{LeadTo, uniform_starts}
 use Rattle.kds_defs.specs.Shards.{ShardState, is_open}
 use Rattle.kds_log.specs.Log.{LogWithRoom, log_of}
 use Rattle.kds_rate.specs.Windows.{WindowValue}
+use Rattle.kds_stream.proofs.Insides.{shown_inside}
 use Rattle.kds_stream.proofs.Puts.{led_along}
 use Rattle.kds_stream.proofs.Scalings.{numbers_fit, open_so, scale_done, stream_scaled}
 use Rattle.kds_stream.specs.Showing.{Shows}
@@ -62,7 +63,7 @@ returns-clause-answered c log by shown =
     let many = more.count ∙ c.requires.made in
     let drawn : c.first-2.inside.0 + length steps ≡ v.next + length steps =
     ap (λ n. n + length steps) c.first-2.view_is in
-    let show : Shows v log = subst (λ (u : StreamValue). Shows u log) (sym c.self.view_is) shown in
+    let show : Shows v log = shown_inside log c.self.view_is shown in
     let counted : c.open_count-before.result ≡ length (filter is_open v.tree) =
     omega (
       arith,

@@ -1,9 +1,8 @@
+use Rattle.kds_stream.proofs.Insides.{shown_inside}
 use Rattle.kds_stream.proofs.Limits.{enforce_done}
 use Rattle.kds_stream.proofs.stream.Stream.enforce.Goals as goal
-use Rattle.std.proofs.Common.{sym, subst}
 use Rattle.kds_defs.specs.PutCommands.{enforce}
 use Rattle.kds_stream.proofs.Puts.{led_along}
-use Rattle.kds_stream.specs.Showing.{Shows}
 use Rattle.kds_stream.specs.Value.{StreamValue}
 use Rattle.kds_stream.specs.contracts.stream.Stream.{the_view}
 
@@ -11,4 +10,4 @@ pub returns-clause-answered : goal.returns-clause-answered
 returns-clause-answered c log by shown =
     let v : StreamValue = the_view c.self.inside in
     led_along (λ (u : StreamValue). enforce log u.clock by u.no c.args.on) v c.args.self.now _ log _ c.self.view_is
-    (enforce_done v log by c.args.on (subst (λ (u : StreamValue). Shows u log) (sym c.self.view_is) shown))
+    (enforce_done v log by c.args.on (shown_inside log c.self.view_is shown))

@@ -4,8 +4,8 @@ use Rattle.std.specs.Option.{option_map}
 use Rattle.kds_defs.specs.Listings.{get_iterator}
 use Rattle.kds_defs.specs.Shards.{shown}
 use Rattle.kds_defs.specs.Streams.{floor_of}
+use Rattle.kds_stream.proofs.Insides.{shown_inside}
 use Rattle.kds_stream.proofs.Listed.{answer_along, iterator_bad, iterator_done, iterator_unlisted, listed_within}
-use Rattle.kds_stream.specs.Showing.{Shows}
 use Rattle.kds_stream.specs.Value.{StreamValue, listed_at}
 use Rattle.kds_stream.specs.contracts.stream.Stream.{the_view}
 use Rattle.kds_log.specs.Log.{log_of}
@@ -41,7 +41,7 @@ returns-in-Some-position c log show =
     c.shard.view_is (log_at c.self.inside.logs.items c.shard.inside.0 c.index-log.result.now c.index-log.ensures) in
     answer_along (λ (u : StreamValue). get_iterator log u.clock u.no c.args.shard c.args.from) v c.args.self.now _
     c.self.view_is
-    (iterator_done v log (subst (λ (u : StreamValue). Shows u log) (sym c.self.view_is) show) c.args.shard c.args.from
+    (iterator_done v log (shown_inside log c.self.view_is show) c.args.shard c.args.from
     c.in-Some.state (log_of c.index-log.result.now) c.in-Some-position.position
     (listed_within v c.args.shard c.in-Some.state c.self.invariant listed) at listed c.in-Some-position.ensures)
 
@@ -55,6 +55,6 @@ returns-in-None c log show =
     c.shard.view_is (log_at c.self.inside.logs.items c.shard.inside.0 c.index-log.result.now c.index-log.ensures) in
     answer_along (λ (u : StreamValue). get_iterator log u.clock u.no c.args.shard c.args.from) v c.args.self.now _
     c.self.view_is
-    (iterator_bad v log (subst (λ (u : StreamValue). Shows u log) (sym c.self.view_is) show) c.args.shard c.args.from
+    (iterator_bad v log (shown_inside log c.self.view_is show) c.args.shard c.args.from
     c.in-Some.state (log_of c.index-log.result.now)
     (listed_within v c.args.shard c.in-Some.state c.self.invariant listed) at listed c.in-None.ensures)

@@ -1,9 +1,9 @@
-use Rattle.std.proofs.Common.{◌≡◌, true, sym, subst, ap, ◌∙◌}
+use Rattle.std.proofs.Common.{◌≡◌, true, subst, ap, ◌∙◌}
 use Rattle.std.specs.Prelude.{nat_lt, if◌then◌else◌}
 use Rattle.kds_defs.specs.StreamCommands.{keep}
+use Rattle.kds_stream.proofs.Insides.{shown_inside}
 use Rattle.kds_stream.proofs.Puts.{led_along}
 use Rattle.kds_stream.proofs.Retention.{keep_done, keep_refused, stream_kept}
-use Rattle.kds_stream.specs.Showing.{Shows}
 use Rattle.kds_stream.specs.Value.{StreamValue, later_cut}
 use Rattle.kds_stream.specs.contracts.stream.Stream.{the_view}
 use Rattle.kds_stream.proofs.stream.Stream.keep.Goals as goal
@@ -26,5 +26,5 @@ returns-clause-answered c log by shown =
     let is_cut = c.later_cut-self-inside.ensures ∙ ap (later_cut c.self.inside.cut) c.cut_at.ensures in
     led_along (λ (u : StreamValue). keep log u.clock by u.no c.args.hours c.args.raise) v c.args.self.now _ log _
     c.self.view_is
-    (keep_done v log by c.args.hours c.args.raise (subst (λ (u : StreamValue). Shows u log) (sym c.self.view_is) shown)
+    (keep_done v log by c.args.hours c.args.raise (shown_inside log c.self.view_is shown)
     _ is_cut c.if-is_wrong_way.ensures)

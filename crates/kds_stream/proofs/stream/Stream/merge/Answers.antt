@@ -2,6 +2,7 @@ use Rattle.std.proofs.Common.{◌≡◌, ◌≢◌, ◌+◌, ◌∷◌, ◌++◌
 use Rattle.std.specs.List.{AllByRecursion}
 use Rattle.kds_defs.specs.Shards.{merged_shards}
 use Rattle.kds_defs.specs.StreamCommands.{last_number}
+use Rattle.kds_stream.proofs.Insides.{shown_inside}
 use Rattle.kds_stream.proofs.LogLemmas.{one_more_log}
 use Rattle.kds_stream.proofs.Rates.{one_window}
 use Rattle.kds_stream.proofs.Resharded.{merge_done, shows_merged, stream_merged}
@@ -51,7 +52,7 @@ returns-clause-answered c log by show =
     let logs : map log_of c.push_reserved.new.self.items ≡ v.logs ++ (empty_log ∷ []) =
     one_more_log _ _ _ _ c.push_reserved.ensures.items (ap (map log_of) c.in_ok-reserve.ensures.items)
     c.new.ensures in
-    let show' : Shows v log = subst (λ (u : StreamValue). Shows u log) (sym c.self.view_is) show in
+    let show' : Shows v log = shown_inside log c.self.view_is show in
     let ws : List WindowValue = c.new-2.result ∷ [] in
     let windows : c.push_reserved-2.new.self.items ≡ v.windows ++ ws =
     one_window _ _ v.windows _ c.push_reserved-2.ensures.items c.in_ok-reserve-2.ensures.items in

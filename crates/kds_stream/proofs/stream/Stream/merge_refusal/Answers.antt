@@ -6,8 +6,9 @@ use Rattle.kds_defs.specs.declared.reply.Reply.TheVariants as reply
 use Rattle.kds_defs.specs.Decision.{Accepted, Refused}
 use Rattle.kds_defs.specs.StreamCommands.{last_number, merge}
 use Rattle.kds_defs.specs.Streams.{floor_of}
+use Rattle.kds_stream.proofs.Insides.{shown_inside}
 use Rattle.kds_stream.proofs.Reshards.{merge_accepted, merge_refused, merge_spent, merge_unlisted}
-use Rattle.kds_stream.specs.Showing.{Shows, merge_line}
+use Rattle.kds_stream.specs.Showing.{merge_line}
 use Rattle.kds_stream.specs.Value.{StreamValue, is_listed_at}
 use Rattle.kds_stream.specs.contracts.stream.Stream.{the_view}
 use Rattle.kds_stream.proofs.stream.Stream.merge_refusal.Goals as goal
@@ -29,7 +30,7 @@ returns-then-not-is_listed-clause-decided c log by show =
 pub returns-in-Some-clause-decided : goal.returns-in-Some-clause-decided
 returns-in-Some-clause-decided c log by show =
     let v : StreamValue = the_view c.self.inside in
-    let show' = subst (λ (u : StreamValue). Shows u log) (sym c.self.view_is) show in
+    let show' = shown_inside log c.self.view_is show in
     let listed = subst (λ (u : StreamValue). is_listed_at (floor_of u.cut) (slice_get u.tree c.args.shard) ≡ true)
     (sym c.self.view_is) (sym c.if-not-is_listed.ensures) in
     let other_listed = subst (λ (u : StreamValue). is_listed_at (floor_of u.cut) (slice_get u.tree c.args.other) ≡ true)
@@ -41,7 +42,7 @@ returns-in-Some-clause-decided c log by show =
 pub returns-then-next-clause-decided : goal.returns-then-next-clause-decided
 returns-then-next-clause-decided c log by show =
     let v : StreamValue = the_view c.self.inside in
-    let show' = subst (λ (u : StreamValue). Shows u log) (sym c.self.view_is) show in
+    let show' = shown_inside log c.self.view_is show in
     let listed = subst (λ (u : StreamValue). is_listed_at (floor_of u.cut) (slice_get u.tree c.args.shard) ≡ true)
     (sym c.self.view_is) (sym c.if-not-is_listed.ensures) in
     let other_listed = subst (λ (u : StreamValue). is_listed_at (floor_of u.cut) (slice_get u.tree c.args.other) ≡ true)
@@ -55,7 +56,7 @@ returns-then-next-clause-decided c log by show =
 pub returns-clause-decided : goal.returns-clause-decided
 returns-clause-decided c log by show =
     let v : StreamValue = the_view c.self.inside in
-    let show' = subst (λ (u : StreamValue). Shows u log) (sym c.self.view_is) show in
+    let show' = shown_inside log c.self.view_is show in
     let listed = subst (λ (u : StreamValue). is_listed_at (floor_of u.cut) (slice_get u.tree c.args.shard) ≡ true)
     (sym c.self.view_is) (sym c.if-not-is_listed.ensures) in
     let other_listed = subst (λ (u : StreamValue). is_listed_at (floor_of u.cut) (slice_get u.tree c.args.other) ≡ true)

@@ -11,6 +11,7 @@ use Rattle.kds_defs.specs.StreamCommands.{last_number}
 use Rattle.kds_defs.specs.Streams.{floor_of}
 use Rattle.kds_log.specs.Log.{LogValue, LogWithRoom, log_of}
 use Rattle.kds_rate.specs.Windows.{WindowValue}
+use Rattle.kds_stream.proofs.Insides.{shown_inside}
 use Rattle.kds_stream.proofs.Clocks.{settled_stream, shows_settled}
 use Rattle.kds_stream_logs.proofs.LogLemmas.{as_many_logs}
 use Rattle.kds_stream.proofs.LogLemmas.{put_back, written_back}
@@ -98,7 +99,7 @@ returns-clause-answered c log by shown =
     let inside = slice_get_within c.self.inside.tree.shards c.home-shard.result c.home-shard.ensures.found.state
     c.home-shard.ensures.found.made in
     let more : v.next ≢ last_number = λ e. c.if-seq.false (c.seq.view_is ∙ e) in
-    let shown' : Shows v log = subst (λ (u : StreamValue). Shows u log) (sym c.self.view_is) shown in
+    let shown' : Shows v log = shown_inside log c.self.view_is shown in
     let sh = c.home-shard.result in
     let next : ℕ = c.seq-2.inside.0 + 1 in
     let ws : List WindowValue = c.count_at.new.windows in

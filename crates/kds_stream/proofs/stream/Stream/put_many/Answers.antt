@@ -9,6 +9,7 @@ use Rattle.kds_defs.specs.Rates.{SizedPut, puts}
 use Rattle.kds_defs.specs.Streams.{floor_of}
 use Rattle.kds_log.specs.Log.{LogValue, LogWithRoom, log_of}
 use Rattle.kds_rate.specs.Windows.{WindowValue}
+use Rattle.kds_stream.proofs.Insides.{shown_inside}
 use Rattle.kds_stream.proofs.LogLemmas.{written_back}
 use Rattle.kds_stream.proofs.Puts.{led_along}
 use Rattle.kds_stream.proofs.Routings.{can_take, in_turn, puts_done, puts_spent, shows_each, stream_each, stream_puts}
@@ -26,7 +27,7 @@ use Rattle.kds_stream.proofs.stream.Stream.put_many.Goals as goal
 pub returns-in_default-clause-answered : goal.returns-in_default-clause-answered
 returns-in_default-clause-answered c log by shown =
     let v : StreamValue = the_view c.self.inside in
-    let shown' : Shows v log = subst (λ (u : StreamValue). Shows u log) (sym c.self.view_is) shown in
+    let shown' : Shows v log = shown_inside log c.self.view_is shown in
     let same = c.from_vec-items.ensures.items ∙ c.into_vec.ensures in
     let lent = c.deref_mut.ensures.value in
     let ws : List WindowValue = c.route_all.new.windows in
@@ -111,7 +112,7 @@ returns-clause-answered c log by shown =
     let kept : List LogValue =
     map log_of (take c.self.inside.logs.len (c.put_all.new.logs
     ++ drop (length c.put_all.new.logs) c.self.inside.logs.items)) in
-    let shown' : Shows v log = subst (λ (u : StreamValue). Shows u log) (sym c.self.view_is) shown in
+    let shown' : Shows v log = shown_inside log c.self.view_is shown in
     let placed = subst (λ o. IfSome o (λ (q : Routes). ArePlaced v.tree v.clock c.seq.inside.0 q))
     c.in-Some.is c.in_ok-made.ensures.placed in
     let same = c.from_vec-items.ensures.items ∙ c.into_vec.ensures in

@@ -3,9 +3,9 @@ use Rattle.std.specs.Prelude.{is_some, slice_get, ◌&&◌}
 use Rattle.kds_defs.specs.Listings.{ends_at}
 use Rattle.kds_defs.specs.Records.{batch, numbers_of, place_after, stored}
 use Rattle.kds_defs.specs.Streams.{floor_of}
+use Rattle.kds_stream.proofs.Insides.{shown_inside}
 use Rattle.kds_stream.proofs.Listed.{made_within, none_of, read_end, read_no_end}
 use Rattle.kds_stream.proofs.ReadLemmas.{batch_is, below_last}
-use Rattle.kds_stream.specs.Showing.{Shows}
 use Rattle.kds_stream.specs.Value.{StreamValue, is_listed_at}
 use Rattle.kds_stream.specs.contracts.stream.Stream.{the_view}
 use Rattle.kds_stream.proofs.stream.Stream.read.Goals as goal
@@ -31,7 +31,7 @@ returns-clause-batch c log show =
     (sym c.self.view_is) c.requires) in
     let at = subst (λ n. log_of c.index-log.result.now ≡ get_or v.logs n (log_of c.index-log.result.now))
     c.shard.view_is (log_at c.self.inside.logs.items c.shard.inside.0 c.index-log.result.now c.index-log.ensures) in
-    let show' = subst (λ (u : StreamValue). Shows u log) (sym c.self.view_is) show in
+    let show' = shown_inside log c.self.view_is show in
     c.in_ok-batch.ensures.batch
     ∙ ap (map stored) (sym
     (batch_is v log show' c.args.shard (log_of c.index-log.result.now) inside at c.args.position c.args.limit))
@@ -46,7 +46,7 @@ returns-clause-end c log show =
     (sym c.self.view_is) c.requires) in
     let at = subst (λ n. log_of c.index-log.result.now ≡ get_or v.logs n (log_of c.index-log.result.now))
     c.shard.view_is (log_at c.self.inside.logs.items c.shard.inside.0 c.index-log.result.now c.index-log.ensures) in
-    let show' = subst (λ (u : StreamValue). Shows u log) (sym c.self.view_is) show in
+    let show' = shown_inside log c.self.view_is show in
     let left = c.first_left-left.result in
     let along : _ = ap (λ (u : StreamValue).
     ends_at log u.clock u.no c.args.shard

@@ -4,10 +4,10 @@ use Rattle.std.specs.Option.{option_map}
 use Rattle.kds_defs.specs.Listings.{get_records}
 use Rattle.kds_defs.specs.Shards.{shown}
 use Rattle.kds_defs.specs.Streams.{floor_of}
+use Rattle.kds_stream.proofs.Insides.{shown_inside}
 use Rattle.kds_stream.proofs.Listed.{answer_along, listed_within, none_of, records_end, records_expired, records_more}
 use Rattle.kds_stream.proofs.Listed.{records_unlisted}
 use Rattle.kds_stream.proofs.ReadLemmas.{below_last}
-use Rattle.kds_stream.specs.Showing.{Shows}
 use Rattle.kds_stream.specs.Value.{StreamValue, listed_at}
 use Rattle.kds_stream.specs.contracts.stream.Stream.{the_view}
 use Rattle.kds_log.specs.Log.{log_of}
@@ -20,7 +20,7 @@ returns-then-iter_expired c log show =
     let v : StreamValue = the_view c.self.inside in
     answer_along (λ (u : StreamValue). get_records log u.clock c.args.iter.now c.args.limit) v c.args.self.now _
     c.self.view_is
-    (records_expired v log (subst (λ (u : StreamValue). Shows u log) (sym c.self.view_is) show)
+    (records_expired v log (shown_inside log c.self.view_is show)
     c.args.iter.now c.args.limit c.if-iter_expired.ensures)
 
 pub returns-in_default : goal.returns-in_default
@@ -28,7 +28,7 @@ returns-in_default c log show =
     let v : StreamValue = the_view c.self.inside in
     answer_along (λ (u : StreamValue). get_records log u.clock c.args.iter.now c.args.limit) v c.args.self.now _
     c.self.view_is
-    (records_unlisted v log (subst (λ (u : StreamValue). Shows u log) (sym c.self.view_is) show)
+    (records_unlisted v log (shown_inside log c.self.view_is show)
     c.args.iter.now c.args.limit
     (subst (λ (u : StreamValue). c.args.iter.now.stream ≡ u.no) (sym c.self.view_is) c.requires.stream)
     c.if-iter_expired.ensures
@@ -63,7 +63,7 @@ batch_at-requires c =
 pub returns-then-end : goal.returns-then-end
 returns-then-end c log show =
     let v : StreamValue = the_view c.self.inside in
-    let show' = subst (λ (u : StreamValue). Shows u log) (sym c.self.view_is) show in
+    let show' = shown_inside log c.self.view_is show in
     let listed = subst (λ (u : StreamValue). Some c.in-Some.shard
     ≡ option_map shown (listed_at (floor_of u.cut) (slice_get u.tree c.args.iter.now.shard))) (sym c.self.view_is)
     (sym c.in-Some.is ∙ c.listed.ensures.value) in
@@ -85,7 +85,7 @@ returns-then-end c log show =
 pub returns : goal.returns
 returns c log show =
     let v : StreamValue = the_view c.self.inside in
-    let show' = subst (λ (u : StreamValue). Shows u log) (sym c.self.view_is) show in
+    let show' = shown_inside log c.self.view_is show in
     let listed = subst (λ (u : StreamValue). Some c.in-Some.shard
     ≡ option_map shown (listed_at (floor_of u.cut) (slice_get u.tree c.args.iter.now.shard))) (sym c.self.view_is)
     (sym c.in-Some.is ∙ c.listed.ensures.value) in

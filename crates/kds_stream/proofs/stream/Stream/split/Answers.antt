@@ -3,6 +3,7 @@ use Rattle.std.specs.List.{AllByRecursion, filter}
 use Rattle.kds_defs.specs.declared.limits.TheConstants.{OPEN_SHARDS}
 use Rattle.kds_defs.specs.Shards.{is_open, split_shards}
 use Rattle.kds_defs.specs.StreamCommands.{last_number}
+use Rattle.kds_stream.proofs.Insides.{shown_inside}
 use Rattle.kds_stream.proofs.LogLemmas.{two_more}
 use Rattle.kds_stream.proofs.Rates.{two_windows}
 use Rattle.kds_stream.proofs.Resharded.{split_done, shows_split, stream_split}
@@ -58,7 +59,7 @@ returns-clause-answered c log by show =
     let logs : map log_of c.push_reserved-2.new.self.items ≡ v.logs ++ (empty_log ∷ empty_log ∷ []) =
     two_more _ _ _ _ _ _ c.push_reserved-2.ensures.items c.push_reserved.ensures.items
     (ap (map log_of) c.in_ok-reserve.ensures.items) c.new.ensures c.new-2.ensures in
-    let show' : Shows v log = subst (λ (u : StreamValue). Shows u log) (sym c.self.view_is) show in
+    let show' : Shows v log = shown_inside log c.self.view_is show in
     let ws : List WindowValue = c.new-3.result ∷ c.new-4.result ∷ [] in
     let windows : c.push_reserved-4.new.self.items ≡ v.windows ++ ws =
     two_windows _ _ _ v.windows _ _ c.push_reserved-4.ensures.items c.push_reserved-3.ensures.items

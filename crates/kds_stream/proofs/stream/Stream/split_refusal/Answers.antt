@@ -5,8 +5,9 @@ use Rattle.kds_defs.specs.declared.reply.Reply.TheVariants as reply
 use Rattle.kds_defs.specs.Decision.{Accepted, Refused}
 use Rattle.kds_defs.specs.StreamCommands.{last_number, split_where}
 use Rattle.kds_defs.specs.Streams.{floor_of}
+use Rattle.kds_stream.proofs.Insides.{shown_inside}
 use Rattle.kds_stream.proofs.Reshards.{split_accepted, split_full, split_refused, split_spent, split_unlisted}
-use Rattle.kds_stream.specs.Showing.{Shows, is_full, split_line}
+use Rattle.kds_stream.specs.Showing.{is_full, split_line}
 use Rattle.kds_stream.specs.Value.{StreamValue, is_listed_at}
 use Rattle.kds_stream.specs.contracts.stream.Stream.{the_view}
 use Rattle.kds_stream_logs.proofs.LogLemmas.{as_many_logs}
@@ -20,7 +21,7 @@ returns-then-not-is_listed-clause-decided c log by show =
 pub returns-in-Some-clause-decided : goal.returns-in-Some-clause-decided
 returns-in-Some-clause-decided c log by show =
     let v : StreamValue = the_view c.self.inside in
-    let show' = subst (λ (u : StreamValue). Shows u log) (sym c.self.view_is) show in
+    let show' = shown_inside log c.self.view_is show in
     let listed = subst (λ (u : StreamValue). is_listed_at (floor_of u.cut) (slice_get u.tree c.args.shard) ≡ true)
     (sym c.self.view_is) (sym c.if-not-is_listed.ensures) in
     subst (λ (u : StreamValue). split_where (is_full u c.args.room) log u.clock by u.no c.args.shard c.args.at
@@ -31,7 +32,7 @@ returns-in-Some-clause-decided c log by show =
 pub returns-then-is_full-clause-decided : goal.returns-then-is_full-clause-decided
 returns-then-is_full-clause-decided c log by show =
     let v : StreamValue = the_view c.self.inside in
-    let show' = subst (λ (u : StreamValue). Shows u log) (sym c.self.view_is) show in
+    let show' = shown_inside log c.self.view_is show in
     let listed = subst (λ (u : StreamValue). is_listed_at (floor_of u.cut) (slice_get u.tree c.args.shard) ≡ true)
     (sym c.self.view_is) (sym c.if-not-is_listed.ensures) in
     let passes = sym c.in_default.is ∙ c.split_refusal.ensures in
@@ -43,7 +44,7 @@ returns-then-is_full-clause-decided c log by show =
 pub returns-then-next-clause-decided : goal.returns-then-next-clause-decided
 returns-then-next-clause-decided c log by show =
     let v : StreamValue = the_view c.self.inside in
-    let show' = subst (λ (u : StreamValue). Shows u log) (sym c.self.view_is) show in
+    let show' = shown_inside log c.self.view_is show in
     let listed = subst (λ (u : StreamValue). is_listed_at (floor_of u.cut) (slice_get u.tree c.args.shard) ≡ true)
     (sym c.self.view_is) (sym c.if-not-is_listed.ensures) in
     let passes = sym c.in_default.is ∙ c.split_refusal.ensures in
@@ -56,7 +57,7 @@ returns-then-next-clause-decided c log by show =
 pub returns-clause-decided : goal.returns-clause-decided
 returns-clause-decided c log by show =
     let v : StreamValue = the_view c.self.inside in
-    let show' = subst (λ (u : StreamValue). Shows u log) (sym c.self.view_is) show in
+    let show' = shown_inside log c.self.view_is show in
     let listed = subst (λ (u : StreamValue). is_listed_at (floor_of u.cut) (slice_get u.tree c.args.shard) ≡ true)
     (sym c.self.view_is) (sym c.if-not-is_listed.ensures) in
     let passes = sym c.in_default.is ∙ c.split_refusal.ensures in

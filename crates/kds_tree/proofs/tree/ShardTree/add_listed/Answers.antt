@@ -12,7 +12,7 @@ pub split_at-requires : goal.split_at-requires
 split_at-requires c =
     let front = c.passed_at-passed.ensures
     (subst (AreLeft (floor_of c.self.inside.front.cut) 0 c.self.inside.front.count c.self.inside.front.left.items)
-    (sym c.deref.ensures.value) c.self.invariant.3) in
+    (sym c.deref.ensures.value) c.self.invariant.front) in
     let within = left_within (floor_of c.args.cut) 0 c.passed_at-passed.result.0 c.passed_at-passed.result.1.now
     c.deref.result.now front in
     omega (
@@ -33,7 +33,7 @@ returns c =
     let front : AreLeft f 0 count left xs = subst (AreLeft f 0 count left) (c.deref.ensures.value ∙ is)
     (c.passed_at-passed.ensures
     (subst (AreLeft (floor_of c.self.inside.front.cut) 0 c.self.inside.front.count c.self.inside.front.left.items)
-    (sym c.deref.ensures.value) c.self.invariant.3)) in
+    (sym c.deref.ensures.value) c.self.invariant.front)) in
     let named = c.in_ok-add_numbers.ensures
     ∙ ap (λ (us : List ShardState). c.args.keys.now ++ refs_of s (listed_among f (picked left us)))
     (c.deref-2.ensures.value ∙ is) in

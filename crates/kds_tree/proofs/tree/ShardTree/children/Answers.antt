@@ -11,7 +11,7 @@ returns c =
     let xs = c.args.self.now.shards in
     let firsts = c.self.inside.first_children.items in
     let families : AreFamilies firsts xs =
-    subst (AreFamilies firsts) (ap (λ (t : TreeValue). t.shards) c.self.view_is) c.self.invariant.2 in
+    subst (AreFamilies firsts) (ap (λ (t : TreeValue). t.shards) c.self.view_is) c.self.invariant.families in
     let all : c.deref.result.now ≡ xs = c.deref.ensures.value ∙ ap (λ (t : TreeValue). t.shards) c.self.view_is in
     let told = subst (λ (us : List ShardState). AreFamilies c.deref-2.result.now us) (sym all)
     (subst (λ (fs : List (Option ℕ)). AreFamilies fs xs) (sym c.deref-2.ensures.value) families) in

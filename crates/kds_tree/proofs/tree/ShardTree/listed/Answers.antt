@@ -15,7 +15,7 @@ split_at-requires c =
     let names = c.self.inside.front.left.items in
     let front = c.passed_at-passed.ensures
     (subst (AreLeft (floor_of c.self.inside.front.cut) 0 c.self.inside.front.count names) (sym c.deref.ensures.value)
-    c.self.invariant.3) in
+    c.self.invariant.front) in
     let within = left_within (floor_of c.args.cut) 0 c.passed_at-passed.result.0 c.passed_at-passed.result.1.now
     c.deref.result.now front in
     omega (
@@ -32,14 +32,14 @@ pub returns-clause-shards : goal.returns-clause-shards
 returns-clause-shards c =
     let xs = c.args.self.now.shards in
     let is = ap (λ (t : TreeValue). t.shards) c.self.view_is in
-    let tree : IsTree xs = subst IsTree is c.self.invariant.0 in
+    let tree : IsTree xs = subst IsTree is c.self.invariant.tree in
     let count = c.passed_at-passed.result.0 in
     let left = c.passed_at-passed.result.1.now in
     let start = c.start_behind-start.result in
     let names = c.numbers_from-numbers.result.now in
     let front = c.passed_at-passed.ensures
     (subst (AreLeft (floor_of c.self.inside.front.cut) 0 c.self.inside.front.count c.self.inside.front.left.items)
-    (sym c.deref.ensures.value) c.self.invariant.3) in
+    (sym c.deref.ensures.value) c.self.invariant.front) in
     let front' : AreLeft (floor_of c.args.cut) 0 count left xs =
     subst (AreLeft (floor_of c.args.cut) 0 count left) (c.deref.ensures.value ∙ is) front in
     let from = c.numbers_from-numbers.ensures (floor_of c.args.cut) count xs front' in
@@ -59,14 +59,14 @@ pub returns-clause-more : goal.returns-clause-more
 returns-clause-more c =
     let xs = c.args.self.now.shards in
     let is = ap (λ (t : TreeValue). t.shards) c.self.view_is in
-    let tree : IsTree xs = subst IsTree is c.self.invariant.0 in
+    let tree : IsTree xs = subst IsTree is c.self.invariant.tree in
     let count = c.passed_at-passed.result.0 in
     let left = c.passed_at-passed.result.1.now in
     let start = c.start_behind-start.result in
     let names = c.numbers_from-numbers.result.now in
     let front = c.passed_at-passed.ensures
     (subst (AreLeft (floor_of c.self.inside.front.cut) 0 c.self.inside.front.count c.self.inside.front.left.items)
-    (sym c.deref.ensures.value) c.self.invariant.3) in
+    (sym c.deref.ensures.value) c.self.invariant.front) in
     let front' : AreLeft (floor_of c.args.cut) 0 count left xs =
     subst (AreLeft (floor_of c.args.cut) 0 count left) (c.deref.ensures.value ∙ is) front in
     let from = c.numbers_from-numbers.ensures (floor_of c.args.cut) count xs front' in

@@ -29,39 +29,40 @@ invariant_of-self-2 c =
     c.index_mut.ensures.value c.close.ensures c.index_mut-2.ensures.value c.close-2.ensures in
     let ss = c.self.inside.starts.items in
     let starts : AreStarts ss xs =
-    subst (AreStarts ss) (ap (λ (t : TreeValue). t.shards) c.self.view_is) c.self.invariant.1 in
+    subst (AreStarts ss) (ap (λ (t : TreeValue). t.shards) c.self.view_is) c.self.invariant.starts in
     let away = one_more (filter (stays c.args.shard c.args.other) ss) c.remove_starts.new.starts.items
     c.push_reserved.new.self.items c.start.result (own_start born)
     (c.remove_starts.ensures.left ∙ ap (filter (stays c.args.shard c.args.other)) c.reserve.ensures.items)
     c.push_reserved.ensures.items c.start.ensures in
-    let tree = subst IsTree (ap (λ (t : TreeValue). t.shards) c.self.view_is) c.self.invariant.0 in
+    let tree = subst IsTree (ap (λ (t : TreeValue). t.shards) c.self.view_is) c.self.invariant.tree in
     let firsts = c.self.inside.first_children.items in
     let families : AreFamilies firsts xs =
-    subst (AreFamilies firsts) (ap (λ (t : TreeValue). t.shards) c.self.view_is) c.self.invariant.2 in
+    subst (AreFamilies firsts) (ap (λ (t : TreeValue). t.shards) c.self.view_is) c.self.invariant.families in
     let names = c.self.inside.front.left.items in
     let front : AreLeft (floor_of c.self.inside.front.cut) 0 c.self.inside.front.count names xs =
     subst (AreLeft (floor_of c.self.inside.front.cut) 0 c.self.inside.front.count names)
-    (ap (λ (t : TreeValue). t.shards) c.self.view_is) c.self.invariant.3 in
+    (ap (λ (t : TreeValue). t.shards) c.self.view_is) c.self.invariant.front in
     let places = one_place firsts c.reserve-2.new.self.items c.set_first_child.new.first_children.items
     c.push_reserved-2.new.self.items c.args.shard c.args.other c.len.result _
     c.reserve-2.ensures.items c.set_first_child.ensures.items c.len.ensures.value c.push_reserved-2.ensures.items in
     let zs = slice_set (slice_set c.push.new.self.items c.shard.inside.0 c.close.new.self) c.other.inside.0
-    c.close-2.new.self in (
-      s.tree tree,
-      s.starts tree ss c.push_reserved.new.self.items c.sort_starts.new.starts.items starts away
-          c.sort_starts.ensures.same c.sort_starts.ensures.order,
-      subst (λ (fs : List (Option ℕ)). AreFamilies fs zs) (sym places) (s.families firsts families),
-      front_merge xs c.push.new.self.items c.args.shard c.args.other c.shard.inside.0 c.other.inside.0
+    c.close-2.new.self in
+    record {
+      tree = s.tree tree;
+      starts = s.starts tree ss c.push_reserved.new.self.items c.sort_starts.new.starts.items starts away
+          c.sort_starts.ensures.same c.sort_starts.ensures.order;
+      families = subst (λ (fs : List (Option ℕ)). AreFamilies fs zs) (sym places) (s.families firsts families);
+      front = front_merge xs c.push.new.self.items c.args.shard c.args.other c.shard.inside.0 c.other.inside.0
           (floor_of c.self.inside.front.cut) c.self.inside.front.count names c.in-Ok.range _ born c.close.new.self
           c.close-2.new.self
-          c.in-Ok.ensures c.shard.view_is c.other.view_is pushed front,
-    )
+          c.in-Ok.ensures c.shard.view_is c.other.view_is pushed front;
+    }
 
 pub set_first_child-requires-clause-shard : goal.set_first_child-requires-clause-shard
 set_first_child-requires-clause-shard c =
     let firsts = c.self.inside.first_children.items in
     let families : AreFamilies firsts c.args.self.now.shards =
-    subst (AreFamilies firsts) (ap (λ (t : TreeValue). t.shards) c.self.view_is) c.self.invariant.2 in
+    subst (AreFamilies firsts) (ap (λ (t : TreeValue). t.shards) c.self.view_is) c.self.invariant.families in
     (both_known c.args.self.now.shards firsts c.reserve-2.new.self.items c.args.shard c.args.other
     c.in-Ok.range _ c.in-Ok.ensures families c.reserve-2.ensures.items).0
 
@@ -69,7 +70,7 @@ pub set_first_child-requires-clause-other : goal.set_first_child-requires-clause
 set_first_child-requires-clause-other c =
     let firsts = c.self.inside.first_children.items in
     let families : AreFamilies firsts c.args.self.now.shards =
-    subst (AreFamilies firsts) (ap (λ (t : TreeValue). t.shards) c.self.view_is) c.self.invariant.2 in
+    subst (AreFamilies firsts) (ap (λ (t : TreeValue). t.shards) c.self.view_is) c.self.invariant.families in
     (both_known c.args.self.now.shards firsts c.reserve-2.new.self.items c.args.shard c.args.other
     c.in-Ok.range _ c.in-Ok.ensures families c.reserve-2.ensures.items).1
 

@@ -9,7 +9,7 @@ pub returns : goal.returns
 returns c =
     let ss = c.self.inside.starts.items in
     let starts : AreStarts ss c.args.self.now.shards =
-    subst (AreStarts ss) (ap (λ (t : TreeValue). t.shards) c.self.view_is) c.self.invariant.1 in
+    subst (AreStarts ss) (ap (λ (t : TreeValue). t.shards) c.self.view_is) c.self.invariant.starts in
     let many = open_many ss c.args.self.now.shards starts in
     let len : c.len.result ≡ length ss = search rules in
     c.min.ensures ∙ ap (λ n. min n (2 ^ 32 - 1)) (len ∙ many)

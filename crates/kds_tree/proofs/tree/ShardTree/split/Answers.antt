@@ -28,39 +28,40 @@ invariant_of-self-2 c =
     c.new-upper_child.ensures pushed c.index_mut.ensures.value c.close.ensures in
     let ss = c.self.inside.starts.items in
     let starts : AreStarts ss xs =
-    subst (AreStarts ss) (ap (λ (t : TreeValue). t.shards) c.self.view_is) c.self.invariant.1 in
+    subst (AreStarts ss) (ap (λ (t : TreeValue). t.shards) c.self.view_is) c.self.invariant.starts in
     let away = two_more (filter (stays c.args.shard c.args.shard) ss) c.remove_starts.new.starts.items
     c.push_reserved.new.self.items c.push_reserved-2.new.self.items c.start.result c.start-2.result (own_start low)
     (own_start high)
     (c.remove_starts.ensures.left ∙ ap (filter (stays c.args.shard c.args.shard)) c.reserve.ensures.items)
     c.push_reserved.ensures.items c.push_reserved-2.ensures.items c.start.ensures c.start-2.ensures in
-    let tree = subst IsTree (ap (λ (t : TreeValue). t.shards) c.self.view_is) c.self.invariant.0 in
+    let tree = subst IsTree (ap (λ (t : TreeValue). t.shards) c.self.view_is) c.self.invariant.tree in
     let firsts = c.self.inside.first_children.items in
     let families : AreFamilies firsts xs =
-    subst (AreFamilies firsts) (ap (λ (t : TreeValue). t.shards) c.self.view_is) c.self.invariant.2 in
+    subst (AreFamilies firsts) (ap (λ (t : TreeValue). t.shards) c.self.view_is) c.self.invariant.families in
     let names = c.self.inside.front.left.items in
     let front : AreLeft (floor_of c.self.inside.front.cut) 0 c.self.inside.front.count names xs =
     subst (AreLeft (floor_of c.self.inside.front.cut) 0 c.self.inside.front.count names)
-    (ap (λ (t : TreeValue). t.shards) c.self.view_is) c.self.invariant.3 in
+    (ap (λ (t : TreeValue). t.shards) c.self.view_is) c.self.invariant.front in
     let places = two_places firsts c.reserve-2.new.self.items c.set_first_child.new.first_children.items
     c.push_reserved-3.new.self.items c.push_reserved-4.new.self.items c.args.shard c.args.shard c.len.result _
     c.reserve-2.ensures.items c.set_first_child.ensures.items c.len.ensures.value c.push_reserved-3.ensures.items
     c.push_reserved-4.ensures.items in
-    let zs = slice_set c.extend_from_slice.new.self.items c.shard.inside.0 c.close.new.self in (
-      s.tree tree,
-      s.starts tree ss c.push_reserved-2.new.self.items c.sort_starts.new.starts.items starts away
-          c.sort_starts.ensures.same c.sort_starts.ensures.order,
-      subst (λ (fs : List (Option ℕ)). AreFamilies fs zs) (sym places) (s.families firsts families),
-      front_split xs c.extend_from_slice.new.self.items c.args.shard c.shard.inside.0 c.args.at
+    let zs = slice_set c.extend_from_slice.new.self.items c.shard.inside.0 c.close.new.self in
+    record {
+      tree = s.tree tree;
+      starts = s.starts tree ss c.push_reserved-2.new.self.items c.sort_starts.new.starts.items starts away
+          c.sort_starts.ensures.same c.sort_starts.ensures.order;
+      families = subst (λ (fs : List (Option ℕ)). AreFamilies fs zs) (sym places) (s.families firsts families);
+      front = front_split xs c.extend_from_slice.new.self.items c.args.shard c.shard.inside.0 c.args.at
           (floor_of c.self.inside.front.cut) c.self.inside.front.count names c.in-Ok.ranges low high c.close.new.self
-          c.in-Ok.ensures c.shard.view_is pushed front,
-    )
+          c.in-Ok.ensures c.shard.view_is pushed front;
+    }
 
 pub set_first_child-requires-clause-shard : goal.set_first_child-requires-clause-shard
 set_first_child-requires-clause-shard c =
     let firsts = c.self.inside.first_children.items in
     let families : AreFamilies firsts c.args.self.now.shards =
-    subst (AreFamilies firsts) (ap (λ (t : TreeValue). t.shards) c.self.view_is) c.self.invariant.2 in
+    subst (AreFamilies firsts) (ap (λ (t : TreeValue). t.shards) c.self.view_is) c.self.invariant.families in
     split_known c.args.self.now.shards firsts c.reserve-2.new.self.items c.args.shard c.args.at
     c.in-Ok.ranges c.in-Ok.ensures families c.reserve-2.ensures.items
 

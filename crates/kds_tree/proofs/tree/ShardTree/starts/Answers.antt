@@ -10,13 +10,13 @@ pub returns-clause-value : goal.returns-clause-value
 returns-clause-value c =
     let xs = c.args.self.now.shards in
     let ss = c.self.inside.starts.items in
-    let tree : IsTree xs = subst IsTree (ap (λ (t : TreeValue). t.shards) c.self.view_is) c.self.invariant.0 in
+    let tree : IsTree xs = subst IsTree (ap (λ (t : TreeValue). t.shards) c.self.view_is) c.self.invariant.tree in
     let starts : AreStarts ss xs =
-    subst (AreStarts ss) (ap (λ (t : TreeValue). t.shards) c.self.view_is) c.self.invariant.1 in
+    subst (AreStarts ss) (ap (λ (t : TreeValue). t.shards) c.self.view_is) c.self.invariant.starts in
     subst (λ (ks : List ℕ). IfOk c.keys_of.result (λ keys. keys ≡ ks)) (ap starting_keys c.deref.ensures.value
     ∙ same_keys ss xs starts tree) c.keys_of.ensures
 
 pub returns-clause-partition : goal.returns-clause-partition
 returns-clause-partition c =
     tree_starts c.args.self.now.shards
-    (subst IsTree (ap (λ (t : TreeValue). t.shards) c.self.view_is) c.self.invariant.0)
+    (subst IsTree (ap (λ (t : TreeValue). t.shards) c.self.view_is) c.self.invariant.tree)
