@@ -4,7 +4,7 @@ use Rattle.std.specs.Prelude.{◌≢◌, ◌&&◌, ◌||◌, ◌==◌, cond, not
 use Rattle.std.specs.List.{AllByRecursion, filter}
 use Rattle.std.proofs.lemmas.Bool.Decides.{nat_tests}
 
--- ---- tests
+-- ---- Tests
 
 pub apart : (b : Bool) → b ≡ true → b ≡ false → ⊥
 apart b h g = cc
@@ -33,7 +33,7 @@ pub chosen : {A : Type 0} (b : Bool) (x y : A) → b ≡ true → (if b then x e
 chosen true x y h = refl
 chosen false x y h = absurd cc
 
--- ---- numbers
+-- ---- Numbers
 
 pub equal_so : (a b : ℕ) → (a == b) ≡ true → a ≡ b
 equal_so a b h = grind (arith, nat_tests)
@@ -68,12 +68,12 @@ is_above a b h = grind (arith, nat_tests)
 pub plus_none : (n : ℕ) → n + 0 ≡ n
 plus_none n = omega arith
 
--- ---- options
+-- ---- Options
 
 pub same_some : {A : Type 0} (x y : A) → Some x ≡ Some y → x ≡ y
 same_some x y h = cc
 
--- ---- lists
+-- ---- Lists
 
 pub all_append : {A : Type 0} (P : A → Type 0) (xs ys : List A) → AllByRecursion P xs → AllByRecursion P ys
     → AllByRecursion P (xs ++ ys)

@@ -1,4 +1,4 @@
--- Texts of digits: each number has one, and it is read digit by digit.
+-- Texts of digits: each number has exactly one plain text, which is read digit by digit.
 use Rattle.std.proofs.Common.{decimal, sym, ap, ◌∙◌, subst, get_or, take, Some, None, zero, suc, inl, inr, ◌⊎◌, ◌≡◌, ℕ}
 use Rattle.std.proofs.Common.{◌+◌, ◌-◌, ◌*◌, ◌/◌, ◌%◌, ◌^◌, ◌<◌, ◌≤◌, List, [], ◌∷◌, ◌++◌, length, Bool, true, false}
 use Rattle.std.proofs.Common.{refl, arith, rules}
@@ -19,7 +19,7 @@ use Rattle.std.specs.List.{list_all}
 use Rattle.std.specs.Str.Parse.{AllDigits, digits_value, digits_value_after}
 use Rattle.kds_base.specs.NumberText.{are_digits, digits_of, is_plain, number_of}
 
--- a text of digits, as a fact
+-- The text `ds` consists of digits.
 abbrev pub IsDigits : List ℕ → Type 0
 IsDigits ds = list_all is_ascii_digit ds ≡ true
 
@@ -29,12 +29,12 @@ own = numerals_by_value IsDigits (search rules)
 pub plain_digits : (text : List ℕ) → is_plain text ≡ true → IsDigits text × (0 < length text)
 plain_digits text p = (grind (arith, common_steps), grind (arith, common_steps))
 
--- ---- one text for each number
+-- ---- One text for each number
 
 pub plain_first : (text : List ℕ) → is_plain text ≡ true → get_or text 0 0 ≡ 48 → length text ≡ 1
 plain_first text p z = grind (arith, common_steps)
 
--- the numbers whose texts are spoken of: those of at most 128 bits have fewer than 64 digits
+-- The lemmas are about numbers of at most 128 bits, which have fewer than 64 digits.
 pub few_digits : (bits n : ℕ) → bits ≤ 128 → n < 2 ^ bits → n < 10 ^ 64
 few_digits bits n few small = let most : 2 ^ bits ≤ 2 ^ 128 = pow_mono few in omega arith
 
@@ -55,7 +55,7 @@ value_after n (c ∷ cs) some d small =
     ∙ (λ i. decimal (front i) ++ (end i ∷ [])))
     ∙ append_assoc (decimal n) (c ∷ []) cs
 
--- digits are the text of their value
+-- Digits without a needless leading zero are the text of their value.
 value_digits : (ds : List ℕ) → AllDigits 10 ds → 0 < length ds → (get_or ds 0 0 ≡ 48 → length ds ≡ 1)
     → digits_value 10 ds < 10 ^ 64 → decimal (digits_value 10 ds) ≡ ds
 value_digits [] d some lead small = absurd (omega arith)
@@ -84,7 +84,7 @@ spells bits n text few h =
     sym (ap decimal (sym v)
     ∙ value_digits text (own.to text d.0) d.1 (plain_first text p) (few_digits bits _ few small))
 
--- what makes a text plain
+-- A text is plain if it consists of digits, and its first digit isn't 0 or is its only one.
 plain_from : (text : List ℕ) → 0 < length text → IsDigits text → (48 < get_or text 0 0) ⊎ (length text ≡ 1)
     → is_plain text ≡ true
 plain_from text some digits (inl big) = grind (arith, common_steps)
@@ -119,19 +119,19 @@ reads bits n few small =
     let short = few_digits bits n few small in
     number_from bits n (decimal n) (decimal_plain n short) (decimal_is_IsNumeral_wide n short).1 small
 
--- the same of 64 bits
+-- A text that denotes a number of 64 bits is the number's decimal text.
 pub decimal_of_number : (text : List ℕ) (n : ℕ) → number_of 64 text ≡ Some n → (text ≡ decimal n) × (n < 2 ^ 64)
 decimal_of_number text n h = (spells 64 n text (omega arith) h, fits 64 n text h)
 
 pub number_of_decimal : (n : ℕ) → n < 2 ^ 64 → number_of 64 (decimal n) ≡ Some n
 number_of_decimal n small = reads 64 n (omega arith) small
 
--- ---- digits, whatever zeros stand in front
+-- ---- Digits, whatever zeros stand in front
 
 pub some_digits : (text : List ℕ) → are_digits text ≡ true → IsDigits text × (0 < length text)
 some_digits text p = (grind (arith, common_steps), grind (arith, common_steps))
 
--- digits are read one after another
+-- Digits are read one after another.
 pub next_digit : (ds : List ℕ) (i n : ℕ) → i < length ds → is_ascii_digit (get_or ds i 0) ≡ true
     → n ≡ digits_value 10 (take i ds)
     → digits_value 10 (take (i + 1) ds) ≡ n * 10 + (get_or ds i 0 - 48)
@@ -154,7 +154,7 @@ some_other test (x ∷ xs) (suc i) inside fails = none (test x) _ (some_other te
     none true b e = e
     none false b e = refl
 
--- what is read of an empty text, of one with another byte, of one above the bound, and of the others
+-- What is read of an empty text, of a text with another byte, of a text above the bound, and of any other text.
 pub none_of_nothing : (bits : ℕ) (text : List ℕ) → length text ≡ 0 → None ≡ digits_of bits text
 none_of_nothing bits text e = let no : nat_lt 0 (length text) ≡ false = grind (arith, common_steps) in rw no refl
 
@@ -182,7 +182,7 @@ all_read bits n text some all value small =
     let fits_bits : nat_lt (digits_value 10 text) (2 ^ bits) ≡ true = grind (arith, nat_tests) in
     rw (digits, fits_bits) (ap (λ z. Some z) value)
 
--- a text of digits is plain where it has no needless zero
+-- A text of digits is plain if it has no needless zero.
 pub none_of_needless : (bits : ℕ) (text : List ℕ) → (nat_lt 1 (length text) && slice_index text 0 == 48) ≡ true
     → None ≡ number_of bits text
 none_of_needless bits text e = let no : is_plain text ≡ false = grind (arith, common_steps) in rw no refl

@@ -5,7 +5,7 @@ use Rattle.std.proofs.Math.Nat.{add-div_right}
 use Rattle.std.proofs.lemmas.Bool.Decides.{nat_tests}
 use Rattle.kds_base.specs.Span.{Span, last_key, uniform_from, uniform}
 
--- the width of the ranges by numbers below 2 ^ 128
+-- The width of the ranges is computed with numbers below 2 ^ 128.
 width : (n : ℕ) → 0 < n → n ≤ 2 ^ 32 → (last_key - (n - 1)) / n + 1 ≡ 2 ^ 128 / n
 width n some few =
     let e : last_key - (n - 1) + n ≡ 2 ^ 128 = omega arith in
@@ -29,7 +29,7 @@ inner_end : (w i n k e : ℕ) → suc k + (i + 1) ≡ n → e ≡ (if i + 1 == n
     → (i + 1) * w - 1 ≡ e
 inner_end w i n k e h g = grind (arith, nat_tests)
 
--- the next range, where so many follow it
+-- The next range starts the list of the last ranges, if `k` ranges follow it.
 pub next_range : (w i n k e : ℕ) → k + (i + 1) ≡ n → e ≡ (if i + 1 == n then last_key else (i + 1) * w - 1)
     → uniform_from w (i * w) (suc k) ≡ record { start = i * w; end = e } ∷ uniform_from w ((i + 1) * w) k
 next_range w i n zero e h g = ap (λ z. record { start = i * w; end = z } ∷ []) (last_end w i n e h g)
@@ -38,7 +38,7 @@ next_range w i n (suc k) e h g =
     ap (λ z. record { start = i * w; end = z - 1 } ∷ uniform_from w z (suc k)) s
     ∙ ap (λ z. record { start = i * w; end = z } ∷ uniform_from w ((i + 1) * w) (suc k)) (inner_end w i n k e h g)
 
--- the ranges so far, and the ranges after one more
+-- The ranges so far with the next one added, and the ranges that are left, are all ranges.
 pub pushed : (ranges : List Span) (w i n k s e : ℕ) → ranges ++ uniform_from w (i * w) (suc k) ≡ uniform n → s ≡ i * w
     → k + (i + 1) ≡ n → e ≡ (if i + 1 == n then last_key else (i + 1) * w - 1)
     → (ranges ++ record { start = s; end = e } ∷ []) ++ uniform_from w ((i + 1) * w) k ≡ uniform n

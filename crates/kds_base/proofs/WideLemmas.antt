@@ -14,7 +14,7 @@ use Rattle.std.specs.Str.Parse.{digits_value, digits_value_after}
 use Rattle.kds_base.specs.NumberText.{are_digits, digits_of, is_plain, number_of}
 use Rattle.kds_base.proofs.NumberLemmas.{IsDigits, own}
 
--- ---- the value of two parts
+-- ---- The value of two parts
 
 after_weighs : (n : ℕ) (ds : List ℕ) → digits_value_after 10 n ds ≡ n * 10 ^ length ds + digits_value 10 ds
 after_weighs n [] = omega (arith, ap (λ x. n * x) (pow-zero 10))
@@ -34,7 +34,7 @@ after_both n (d ∷ ds) es = after_both (n * 10 + digit_value d) ds es
 value_of_both : (ds es : List ℕ) → digits_value 10 (ds ++ es) ≡ digits_value 10 ds * 10 ^ length es + digits_value 10 es
 value_of_both ds es = after_both 0 ds es ∙ after_weighs (digits_value 10 ds) es
 
--- ---- what is read, by the two parts of its test
+-- ---- What is read, by the two parts of its test
 
 not_read : (bits : ℕ) (text : List ℕ) → list_all is_ascii_digit text ≡ false → None ≡ digits_of bits text
 not_read bits text other = let no : are_digits text ≡ false = grind (arith, common_steps) in rw no refl
@@ -54,7 +54,7 @@ is_read bits text some all small =
     let fits : nat_lt (digits_value 10 text) (2 ^ bits) ≡ true = grind (arith, nat_tests) in
     rw (digits, fits) refl
 
--- why a text isn't read, and what it is where it is read
+-- A text of digits isn't read only if its value is too great. Below is what is true of a text that is read.
 why_not : (bits : ℕ) (text : List ℕ) → 0 < length text → digits_of bits text ≡ None
     → list_all is_ascii_digit text ≡ true → 2 ^ bits ≤ digits_value 10 text
 why_not bits text some h all = let digits : are_digits text ≡ true = grind (arith, common_steps) in
@@ -66,7 +66,7 @@ all_of bits n text h = grind (arith, common_steps)
 value_of : (bits n : ℕ) (text : List ℕ) → digits_of bits text ≡ Some n → digits_value 10 text ≡ n
 value_of bits n text h = grind (arith, common_steps)
 
--- ---- a front and a block behind it
+-- ---- A front and a block behind it
 
 block_end : (block : List ℕ) → IsDigits block → length block ≡ 19 → digits_value 10 block < 10 ^ 19
 block_end block digits long = digits_value_short own block 19 digits (omega arith)
@@ -125,14 +125,14 @@ module _ (front block : List ℕ) (x y : ℕ) (long : length block ≡ 19) (fron
       ap (λ z. Some z) (is ∙ sym value_is)
       ∙ is_read 128 (front ++ block) (omega (arith, length-append front block)) all (omega (arith, value_is))
 
-  -- what is made of the number and the block, where it fits
+  -- What is made of the number and the block, if it fits, is what is read of both.
   pub both_as_made : (r : Option ℕ) → IfSome r (λ n. n ≡ x * 10 ^ 19 + y) → IfSome r (λ n. n < 2 ^ 128)
       → IfNone r (2 ^ 128 ≤ x * 10 ^ 19 + y)
       → r ≡ digits_of 128 (front ++ block)
   both_as_made (Some n) is small large = both_read n is small
   both_as_made None is small large = both_too_large large
 
--- ---- more digits than any number below 2 ^ 128 has
+-- ---- More digits than any number below 2 ^ 128 has
 
 first_weighs : (n : ℕ) (ds : List ℕ) → 0 < n → 10 ^ length ds ≤ digits_value_after 10 n ds
 first_weighs n ds some = omega (arith, after_weighs n ds, mul-le-mul_right {m = 1} {n = n} (10 ^ length ds) some)
@@ -155,7 +155,7 @@ none_of_long text long = by_test (is_plain text) (λ plain. go text long plain) 
         large (digits_value 10 (c ∷ cs)) (is_plain (c ∷ cs))
         (omega (arith, wide, first_weighs (0 * 10 + digit_value c) cs some))
 
--- ---- one block alone
+-- ---- One block alone
 
 pub short_as_wide : (text : List ℕ) → length text ≤ 19 → digits_of 64 text ≡ digits_of 128 text
 short_as_wide text short = by_test (list_all is_ascii_digit text)

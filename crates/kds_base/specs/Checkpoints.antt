@@ -1,9 +1,9 @@
--- How far a lease's shard is processed (Kinesis Client Library, checkpoint).
+-- The checkpoint of a lease: how far its shard has been processed (Kinesis Client Library, checkpoint).
 use Rattle.std.specs.Prelude.{Bool, true, false}
 use Rattle.kds_base.specs.declared.lease_key.Checkpoint.{Checkpoint}
 use Rattle.kds_base.specs.declared.lease_key.Checkpoint.TheVariants.{TrimHorizon, At, ShardEnd}
 
--- the whole shard
+-- Whether the checkpoint is the shard's end, so that the whole shard has been processed.
 abbrev pub is_end : Checkpoint → Bool
 is_end TrimHorizon = false
 is_end (At q) = false

@@ -3,6 +3,6 @@ use Rattle.std.specs.Prelude.{ℕ, List}
 use Rattle.std.specs.Int.{w128, from_be_bytes}
 use Rattle.md5.specs.Md5.{md5}
 
--- the 16 bytes of the key's MD5, the first the highest
+-- The MD5 of `key`, whose 16 bytes are read as a big-endian number.
 abbrev pub key_hash : List ℕ → ℕ
 key_hash key = from_be_bytes w128 (md5 key)

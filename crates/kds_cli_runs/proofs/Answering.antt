@@ -28,12 +28,12 @@ use Rattle.kcl_sim.specs.Taking.{judged_texts, Broke, Took, IsNoLine}
 use Rattle.kds_cli_runs.specs.Answered.{status_of, AreHandedOn, HasMade, Remains, RanBy, RanSafely}
 use Rattle.kds_cli_runs.specs.Told.{TellsBy, IsReplayStatus}
 
--- what one line after another means
+-- What a line after the lines before it means.
 abbrev pub JudgesOn : Type 0
 JudgesOn = (texts more : List (List ℕ)) (end : End) → (judged_texts texts).ending ≡ whole
     → judge 0 (texts ++ more) end ≡ preceded_by (judged_texts texts).lines (judge (length texts) more end)
 
--- what is written for more lines goes on
+-- What is written for more lines goes on from what is written for fewer.
 abbrev pub OutputsOn : (List Line → List ℕ) → Type 0
 OutputsOn output = (ls ks : List Line) → GoesOn (output ls) (output (ls ++ ks))
 
@@ -41,16 +41,16 @@ pub outputs_grow : ((ran : Ran) (ls ks : List Line)
     → outputs ran (ls ++ ks) ≡ outputs ran ls ++ outputs (with_schedule ran ls) ks) → OutputsOn (outputs fresh)
 outputs_grow on ls ks = (outputs (with_schedule fresh ls) ks, on fresh ls ks)
 
--- ---- where memory ran out
+-- ---- Where memory ran out
 
--- the texts that were taken are all lines
+-- The texts that were taken are all lines.
 all_lines : (s : SimValue) (texts rest : List (List ℕ))
     → HasTaken outcome.Memory (λ t. Took s t) (λ t x. Broke s t x) texts rest
     → (judged_texts texts).ending ≡ whole
 all_lines s texts rest (inl t) = t.are_lines
 all_lines s texts rest (inr part) = part.3.are_lines
 
--- and so is the one in whose middle it did
+-- The text in whose middle memory ran out is a line too.
 next_line : (n : ℕ) (rest later : List (List ℕ)) (text : List ℕ) (line : Line) (end : End) → rest ≡ text ∷ later
     → line_of text ≡ Some line
     → (judge n rest end).lines ≡ line ∷ (judge (n + 1) later end).lines
@@ -71,25 +71,25 @@ made_broken s texts rest end (inr part) =
     )
 
 module _ (output : List Line → List ℕ) (more : JudgesOn) (grows : OutputsOn output) where
-  -- what is written for a schedule, and for texts of lines
+  -- What is written for a schedule, and for texts of lines.
   abbrev shown : List ℕ → List ℕ
   shown bytes = output (judged bytes).lines
 
   abbrev texts_shown : List (List ℕ) → List ℕ
   texts_shown texts = output (judged_texts texts).lines
 
-  -- how the reading of its lines ended
+  -- How the reading of the schedule's lines ended.
   abbrev pub Reads : Outcome → List ℕ → Option (List ℕ) → Option (List ℕ) → Option (List ℕ) → SimValue → Type 0
   Reads o bytes left held now s = Told o (λ t. Took s t) (λ t x. Broke s t x) IsNoLine texts_shown bytes left held now
 
-  -- the schedule's judgement after these lines of it
+  -- The schedule's judgement after the first of its lines.
   after : (bytes : List ℕ) (texts rest : List (List ℕ)) → (judged_texts texts).ending ≡ whole
       → (lined bytes).texts ≡ texts ++ rest
       → judged bytes ≡ preceded_by (judged_texts texts).lines (judge (length texts) rest (lined bytes).end)
   after bytes texts rest are parts =
       ap (λ ts. judge 0 ts (lined bytes).end) parts ∙ more texts rest (lined bytes).end are
 
-  -- these lines and no more, with this end
+  -- The schedule has these lines and no more, and ends with `e`.
   no_more : (bytes : List ℕ) (texts rest : List (List ℕ)) (e : Ending) → (judged_texts texts).ending ≡ whole
       → (lined bytes).texts ≡ texts ++ rest
       → judge (length texts) rest (lined bytes).end ≡ record { lines = []; ending = e }
@@ -107,7 +107,7 @@ module _ (output : List Line → List ℕ) (more : JudgesOn) (grows : OutputsOn 
   at_no_line n rest later t end is none =
       ap (λ r. judge n r end) is ∙ ap (λ o. judge_form n o (judge (n + 1) later end)) none
 
-  -- all of the output was written
+  -- All of the output was written.
   all_written : (all front back : List ℕ) (held now : Option (List ℕ)) → all ≡ front ++ back → back ≡ []
       → Appends held now front → Appends held now all
   all_written all front back held now parts none w =
@@ -123,7 +123,7 @@ module _ (output : List Line → List ℕ) (more : JudgesOn) (grows : OutputsOn 
         (all_written (output ls) front back held now parts none w),
   )
 
-  -- a front of it was
+  -- A prefix of the output was written.
   front_written : (bytes : List ℕ) (ls later : List Line) (front back : List ℕ) (held now : Option (List ℕ))
       → (judged bytes).lines ≡ ls ++ later
       → output ls ≡ front ++ back → Appends held now front → AppendsFront held now (shown bytes)
@@ -237,7 +237,7 @@ pub replays : (o : Outcome) → IsReplayStatus (status_of o)
 replays outcome.Whole = tt
 replays _ = tt
 
--- the turns of the first lines are lawful, also where memory ran out in the middle of the next one
+-- The turns of the first lines are lawful, also if memory ran out in the middle of the next line.
 abbrev pub LawfulPart : Type 0
 LawfulPart = (bytes : List ℕ) (lines later : List Line) (line : Line) (s : SimValue)
     → (judged bytes).lines ≡ lines ++ line ∷ later
@@ -255,7 +255,7 @@ history_made status.Memory bytes lines later s lawful part parts (inr made) =
 history_made _ bytes lines later s lawful part parts made =
     subst IsHistory (sym made.history) (lawful bytes lines later parts)
 
--- the laws of every schedule
+-- The laws of every schedule.
 pub record Laws : Type 0 where
   pub lawful : (bytes : List ℕ) (lines later : List Line) → (judged bytes).lines ≡ lines ++ later
       → IsHistory (with_schedule fresh lines).history
@@ -265,7 +265,7 @@ pub record Laws : Type 0 where
       → AreAllServed (with_schedule fresh lines)
   pub handed : (bytes : List ℕ) → AreHandedOn bytes
 
--- the state of the turns that ran is safe, and the processors were called for what is given
+-- The state of the turns that ran is safe, and the processors were called for what is given.
 pub run_safely : (output : List Line → List ℕ) (status : Status) (bytes : List ℕ) (held now : Option (List ℕ))
     (s : SimValue)
     → Laws → RanBy output status bytes held now s → RanSafely output status bytes held now

@@ -12,11 +12,11 @@ use Rattle.kds_cli_runs.specs.Ends.{Performed, Replayed, TaskEnds, reads_input, 
 use Rattle.kds_cli_runs.specs.Program.{asks_for_door, asks_for_input}
 use Rattle.kds_cli_runs.specs.Journal.{IsAuditedSound}
 
--- what holds of the task that the words ask for holds of what they ask for
+-- What is true of the task for which the words ask is true of what they ask for.
 pub asked_so : (P : Task → Type 0) (asked : Option Task) (task : Task) → Some task ≡ asked → P task → IfSome asked P
 asked_so P asked task is p = subst (λ (o : Option Task). IfSome o P) is p
 
--- words that don't ask for an end have no task that has it
+-- Words that don't ask for a door or an input have no task that needs it.
 pub no_door : (asked : Option Task) (task : Task) → Some task ≡ asked → asks_for_door asked ≡ false
     → serves_door task ≡ false
 no_door asked task is none = ap asks_for_door is ∙ none
@@ -32,13 +32,13 @@ sound_so : (status : Status) (input out : Around (Option (List ℕ))) → Replay
     → IfSome input.before IsAuditedSound
 sound_so status input out r done = r.sound refl done
 
--- a journal that was asked for and is whole
+-- A journal that was asked for and is whole is sound.
 pub sound_by : (asked : Option Task) (status : Status) (ends : TaskEnds) → IfSome asked (λ t. Performed t status ends)
     → asked ≡ Some (Replay true) → status ≡ Done → IfSome ends.input.before IsAuditedSound
 sound_by asked status ends p is done =
     sound_so status ends.input ends.out (subst (λ (o : Option Task). IfSome o (λ t. Performed t status ends)) is p) done
 
--- want of memory before anything is read
+-- Memory that runs out before anything is read completes each task.
 pub none_completed : (task : Task) (bytes : Option (List ℕ)) → Completed task Memory bytes
 none_completed (Replay journal) bytes = each _ (λ bs. inr refl) bytes
 none_completed Answer bytes = each _ (λ bs ms ending falls. inr refl) bytes
@@ -46,7 +46,7 @@ none_completed Audit bytes = each _ (λ bs. inr refl) bytes
 none_completed (Serve port passes) bytes = refl
 none_completed (Drill number workers records) bytes = inr refl
 
--- the end of a task whose door doesn't listen is one of a task whose door may
+-- The end of a task whose door doesn't listen is one of a task whose door may listen.
 pub listens_or_not : (task : Task) (input out : Around (Option (List ℕ))) (moments : Option (List ℕ)) (listens : ℕ
     → Type 0)
     → Performed task Memory (record { input = input; out = out; moments = moments; listens = λ port. ⊥ })

@@ -22,7 +22,7 @@ LinesOn = (h : List Turn) (turn : Turn) → history_entries (turn ∷ h) ≡ his
 abbrev pub TextOn : Type 0
 TextOn = (xs ys : List EntryLine) → entries_text (xs ++ ys) ≡ entries_text xs ++ entries_text ys
 
--- a turn more
+-- The entries after a further turn.
 turn_more : LinesOn → TextOn → (h : List Turn) (turn : Turn)
     → entries_of (turn ∷ h) ≡ entries_of h ++ entries_text (added_entries h turn)
 turn_more lines_on text_on h turn =
@@ -53,7 +53,7 @@ schedule_grows lines_on text_on few ran (k ∷ ks) =
     let b = schedule_grows lines_on text_on few (with_line ran k) ks in
     (a.0 ++ b.0, b.1 ∙ ap (λ z. z ++ b.0) a.1 ∙ append_assoc (entries_of ran.history) a.0 b.0)
 
--- the journal of more lines goes on
+-- The journal of more lines goes on from that of fewer.
 pub all_grow : LinesOn → TextOn → FewTurns → StatesOn → (ls ks : List Line)
     → GoesOn (lines_journal ls) (lines_journal (ls ++ ks))
 all_grow lines_on text_on few states ls ks =

@@ -29,7 +29,7 @@ use Rattle.kds_cli_runs.specs.Told.{TellsBy}
 pub nothing_written : (held : Option (List ℕ)) (xs : List ℕ) → AppendsFront held held xs
 nothing_written held xs = ([], xs, refl, Appends-nil held)
 
--- ---- a front that isn't all
+-- ---- A front that isn't all
 
 longer : (xs ys : List ℕ) → 0 < length ys → 0 < length (xs ++ ys)
 longer xs ys some = let both = length-append xs ys in omega arith
@@ -40,7 +40,7 @@ some_last c = longer (end_spelling c) (10 ∷ []) (omega arith)
 some_behind : (xs : List ℕ) (c : ℕ) → 0 < length (xs ++ last_line c)
 some_behind xs c = longer xs (last_line c) (some_last c)
 
--- nothing of the last line
+-- Nothing of the last line was written.
 no_last : (c : ℕ) (held now : Option (List ℕ)) → Appends held now [] → AppendsPart held now (last_line c)
 no_last c held now e = ([], last_line c, some_last c, refl, e)
 
@@ -48,7 +48,7 @@ pub nothing_recorded : (h : List Turn) (held : Option (List ℕ)) → AppendsPar
 nothing_recorded h held =
     ([], journal_text h, some_behind (first_line ++ entries_text (history_entries h)) (clock h), refl, Appends-nil held)
 
--- ---- the first line
+-- ---- The first line
 
 broke_first : (bytes : List ℕ) (left held now : Option (List ℕ)) → AppendsFront held now first_line
     → JournalTells Write bytes left held now
@@ -66,7 +66,7 @@ pub first_there : (held now : Option (List ℕ)) (line : List ℕ) → line ≡ 
     → Appends held now first_line
 first_there held now line is h = subst (λ (l : List ℕ). Appends held now l) is h
 
--- ---- and then the entries
+-- ---- And then the entries
 
 part_of_all : (bytes : List ℕ) (held now : Option (List ℕ)) → AppendsFront held now (first_line ++ entries bytes)
     → AppendsPart held now (journal_text (history bytes))
@@ -91,9 +91,9 @@ begins_all st None left a b c line is not_done h t = tt
 begins_all st (Some bytes) left a b c line is not_done h t =
     begins st bytes left a b c not_done (subst (λ (l : List ℕ). Appends a b l) is h) t
 
--- ---- and the last line
+-- ---- And the last line
 
--- all turns of the schedule ran
+-- All turns of the schedule ran.
 all_ran : (bytes : List ℕ) (b c : Option (List ℕ)) (s : SimValue) → RanBy lines_journal Done bytes b c s
     → s.history ≡ history bytes
 all_ran bytes b c s r =
@@ -127,7 +127,7 @@ ends_all st (Some bytes) left a b c d line s last is at h t r e =
     ends_at st bytes left a b c d (subst (λ (l : List ℕ). Appends a b l) is h) t
     (subst (λ (n : ℕ). EndTells st n c d) (at ∙ ap clock (all_ran bytes b c s r)) e)
 
--- the entries were written to the end, and then the last line
+-- The entries were written to the end, and then the last line.
 pub ends_with : (entered st : Status) (all left a b c d : Option (List ℕ)) (s : SimValue) (last : ℕ) → entered ≡ Done
     → last ≡ clock s.history → Appends a b first_line
     → IfSome all (λ bytes. TellsBy entries entered bytes left b c)
@@ -151,9 +151,9 @@ done_by _ h = absurd (false_true h)
 pub not_done_by : (st : Status) → is_done st ≡ false → st ≡ Done → ⊥
 not_done_by st h is = absurd (false_true (sym h ∙ ap is_done is))
 
--- ---- the numbers of the turns
+-- ---- The numbers of the turns
 
--- all of the schedule's turns ran
+-- All of the schedule's turns ran, so what is true of the history is true of the schedule's.
 pub bits_all : (entered : Status) (all b c : Option (List ℕ)) (s : SimValue) → entered ≡ Done → HaveBits s.history
     → IfSome all (λ bytes. RanBy lines_journal entered bytes b c s) → IfSome all (λ bytes. HaveBits (history bytes))
 bits_all entered None b c s done a r = tt
@@ -161,7 +161,7 @@ bits_all entered (Some bytes) b c s done a r =
     subst (λ (z : List Turn). HaveBits z)
     (all_ran bytes b c s (subst (λ (x : Status). RanBy lines_journal x bytes b c s) done r)) a
 
--- such a history's journal is sound
+-- The journal of such a history is sound.
 pub audited_all : (all : Option (List ℕ)) → ((bytes : List ℕ) → IsHistory (history bytes))
     → ((h : List Turn) → IsHistory h → HaveBits h → audit_of (journal_text h) ≢ over
     → audit_of (journal_text h) ≡ sound (counted 0 (history_entries h)))
@@ -169,7 +169,7 @@ pub audited_all : (all : Option (List ℕ)) → ((bytes : List ℕ) → IsHistor
 audited_all None lawful law bits = tt
 audited_all (Some bytes) lawful law bits = law (history bytes) (lawful bytes) bits
 
--- ---- the lines that were run
+-- ---- The lines that were run
 
 behind : (first all front back : List ℕ) → all ≡ front ++ back → first ++ all ≡ (first ++ front) ++ back
 behind first all front back e = ap (λ z. first ++ z) e ∙ sym (append_assoc first front back)
@@ -180,7 +180,7 @@ between first all front back rest e =
     ap (λ z. first ++ (z ++ rest)) e ∙ ap (λ z. first ++ z) (append_assoc front back rest)
     ∙ sym (append_assoc first front (back ++ rest))
 
--- entries that weren't written to the end, behind the first line
+-- Entries that weren't written to the end stand behind the first line.
 ran_behind : (st : Status) (bytes : List ℕ) (a b c : Option (List ℕ)) (s : SimValue) → (st ≡ Done → ⊥)
     → Appends a b first_line
     → RanBy lines_journal st bytes b c s → RanBy (recorded st) st bytes a c s
@@ -228,7 +228,7 @@ pub ran_behind_all : (st : Status) (all a b c : Option (List ℕ)) (s : SimValue
 ran_behind_all st None a b c s not_done h r = tt
 ran_behind_all st (Some bytes) a b c s not_done h r = ran_behind st bytes a b c s not_done h r
 
--- all entries, and the last line
+-- All entries were written, and the last line.
 ran_whole : (bytes : List ℕ) (a b c : Option (List ℕ)) (s : SimValue) → Appends a b first_line
     → (r : RanBy lines_journal Done bytes b c s)
     → Appends a c (first_line ++ lines_journal r.lines)
@@ -293,7 +293,7 @@ ran_ends_with entered st all a b c d s last done at h r e =
     ran_ended_all st all a b c d s last at h
     (subst (λ (x : Status). IfSome all (λ bytes. RanBy lines_journal x bytes b c s)) done r) e
 
--- no line was run
+-- No line was run.
 none_ran : (bytes : List ℕ) (a b : Option (List ℕ)) (s : SimValue) → RunsSo s fresh → AppendsFront a b first_line
     → RanBy (recorded Write) Write bytes a b s
 none_ran bytes a b s made f =

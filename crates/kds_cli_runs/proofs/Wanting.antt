@@ -1,4 +1,4 @@
--- Want of memory before anything is read is an end of each task.
+-- Memory that runs out before anything is read is an end of each task.
 use Rattle.std.proofs.Common.{◌≡◌, ℕ, Bool, true, false, List, [], Option, Some, None, refl, inl, inr}
 use Rattle.std.specs.Option.{IfSome}
 use Rattle.std.proofs.KnownBytes.{Appends-nil}
@@ -19,7 +19,7 @@ use Rattle.kds_cli_runs.specs.Ends.{Answers, Audited, Performed, Replayed, Repla
 use Rattle.kds_cli_runs.proofs.Answering.{Laws, run_safely}
 use Rattle.kds_cli_runs.proofs.Journaling.{nothing_recorded, nothing_written}
 
--- no turn ran
+-- No turn ran.
 still : SimValue
 still = record { history = []; told = []; workers = []; over = false }
 
@@ -45,7 +45,7 @@ tells_none (Some bytes) left held = record {
   written = λ ms ending falls later. nothing_written held _;
 }
 
--- a connection that got no command
+-- A connection got no command.
 unserved : (all left moments held : Option (List ℕ)) → Answers Memory (around all left) (around held held) moments
 unserved all left moments held = record {
   kind = tt;

@@ -1,4 +1,4 @@
--- How each task ends over ends whose faults don't rise.
+-- How each task ends over ends (I/O objects) whose faults don't rise.
 use Rattle.std.specs.Prelude.{◌≡◌, ◌⊎◌, ℕ, List, IfSome}
 use Rattle.std.specs.declared.option.Option.{Option}
 use Rattle.kcl_audit.specs.Audited.{AuditsAs}
@@ -9,22 +9,22 @@ use Rattle.kds_cli_words.specs.declared.task.Task.{Task}
 use Rattle.kds_cli_words.specs.declared.task.Task.TheVariants.{Replay, Answer, Audit, Serve, Drill}
 use Rattle.kcl_sim.specs.Schedule.{Ending, bad_line, ending, too_long, whole}
 
--- how the run of a schedule ends whose bytes end so: with Done where all lines are lines of a schedule
+-- How the run of a schedule ends, by the ending of its bytes: with Done if all lines are lines of a schedule.
 abbrev pub replay_status : Ending → Status
 replay_status whole = Done
 replay_status too_long = TooLong
 replay_status (bad_line n) = BadLine n
 
--- the run ended so, or memory ran out
+-- The run ended with the status `decided`, or memory ran out.
 abbrev pub EndsBy : Status → Status → Type 0
 EndsBy decided status = (status ≡ decided) ⊎ (status ≡ Memory)
 
--- how the run of a schedule of these bytes ends, unless memory runs out
+-- The run of the schedule `bytes` ends with `status`, as its ending decides, unless memory runs out.
 abbrev pub ReplaysAs : List ℕ → Status → Type 0
 ReplaysAs bytes status = EndsBy (replay_status (ending bytes)) status
 
--- How a task ends: as the bytes of its input decide, where the source tells them, a drill with Done; or by want of
--- memory, by which alone a door whose faults don't rise stops being served.
+-- How a task ends: as the bytes of its input decide, if the source tells them, and a drill with Done. Otherwise it ends
+-- for lack of memory, which alone ends the serving of a door whose faults don't rise.
 abbrev pub Completed : Task → Status → Option (List ℕ) → Type 0
 Completed (Replay journal) status bytes = IfSome bytes (λ bs. ReplaysAs bs status)
 Completed Answer status bytes = IfSome bytes (λ bs. EndsAs bs status)

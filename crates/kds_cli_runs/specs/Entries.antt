@@ -6,16 +6,16 @@ use Rattle.kcl_sim_scribe.specs.Known.{ScribeValue, StandsFor}
 use Rattle.kcl_script.specs.declared.line.Line.{Line}
 use Rattle.kcl_sim.specs.Output.{fresh, with_schedule}
 
--- the text of the entries of a history's journal
+-- The text of the entries in the journal of the history `h`.
 abbrev pub entries_of : List Turn → List ℕ
 entries_of h = entries_text (history_entries h)
 
--- and of those that lines make
+-- The text of the entries that the lines `lines` of a schedule make.
 abbrev pub lines_journal : List Line → List ℕ
 lines_journal lines = entries_of (with_schedule fresh lines).history
 
--- the scribe noted the turns of the history, and this is the text of the entries that they added to those of an earlier
--- history, unless memory for it ran out
+-- The scribe (the writer of the event log) noted the turns of the history `h`. The text `text` is that of the entries
+-- that they added to those of the earlier history `since`, unless memory for it ran out.
 abbrev pub IsNoted : ScribeValue → Option (List ℕ) → List Turn → List Turn → Type 0
 IsNoted scribe None since h = Unit {0}
 IsNoted scribe (Some text) since h = StandsFor scribe h × (entries_of h ≡ entries_of since ++ text)

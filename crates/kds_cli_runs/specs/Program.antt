@@ -13,9 +13,8 @@ use Rattle.kds_cli_runs.specs.Completed.{Completed}
 use Rattle.kds_cli_runs.specs.Ends.{Performed, TaskEnds, reads_input, serves_door}
 use Rattle.kds_cli_runs.specs.Words.{error_text}
 
--- How the program ended: this is its exit status, the error output, which had and has these bytes, gained its text
--- unless that output's own count of faults rose, and the run of the task that its words ask for ended so over these
--- ends.
+-- How the program ended: its exit status is `code`, and the error output gained the text of this status, unless that
+-- output's own count of faults rose. The run of the task that `words` ask for ended with this status over `ends`.
 pub record EndsSo (code : ℕ) (words : List (String Global)) (ends : TaskEnds) (err : Around (Option (List ℕ)))
     (faults : Around ℕ) : Type 0 where
   pub status : Status
@@ -23,15 +22,15 @@ pub record EndsSo (code : ℕ) (words : List (String Global)) (ends : TaskEnds) 
   pub error : Appends err.before err.after (error_text status) ⊎ Rose faults.before faults.after
   pub performed : IfSome (task_of (texts_of words)) (λ t. Performed t status ends)
 
--- How the program ends over ends whose faults don't rise: this is its exit status, and the run of the task that its
--- words ask for ended as the bytes decide, or by want of memory. Of a schedule whose lines are all lines of one, 0 or
--- 6.
+-- How the program ends over ends whose faults don't rise: its exit status is `code`, and the run of the task that
+-- `words` ask for ended as the bytes decide, or for lack of memory. If all lines of a schedule are schedule lines, the
+-- exit status is 0 or 6.
 pub record CompletesSo (code : ℕ) (words : List (String Global)) (bytes : Option (List ℕ)) : Type 0 where
   pub status : Status
   pub is_code : code ≡ code_of status
   pub completed : IfSome (task_of (texts_of words)) (λ t. Completed t status bytes)
 
--- words that ask for a door to be served, or for the input to be read
+-- Whether words ask for a door to be served, and below whether they ask for the input to be read.
 abbrev pub asks_for_door : Option Task → Bool
 asks_for_door None = false
 asks_for_door (Some task) = serves_door task

@@ -1,4 +1,4 @@
--- What a replay's end tells of the bytes and of the output.
+-- What the end of a replay tells of the bytes and of the output.
 use Rattle.std.specs.Prelude.{◌≡◌, ℕ, List, ◌++◌, Some}
 use Rattle.std.specs.declared.option.Option.{Option}
 use Rattle.std.specs.Io.KnownBytes.{Appends}
@@ -7,9 +7,10 @@ use Rattle.kds_ends.specs.declared.status.Status.TheVariants.{Done, BadLine, Rea
 use Rattle.kds_ends.specs.Causes.{AppendsFront}
 use Rattle.kcl_sim.specs.Schedule.{whole, too_long, bad_line, ending, text}
 
--- Of the bytes of a schedule, those that are left, and what the sink held and holds, where this is what is written for
--- a schedule's lines. With Done, BadLine and TooLong the bytes end so, and what is for the lines before was written.
--- With Read what is for the whole lines that were read was. With Write and Memory a front of it was.
+-- What a status tells of the bytes of a schedule, those that are left, and what the sink held and holds, if `shown` is
+-- what is written for a schedule's lines. With Done, BadLine and TooLong the bytes end as the status says, and what is
+-- written for the lines before was written. With Read what is written for the whole lines that were read was written.
+-- With Write and Memory a prefix of it was.
 abbrev pub TellsBy : (List ℕ → List ℕ) → Status → List ℕ → Option (List ℕ) → Option (List ℕ) → Option (List ℕ) → Type 0
 TellsBy shown Done bytes left held now = (ending bytes ≡ whole) × Appends held now (shown bytes)
 TellsBy shown (BadLine n) bytes left held now = (ending bytes ≡ bad_line n) × Appends held now (shown bytes)
@@ -20,11 +21,11 @@ TellsBy shown Write bytes left held now = AppendsFront held now (shown bytes)
 TellsBy shown Memory bytes left held now = AppendsFront held now (shown bytes)
 TellsBy shown _ bytes left held now = ⊥
 
--- where the answers are written
+-- What a status tells of a replay that writes the answers.
 abbrev pub Tells : Status → List ℕ → Option (List ℕ) → Option (List ℕ) → Option (List ℕ) → Type 0
 Tells status bytes left held now = TellsBy text status bytes left held now
 
--- what a replay may answer
+-- A replay may end with this status.
 abbrev pub IsReplayStatus : Status → Type 0
 IsReplayStatus Done = Unit {0}
 IsReplayStatus (BadLine n) = Unit {0}

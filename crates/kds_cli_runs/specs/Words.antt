@@ -1,10 +1,10 @@
--- The text of each end on the error output, and of a door that listens.
+-- The text on the error output for each way in which a run ends, and the text for a door that listens.
 use Rattle.std.specs.Prelude.{ℕ, List, [], ◌∷◌, ◌++◌, codes, decimal}
 use Rattle.kds_ends.specs.declared.status.Status.{Status}
 use Rattle.kds_ends.specs.declared.status.Status.TheVariants.{Done, Unsound, Usage, BadLine, Read, Write, Memory, Cut}
 use Rattle.kds_ends.specs.declared.status.Status.TheVariants.{Door, TooLong, Refused}
 
--- the text of each end, with its line feed; none where all went well or the answer says it
+-- The text for each status, with its line feed. It is empty if all went well or the answer says it.
 abbrev pub error_text : Status → List ℕ
 error_text Done = []
 error_text Unsound = []
@@ -19,6 +19,6 @@ error_text Door = codes "door fault" ++ 10 ∷ []
 error_text TooLong = codes "input too long" ++ 10 ∷ []
 error_text Refused = codes "message refused" ++ 10 ∷ []
 
--- what is written once a door listens
+-- What is written once a door listens.
 abbrev pub listening : List ℕ
 listening = codes "listening" ++ 10 ∷ []

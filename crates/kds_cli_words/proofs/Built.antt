@@ -1,4 +1,4 @@
--- A command with one more subcommand.
+-- A command with a further subcommand.
 use Rattle.std.proofs.Common.{Bool, ap, ap₂, ◌∙◌}
 use Rattle.std.specs.Prelude.{◌||◌}
 use Rattle.clap.specs.Words.{App, AddsSubcommand, with_subcommand}

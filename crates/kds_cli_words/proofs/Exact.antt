@@ -14,7 +14,7 @@ use Rattle.kds_cli_words.specs.declared.task.Task.{Task}
 use Rattle.kds_cli_words.specs.Parsed.{told}
 use Rattle.kds_cli_words.proofs.Seen.{IsValue, Seen, flag, value, text}
 
--- the faults are those of the words
+-- The faults are those of the words.
 pub free : is_simple_and_free kds_app ≡ true
 unfolding clap_on_literals
 free = refl
@@ -23,7 +23,7 @@ pub simple : is_simple kds_app ≡ true
 unfolding clap_on_literals
 simple = refl
 
--- what a parse reads, where these are its faults: nothing where there is one
+-- What a parse reads if it has these faults: nothing if there is a fault.
 abbrev pub read : Kinds → Option Task → Option Task
 read [] task = task
 read (k ∷ ks) task = None
@@ -34,9 +34,9 @@ read_of words = read (fault_of kds_app words) (told (subcommand_of kds_app words
 abbrev pub Exact : List Text → Type 0
 Exact words = read_of words ≡ task_of words
 
--- ---- words that are no task
+-- ---- Words that are no task
 
--- the two texts aren't one
+-- The texts `a` and `b` are different.
 abbrev pub Differ : Text → Text → Type 0
 Differ a b = (bytes_eq a b ≡ false) × (bytes_eq b a ≡ false)
 
@@ -46,7 +46,7 @@ differ a b other = (
   false_from_ne_true _ (λ same. other (sym ((bytes_eq-Decides b a).0 same))),
 )
 
--- the word names no command
+-- The word `w` names no command.
 pub record IsOther (w : Text) : Type 0 where
   pub replay : Differ w (codes "replay")
   pub answer : Differ w (codes "answer")
@@ -61,7 +61,7 @@ nameless w (a ∷ b ∷ []) o = rw o.serve.0 refl
 nameless w (a ∷ b ∷ c ∷ []) o = rw o.drill.0 refl
 nameless w (a ∷ b ∷ c ∷ d ∷ more) o = refl
 
--- one of the words is no number
+-- One of a list of words is no number.
 abbrev pub HasNoNumber : List Text → Type 0
 HasNoNumber [] = ⊥
 HasNoNumber (w ∷ words) = (number_of 64 w ≡ None) ⊎ HasNoNumber words
@@ -82,7 +82,7 @@ drills_nothing a b c (inr (inl none)) = rw none (nothing (number_of 64 a) None)
 drills_nothing a b c (inr (inr (inl none))) = rw none (nothing (number_of 64 a) (members_of b))
 drills_nothing a b c (inr (inr (inr never))) = absurd never
 
--- ---- the commands
+-- ---- The commands
 
 replay_words : (more : List Seen) → length more ≤ 3 → Exact (codes "replay" ∷ map text more)
 unfolding clap_on_literals
@@ -97,7 +97,7 @@ replay_words (value a i ∷ b ∷ []) few = rw (i.not_end, i.not_long, i.not_sho
 replay_words (value a i ∷ b ∷ c ∷ []) few = rw (i.not_end, i.not_long, i.not_short) refl
 replay_words (a ∷ b ∷ c ∷ d ∷ more) few = absurd (omega arith)
 
--- the two that have no words of their own
+-- The two commands that have no words of their own.
 bare_words : (more : List Seen) → length more ≤ 3 → Exact (codes "answer" ∷ map text more)
     × Exact (codes "audit" ∷ map text more)
 unfolding clap_on_literals
@@ -156,9 +156,9 @@ drill_words (value a i ∷ value b j ∷ value c k ∷ []) few =
     rw (i.not_end, i.not_long, i.not_short, j.not_end, j.not_long, j.not_short, k.not_end, k.not_long, k.not_short) refl
 drill_words (a ∷ b ∷ c ∷ d ∷ more) few = absurd (omega arith)
 
--- ---- all of them
+-- ---- All of them
 
--- a first word that names no command, whatever follows
+-- A first word that names no command, whatever follows.
 other_words : (w : Text) (more : List Text) → IsValue w → IsOther w → Exact (w ∷ more)
 unfolding clap_on_literals
 other_words w more i o =

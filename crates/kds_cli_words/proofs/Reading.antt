@@ -24,9 +24,9 @@ use Rattle.kds_cli_words.specs.Parsed.{is_word, told, told_with}
 use Rattle.kds_cli_words.proofs.Exact.{Exact, exact, read}
 use Rattle.kds_cli_words.proofs.Seen.{seen}
 
--- ---- the name and the values of a parse
+-- ---- The name and the values of a parse
 
--- the same values give the same task
+-- The same values give the same task.
 same_values : (name : Text) (get look : Text → Option Text) → ((id : Text) → get id ≡ look id)
     → told_with name get ≡ told_with name look
 same_values name get look same = λ i. told_with name (λ id. same id i)
@@ -57,7 +57,7 @@ told_read m name f h g =
     same_values name (first_value f) (λ id. first_of id (rows_of f)) (first_value-rows f)
     ∙ met_by (subcommand_rows_of m) name (rows_of f) (h ∙ name_met m) g
 
--- ---- words that `clap` may see
+-- ---- Words that `clap` may see
 
 exactly : (words : List (String Global)) → list_all (λ w. is_word (string_bytes w)) words ≡ true → length words ≤ 4
     → Exact (texts_of words)
@@ -66,14 +66,14 @@ exactly words are few =
     let n = s.1 in
     subst Exact s.2 (exact s.0 (omega arith))
 
--- where no fault is found, the task is read
+-- If no fault is found, the task is read.
 pub read_words : (words : List (String Global)) → list_all (λ w. is_word (string_bytes w)) words ≡ true
     → length words ≤ 4
     → fault_of kds_app (texts_of words) ≡ [] → told (subcommand_of kds_app (texts_of words)) ≡ task_of (texts_of words)
 read_words words are few fine = sym (ap (λ kinds. read kinds (told (subcommand_of kds_app (texts_of words)))) fine)
     ∙ exactly words are few
 
--- where an error has one of these kinds of fault, and isn't want of memory, they are no task
+-- If an error has one of these kinds of fault, and isn't that memory ran out, the words are no task.
 pub refused : (words : List (String Global)) (kinds : Kinds) (k found : ErrorKind)
     → list_all (λ w. is_word (string_bytes w)) words ≡ true → length words ≤ 4
     → kinds ≡ fault_of kds_app (texts_of words) → k ≡ found → (k ≡ kind.OutOfMemory → ⊥) → (found ≡ kind.OutOfMemory)

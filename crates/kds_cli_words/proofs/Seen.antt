@@ -11,14 +11,14 @@ use Rattle.kds_base.proofs.Facts.{both_left, both_right}
 use Rattle.kds_cli_words.specs.Words.{texts_of}
 use Rattle.kds_cli_words.specs.Parsed.{has_hyphen, is_word}
 
--- the word is no flag: it has no leading hyphen
+-- The word `w` is no flag: it has no leading hyphen.
 pub record IsValue (w : Text) : Type 0 where
   pub not_journal : bytes_eq w (codes "--journal") ≡ false
   pub not_end : bytes_eq w (45 ∷ 45 ∷ []) ≡ false
   pub not_long : long_of w ≡ None
   pub not_short : short_of w ≡ None
 
--- the one flag, or a word that is none
+-- A word is the one flag, or it is no flag.
 pub data Seen : Type 0 where
   flag : Seen
   value : (w : Text) → IsValue w → Seen
@@ -42,7 +42,7 @@ seen_word w true d is has h = (flag, sym ((bytes_eq-Decides w (codes "--journal"
 seen_word w false true is has h = absurd cc
 seen_word w false false is has h = (value w (is_value w is has), refl)
 
--- the words that pass the test are such words
+-- The words that pass the test are such words.
 pub seen : (words : List (String Global)) → list_all (λ w. is_word (string_bytes w)) words ≡ true
     → (seens : List Seen) × (length seens ≡ length words) × (map text seens ≡ texts_of words)
 seen [] h = ([], refl, refl)

@@ -17,7 +17,7 @@ use Rattle.kds_cli_words.specs.declared.task.Task.TheVariants.{Replay}
 use Rattle.kds_cli_words.specs.Parsed.{is_word}
 use Rattle.kds_cli_words.proofs.Exact.{Differ, HasNoNumber, differ, drills_nothing, nameless, serves_nothing}
 
--- ---- such a word is no name, and no number
+-- ---- Such a word is no name, and no number
 
 no_name : (w name : Text) → is_word w ≡ false → is_word name ≡ true → Differ w name
 no_name w name bad good = differ w name (λ same. apart (is_word w) (ap is_word same ∙ good) bad)
@@ -40,7 +40,7 @@ no_numbers (w ∷ words) bad =
     ⊎_elim (λ this. inl (no_number w this)) (λ rest. inr (no_numbers words rest))
     (and_cases (is_word w) (list_all is_word words) bad)
 
--- ---- words with such a one
+-- ---- Words with such a one
 
 unless : (b : Bool) (task : Option Task) → None ≡ task → None ≡ (if b then task else None)
 unless true task none = none

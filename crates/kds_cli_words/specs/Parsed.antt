@@ -7,7 +7,7 @@ use Rattle.kds_cli_words.specs.Words.{drill_of, serve_of}
 use Rattle.kds_cli_words.specs.declared.task.Task.{Task}
 use Rattle.kds_cli_words.specs.declared.task.Task.TheVariants.{Replay, Answer, Audit}
 
--- ---- what `clap` read
+-- ---- What `clap` read
 
 abbrev pub is_told : Option Text → Bool
 is_told None = false
@@ -21,7 +21,7 @@ abbrev pub drill_told : Option Text → Option Text → Option Text → Option T
 drill_told (Some number) (Some workers) (Some records) = drill_of number workers records
 drill_told number workers records = None
 
--- the task of a subcommand's name and its values
+-- The task of the subcommand `name` with the values that `get` gives.
 abbrev pub told_with : Text → (Text → Option Text) → Option Task
 told_with name get =
     if bytes_eq name (codes "replay") then Some (Replay (is_told (get (codes "journal"))))
@@ -32,12 +32,12 @@ told_with name get =
     (get (codes "records"))
     else None
 
--- the task of what a parse met
+-- The task of what a parse met, if there is one.
 abbrev pub told : Option (Text × List Row) → Option Task
 told None = None
 told (Some met) = told_with met.0 (λ id. first_of id met.1)
 
--- ---- words that `clap` sees
+-- ---- Words that `clap` sees
 
 abbrev pub is_hyphen : Option ℕ → Bool
 is_hyphen None = false
@@ -46,6 +46,6 @@ is_hyphen (Some d) = d == 45
 abbrev pub has_hyphen : Text → Bool
 has_hyphen w = is_hyphen (slice_get w 0)
 
--- no leading hyphen, or the one flag
+-- Whether the word `w` has no leading hyphen, or is the one flag.
 abbrev pub is_word : Text → Bool
 is_word w = bytes_eq w (codes "--journal") || not (has_hyphen w)

@@ -8,11 +8,12 @@ use Rattle.kds_cli_words.specs.declared.ranges.TheConstants.{MOST_MEMBERS, MOST_
 use Rattle.kds_cli_words.specs.declared.task.Task.{Task}
 use Rattle.kds_cli_words.specs.declared.task.Task.TheVariants.{Replay, Answer, Audit, Serve, Drill}
 
--- the words as texts, the bytes of each
+-- The words `words` as texts, which are the bytes of each.
 abbrev pub texts_of : List (String Global) → List (List ℕ)
 texts_of words = map string_bytes words
 
--- the number of a text, between two others
+-- The number `n` if it is in the range from `low` to `high`, both included. The number of a text in this range is
+-- `number_in`.
 abbrev pub within : ℕ → ℕ → ℕ → Option ℕ
 within low high n = if nat_le low n && nat_le n high then Some n else None
 
@@ -37,7 +38,7 @@ drill_of number workers records =
     option_and_then (λ n. option_and_then (λ w. option_and_then (λ r. Some (Drill n w r)) (records_of records))
     (members_of workers)) (number_of 64 number)
 
--- the words, exactly
+-- The task for which exactly these words ask, if there is one.
 abbrev pub task_of : List (List ℕ) → Option Task
 task_of [] = None
 task_of (word ∷ []) =
@@ -51,7 +52,7 @@ task_of (word ∷ a ∷ b ∷ []) = if bytes_eq word (codes "serve") then serve_
 task_of (word ∷ a ∷ b ∷ c ∷ []) = if bytes_eq word (codes "drill") then drill_of a b c else None
 task_of (word ∷ a ∷ b ∷ c ∷ d ∷ more) = None
 
--- its numbers are within the table's ranges
+-- The numbers of a task are within the ranges of the table.
 abbrev pub IsWithin : Task → Type 0
 IsWithin (Serve port passes) = (1 ≤ port) × (port ≤ MOST_PORT) × (1 ≤ passes) × (passes ≤ MOST_MEMBERS)
 IsWithin (Drill number workers records) = (1 ≤ workers) × (workers ≤ MOST_MEMBERS) × (records ≤ MOST_RECORDS)

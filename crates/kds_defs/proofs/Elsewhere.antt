@@ -21,7 +21,7 @@ use Rattle.kds_defs.specs.Streams.{made_at, made_at_after}
 use Rattle.kds_defs.specs.Streams.{made_count_after, name_of, name_of_after, trim_floor, was_made, was_made_after}
 use Rattle.kds_defs.specs.Subjects.{IsFresh, stream_of}
 
--- ---- what an entry isn't of
+-- ---- What an entry isn't of
 
 pub of_no_stream : (what : Entry) (s : ℕ) → stream_of what ≡ None → stream_of what ≢ Some s
 of_no_stream what s none = λ h. none-some s (sym none ∙ h)
@@ -37,7 +37,7 @@ pub of_none : (o : Option ℕ) → is_some o ≡ false → o ≡ None
 of_none None h = refl
 of_none (Some s) h = absurd cc
 
--- ---- a stream's readings after an entry that isn't of it
+-- ---- A stream's readings after an entry that isn't of it
 
 differ : (a s : ℕ) → Some a ≢ Some s → (a == s) ≡ false
 differ a s h = ne_eqb a s (λ e. h (ap Some e))
@@ -97,7 +97,7 @@ pub enforced_same : (what : Entry) (s : ℕ) (before : Bool) → stream_of what 
 enforced_same (entry.Enforced a on) s before h = rw (differ a s h) refl
 enforced_same _ s before h = refl
 
--- ... all of them
+-- All readings of stream `s` are the same in the journals `log` and `log'`.
 pub record SameStream (log log' : Journal) (s : ℕ) : Type 0 where
   pub live : is_live log s ≡ is_live log' s
   pub was : was_made log s ≡ was_made log' s
@@ -124,7 +124,7 @@ same_stream log line s h = record {
   enforced_is = enforced_same line.what s (is_enforced log s) h;
 }
 
--- ... after several lines
+-- The readings of a stream are the same in the same journal, and (below) after several lines that aren't of it.
 pub same_again : (log : Journal) (s : ℕ) → SameStream log log s
 same_again log s = record {
   live = refl;
@@ -154,14 +154,14 @@ same_along log log' log'' s a b = record {
   enforced_is = a.enforced_is ∙ b.enforced_is;
 }
 
--- how many streams were made, after an entry of a lease
+-- An entry of a lease leaves the number of streams that were made.
 pub count_same : (what : Entry) (n : ℕ) → stream_of what ≡ None → made_count_after what n ≡ n
 count_same (entry.Made s name count) n h = absurd cc
 count_same _ n h = refl
 
--- ---- the floor of a stream, at each clock from that of the line on, where the line leaves the retention
+-- ---- The floor of a stream, at each clock from that of the line on, where the line leaves the retention
 
--- what a line at the clock d leaves of the floor at c, by the hours after it and before it
+-- What a line at the clock `d` leaves of the floor at the clock `c`, by the hours after the line and before it.
 floor_by : Bool → Bool → ℕ → ℕ → ℕ → ℕ → ℕ → ℕ
 floor_by made before c d hours hours_before low =
     let now = floor_at d (hours * HOUR) in
@@ -190,7 +190,7 @@ floor_same log line s c later same =
     same
     ∙ no_higher (was_made (line ∷ log) s) (was_made log s) c line.clock (hours log s) (floor_of_lines log s) later
 
--- ---- a stream that no line speaks of
+-- ---- A stream that no line speaks of
 
 pub fresh_empty : (s : ℕ) → IsFresh [] s
 fresh_empty s = record {
@@ -223,7 +223,7 @@ fresh_other log line s fresh other =
       not_enforced = same.enforced_is ∙ fresh.not_enforced;
     }
 
--- ---- rows and tenures after an entry of a stream
+-- ---- Rows and tenures after an entry of a stream
 
 pub row_same : (log : Journal) (line : Line) (what : Entry) (key : ShardRef) (before : Option Row)
     → stream_of what ≢ None

@@ -29,7 +29,7 @@ other = 116 ∷ []
 item : NewItem
 item = record { key = 97 ∷ []; hash = 0x0cc175b9c0f1b6a831c399e269772661; payload = 104 ∷ 105 ∷ [] }
 
--- the first records of a stream, and refusals
+-- The first records of a stream, and refusals.
 first_path : answers [] (
     turn 1000 (command.Create name 1)
     ∷ turn 1000 (command.Put name item)
@@ -51,7 +51,7 @@ first_path = refl
 kept : ℕ → ℕ → Stored
 kept seq arrival = record { seq = seq; arrival = arrival; key = 97 ∷ []; payload = 104 ∷ 105 ∷ [] }
 
--- a split
+-- A split.
 split : answers [] (
     turn 4000 (command.Create name 1)
     ∷ turn 4000 (command.Split name 0 170141183460469231731687303715884105728)
@@ -63,7 +63,7 @@ split : answers [] (
 unfolding refuse◌if◌else◌ with◌or◌then◌ turn name
 split = refl
 
--- merges
+-- Merges.
 merge : answers [] (
     turn 4000 (command.Create name 3)
     ∷ turn 4000 (command.Merge name 0 2)
@@ -74,7 +74,7 @@ merge : answers [] (
 unfolding refuse◌if◌else◌ with◌or◌then◌ turn name
 merge = refl
 
--- a record is shown until its age is the retention
+-- A record is shown until its age is the retention.
 retention : answers [] (
     turn 1000 (command.Create name 1)
     ∷ turn 1000 (command.Put name item)
@@ -89,7 +89,7 @@ retention : answers [] (
 unfolding refuse◌if◌else◌ with◌or◌then◌ turn name item kept
 retention = refl
 
--- the end of a closed shard, whose children are told, and a listing in pages
+-- The end of a closed shard, whose children are told, and a listing in pages.
 ended : answers [] (
     turn 4000 (command.Create name 1)
     ∷ turn 4000 (command.Split name 0 170141183460469231731687303715884105728)
@@ -133,7 +133,7 @@ ended : answers [] (
 unfolding refuse◌if◌else◌ with◌or◌then◌ turn name
 ended = refl
 
--- where reading begins
+-- Where reading begins.
 starts : answers [] (
     turn 1000 (command.Create name 1)
     ∷ turn 1000 (command.Put name item)
@@ -157,7 +157,7 @@ starts : answers [] (
 unfolding refuse◌if◌else◌ with◌or◌then◌ turn name item kept
 starts = refl
 
--- records put together, a deleted stream, names by pages, descriptions
+-- Records put together, a deleted stream, names by pages, and descriptions.
 service : answers [] (
     turn 1000 (command.Create name 2)
     ∷ turn 1000 (command.Create other 1)
@@ -190,7 +190,7 @@ service : answers [] (
 unfolding refuse◌if◌else◌ with◌or◌then◌ turn name other item
 service = refl
 
--- a longer retention brings nothing back, and both retentions count at a change; where reading by time begins
+-- A longer retention brings nothing back, and both retentions count at a change. Where reading by time begins.
 kept_hours : answers [] (
     turn 1000 (command.Create name 1)
     ∷ turn 1000 (command.Put name item)
@@ -218,7 +218,7 @@ shard n = record { stream = 1; shard = n }
 half : ℕ
 half = 170141183460469231731687303715884105728
 
--- a row that starts at the latest record, and the row of a child, whose parent is read to its end
+-- A row that starts at the latest record, and the row of a child, whose parent is read to its end.
 latest : answers [] (
     turn 1000 (command.Create name 1)
     ∷ turn 1000 (command.Put name item)
@@ -267,7 +267,7 @@ latest : answers [] (
 unfolding refuse◌if◌else◌ with◌or◌then◌ turn name item kept shard half
 latest = refl
 
--- rows that are made after a split: the parent's starts past its end, and its first read ends the shard
+-- Rows that are made after a split: the parent's row starts past its end, and its first read ends the shard.
 latest_split : answers [] (
     turn 1000 (command.Create name 1)
     ∷ turn 1000 (command.Split name 0 half)
@@ -296,7 +296,7 @@ latest_split : answers [] (
 unfolding refuse◌if◌else◌ with◌or◌then◌ turn name shard half
 latest_split = refl
 
--- rows that start at a moment, before and after the records, and the child of a merge, by its adjacent parent
+-- Rows that start at a moment, before and after the records, and the child of a merge, by its adjacent parent.
 from_moment : answers [] (
     turn 1000 (command.Create name 2)
     ∷ turn 1000 (command.Put name item)

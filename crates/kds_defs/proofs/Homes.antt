@@ -8,7 +8,7 @@ use Rattle.kds_base.specs.Span.{Span, covers, Covers}
 use Rattle.kds_defs.specs.Shards.{ShardState, is_open, home_among}
 use Rattle.kds_defs.specs.Tiled.{AreNumbered, open_times, count_if}
 
--- the shard that is found: it stands at its number, is open, and contains the key
+-- The shard that is found stands at its number, is open, and contains the key.
 pub record Found (xs : List ShardState) (n k sh : ℕ) : Type 0 where
   pub state : ShardState
   pub from : n ≤ sh

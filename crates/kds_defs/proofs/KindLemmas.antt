@@ -10,11 +10,11 @@ use Rattle.kds_defs.specs.Journal.{Journal, Line}
 use Rattle.kds_defs.specs.Kinds.{is_lease_answer, is_lease_refusal, is_service, is_service_answer, is_service_refusal}
 use Rattle.kds_defs.proofs.Walk.{Outcome, Refuses, Answers, Adds, Surveys, Creates, walk}
 
--- the decision is the service's
+-- The answer of the decision `d` is one of the service.
 abbrev IsOwn : Decision → Type 0
 IsOwn d = is_service_answer (answer_of d) ≡ true
 
--- ... of the leases
+-- The answer of the decision `d` is one of the leases.
 abbrev IsLeases : Decision → Type 0
 IsLeases d = is_lease_answer (answer_of d) ≡ true
 

@@ -13,7 +13,7 @@ use Rattle.kds_defs.specs.LeaseCommands.{past_parent, past_parents, past_target}
 use Rattle.kds_defs.specs.Leases.{TenureState}
 use Rattle.kds_defs.specs.Shards.{ShardState}
 
--- P holds of the lines and the answer of a decision
+-- The statement `P` is true of the lines and the answer of a decision.
 abbrev pub Leads : (List Line → Result Reply Refusal → Type 0) → Decision → Type 0
 Leads P (Refused r) = P [] (Err r)
 Leads P (Accepted lines reply) = P lines (Ok reply)
@@ -35,7 +35,7 @@ unfolding with◌or◌then◌
 if_none P r None d h g = h
 if_none P r (Some x) d h g = g x refl
 
--- ---- of a P that holds of each refusal
+-- ---- Of a P that holds of each refusal
 
 pub past_test : (P : List Line → Result Reply Refusal → Type 0) → ((r : Refusal) → P [] (Err r))
     → (r : Refusal) (b : Bool) (d : Decision)
@@ -47,7 +47,7 @@ pub past_none : {A : Type 0} (P : List Line → Result Reply Refusal → Type 0)
     (d : A → Decision) → ((x : A) → o ≡ Some x → Leads P (d x)) → Leads P (with o or r then d)
 past_none P all r o d next = if_none P r o d (all r) next
 
--- ---- of a P that holds of each refusal of a command for leases
+-- ---- Of a P that holds of each refusal of a command for leases
 
 module _ (P : List Line → Result Reply Refusal → Type 0) (each : (r : Refusal) → is_lease_refusal r ≡ true
     → P [] (Err r)) where

@@ -32,7 +32,7 @@ kept seq arrival = record { seq = seq; arrival = arrival; key = 97 ∷ []; paylo
 key : ℕ → ShardRef
 key shard = record { stream = 1; shard = shard }
 
--- one shard with two records, and its row
+-- One shard has two records, and a row.
 begun : List Turn
 begun =
     turn 0 3000 (command.Create name 1)
@@ -47,7 +47,7 @@ begun_so =
     ∷ Ok (reply.Put (record { shard = 0; seq = 2 }))
     ∷ Ok (reply.Leased origin.TrimHorizon) ∷ []
 
--- the lease is taken away from a worker that reads
+-- The lease is taken away from a worker that reads.
 robbed : List Turn
 robbed =
     turn 1 3000 (command.Take (key 0) 0 1)
@@ -74,7 +74,7 @@ robbed_lease : answers [] (begun ++ robbed) ≡ begun_so ++ robbed_so
 unfolding refuse◌if◌else◌ with◌or◌then◌ turn name item kept key begun begun_so robbed robbed_so
 robbed_lease = refl
 
--- what is read, given and marked by the second worker, in order and out of it
+-- What is read, given and marked by the second worker, in order and out of order.
 order_of_marks : answers [] (
     begun ++ robbed
     ++ turn 2 3000 (command.OpenShard 2)
@@ -118,7 +118,7 @@ order_of_marks : answers [] (
 unfolding refuse◌if◌else◌ with◌or◌then◌ turn name item kept key begun begun_so robbed robbed_so
 order_of_marks = refl
 
--- a merged shard is opened only after both its parents ended
+-- A merged shard is opened only after both of its parents ended.
 two_parents : answers [] (
     turn 0 4000 (command.Create name 2)
     ∷ turn 0 4000 (command.Merge name 0 1)
@@ -158,7 +158,7 @@ two_parents : answers [] (
 unfolding refuse◌if◌else◌ with◌or◌then◌ turn name key
 two_parents = refl
 
--- a parent that was never taken holds its child back until it is expired; its row is cut then, and not before
+-- A parent that was never taken holds its child back until the parent has expired. Its row is cut then, and not before.
 expired_parent : answers [] (
     turn 0 4000 (command.Create name 2)
     ∷ turn 0 4000 (command.Merge name 0 1)
@@ -178,7 +178,7 @@ expired_parent : answers [] (
 unfolding refuse◌if◌else◌ with◌or◌then◌ turn name key
 expired_parent = refl
 
--- what was read may be given and marked when it is trimmed meanwhile
+-- What was read may be given and marked even if it is trimmed meanwhile.
 read_trim_give : answers [] (
     turn 0 1000 (command.Create name 1)
     ∷ turn 0 1000 (command.Put name item)

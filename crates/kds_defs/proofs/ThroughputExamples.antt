@@ -23,7 +23,8 @@ name = 115 ∷ []
 item : NewItem
 item = record { key = 97 ∷ []; hash = 0x0cc175b9c0f1b6a831c399e269772661; payload = [] }
 
--- two shards to three: one merge, two splits, and the next put goes on; three to three tells no entry
+-- Two shards are scaled to three by one merge and two splits, and the next put goes on. Three shards scaled to three
+-- give no entry.
 scaled : answers [] (
     turn 1000 (command.Create name 2)
     ∷ turn 1000 (command.Scale name 3)
@@ -39,7 +40,7 @@ scaled : answers [] (
 unfolding refuse◌if◌else◌ with◌or◌then◌ turn name item
 scaled = refl
 
--- a stream with limits, whose shard has a record of 1,048,575 payload bytes and a key of one
+-- A stream with limits has a record of 1,048,575 payload bytes and a key of one byte in its shard.
 filled : Journal
 filled =
     record {
@@ -53,17 +54,17 @@ filled =
     ∷ plain_line 1000 0 (entry.Made 1 (115 ∷ []) 1)
     ∷ []
 
--- takes no more within the second
+-- Its shard takes no more within the second.
 within_the_second : is_held_back filled 5999 1 item ≡ true
 unfolding filled item
 within_the_second = refl
 
--- and takes it in the next
+-- Its shard takes the record in the next second.
 in_the_next : is_held_back filled 6000 1 item ≡ false
 unfolding filled item
 in_the_next = refl
 
--- each item is judged, and the limits begin off
+-- Each item is judged, and the limits are off at first.
 enforced : answers [] (
     turn 1000 (command.Create name 1)
     ∷ turn 5000 (command.Enforce name true)

@@ -15,7 +15,7 @@ pub counted : (b : Bool) (n : ℕ) → b ≡ true → count_if b n ≡ n
 counted true n h = refl
 counted false n h = absurd cc
 
--- the same count over the ranges of the open ones
+-- The count of the open shards that contain a key is the count over their ranges.
 same_times_by : (b : Bool) (x : ShardState) (xs : List ShardState) (k : ℕ)
     → times_covered (map (λ y. y.range) (filter is_open xs)) k ≡ open_times xs k
     → times_covered (map (λ y. y.range) (cond b (x ∷ filter is_open xs) (filter is_open xs))) k
@@ -32,7 +32,7 @@ open_times-append : (xs ys : List ShardState) (k : ℕ) → open_times (xs ++ ys
 open_times-append [] ys k = omega arith
 open_times-append (x ∷ xs) ys k = omega (arith, open_times-append xs ys k)
 
--- a shard that is closed is counted no longer
+-- A shard that is closed is counted no longer.
 open_times-closed : (xs : List ShardState) (sh : ℕ) (closing : Closing) (x : ShardState) (k : ℕ)
     → slice_get xs sh ≡ Some x → is_open x ≡ true → open_times (with_closed sh closing xs) k + one x.range k
     ≡ open_times xs k
@@ -47,7 +47,7 @@ open_times-closed (y ∷ ys) zero closing x k is open_now =
 open_times-closed (y ∷ ys) (suc sh) closing x k is open_now =
     omega (arith, open_times-closed ys sh closing x k is open_now)
 
--- a fact about ranges is kept by closing, and by adding at the end
+-- A fact about ranges is kept by closing a shard, and by adding shards at the end.
 ordered-closed : (xs : List ShardState) (sh : ℕ) (closing : Closing) → AllByRecursion IsOrdered xs
     → AllByRecursion IsOrdered (with_closed sh closing xs)
 ordered-closed [] sh closing h = tt
@@ -66,7 +66,7 @@ ordered-at (y ∷ ys) zero x is h = let e : y ≡ x = cc in
     omega (arith, h.0, ap (λ (z : ShardState). z.range.start) e, ap (λ (z : ShardState). z.range.end) e)
 ordered-at (y ∷ ys) (suc sh) x is h = ordered-at ys sh x is h.1
 
--- another shard stays as it was
+-- Another shard stays as it was when one is closed.
 pub other-closed : (xs : List ShardState) (sh other : ℕ) (closing : Closing) → (sh ≡ other → ⊥)
     → slice_get (with_closed sh closing xs) other ≡ slice_get xs other
 other-closed [] sh other closing differ = refl
@@ -78,7 +78,7 @@ other-closed (y ∷ ys) (suc sh) (suc other) closing differ = other-closed ys sh
 one_split : (r : Span) (at k : ℕ) → is_inside r at ≡ true → one (lower_part r at) k + one (upper_part r at) k ≡ one r k
 one_split r at k h = grind (arith)
 
--- the parts of a split, and a joined range, are not empty
+-- The parts of a split, and a joined range, are not empty.
 lower_ordered : (r : Span) (at : ℕ) → is_inside r at ≡ true → r.start ≤ at - 1
 lower_ordered r at h = grind (arith)
 
@@ -93,7 +93,7 @@ joined_ordered : (a b : Span) → a.start ≤ a.end → b.start ≤ b.end → ar
     → (joined a b).start ≤ (joined a b).end
 joined_ordered a b oa ob h = grind (arith)
 
--- a range that is not empty does not touch itself
+-- A range that is not empty is not adjacent to itself.
 no_self : (a b : Span) → a.start ≤ a.end → are_adjacent a b ≡ true → a ≡ b → ⊥
 no_self a b oa h e = let s : a.start ≡ b.start = ap (λ (r : Span). r.start) e in let t : a.end ≡ b.end =
     ap (λ (r : Span). r.end) e in grind (arith)
@@ -103,7 +103,7 @@ same_at : (xs : List ShardState) (sh other : ℕ) (x y : ShardState) → slice_g
 same_at xs sh other x y is is' e = let s : Some x ≡ Some y = sym is ∙ ap (slice_get xs) e ∙ is' in
     ap (λ (z : ShardState). z.range) (same_some x y s)
 
--- a split
+-- A split keeps the partition.
 pub tiled_split : (xs : List ShardState) (sh n m at start : ℕ) (closing : Closing) (p q : Option ℕ) (x : ShardState)
     → slice_get xs sh ≡ Some x → is_open x ≡ true → is_inside x.range at ≡ true → IsTiled xs
     → IsTiled (with_closed sh closing xs
@@ -123,7 +123,7 @@ tiled_split xs sh n m at start closing p q x is open_now inside tiled = record {
   );
 }
 
--- a merge of two shards whose ranges touch
+-- A merge of two shards whose ranges are adjacent keeps the partition.
 pub tiled_merge : (xs : List ShardState) (sh other n start : ℕ) (closing : Closing) (p q : Option ℕ) (x y : ShardState)
     → slice_get xs sh ≡ Some x → slice_get xs other ≡ Some y → is_open x ≡ true → is_open y ≡ true
     → are_adjacent x.range y.range ≡ true → IsTiled xs
@@ -148,9 +148,9 @@ tiled_merge xs sh other n start closing p q x y is is' open_x open_y touch tiled
           (joined_ordered x.range y.range ox oy touch, tt);
     }
 
--- ---- a new stream
+-- ---- A new stream
 
--- 1 where the key lies from a to the last one
+-- The number 1 if the key `k` lies at or above `a`, or else 0.
 abbrev from_on : ℕ → ℕ → ℕ
 from_on a k = if nat_le a k then 1 else 0
 
@@ -172,7 +172,7 @@ ordered_uniform w a zero i start wide fits = (omega (arith), tt)
 ordered_uniform w a (suc n) i start wide fits =
     (omega (arith), ordered_uniform w (a + w) n (i + 1) start wide (omega (arith)))
 
--- a positive width, of which n fit
+-- The width of the ranges is positive, and `n` ranges of this width fit.
 pub width_fits : (n w r : ℕ) → suc n * w + r ≡ 2 ^ 128 → r < suc n → suc n ≤ 500 → (0 < w) × (0 + n * w ≤ last_key)
 width_fits n zero r e lt le = absurd (omega arith)
 width_fits n (suc w) r e lt le = (omega arith, omega arith)

@@ -40,9 +40,9 @@ use Rattle.kds_defs.specs.StreamCommands.{last_number, put_line, put_place}
 use Rattle.kds_defs.specs.Streams.{hours, made_count, stream_named}
 use Rattle.kds_defs.proofs.Leads.{Leads, if_none, if_refused, leads_so, past_the_parents, past_the_target}
 
--- ---- the outcomes
+-- ---- The outcomes
 
--- these are the records of some batch of the journal
+-- The records `rs` are those of some batch of the journal.
 pub record AreRead (log : Journal) (rs : List Stored) : Type 0 where
   pub clock : ℕ
   pub stream : ℕ
@@ -51,7 +51,7 @@ pub record AreRead (log : Journal) (rs : List Stored) : Type 0 where
   pub limit : ℕ
   pub are : map stored (batch log clock stream shard place limit) ≡ rs
 
--- a command that adds no line, and its reply
+-- A command adds no line, and this is its reply.
 pub data Shows (log : Journal) : Command → Reply → Type 0 where
   Lists_streams : (after : Option (List ℕ)) (limit : ℕ) (names : List (List ℕ)) (more : Bool)
       → Shows log (command.Streams after limit) (reply.Streams names more)
@@ -68,7 +68,8 @@ pub data Shows (log : Journal) : Command → Reply → Type 0 where
       → Shows log (command.Records iter limit) (reply.Records rs next late xs)
   Surveys : (keys : List ShardRef) (rows : List Row) → Shows log command.Survey (reply.Survey keys rows)
 
--- a command that adds one line, this line, and its reply; with what it passed so far as proofs cite it
+-- A command adds one line, and these are the line and the reply. What the command passed so far is stated as proofs
+-- cite it.
 pub data Tells (log : Journal) (c by : ℕ) : Command → Line → Reply → Type 0 where
   Creates : (name : List ℕ) (count : ℕ) → (made_count log == last_number) ≡ false
       → Tells log c by (command.Create name count) (plain_line c by (entry.Made (made_count log + 1) name count))
@@ -129,11 +130,11 @@ pub data Tells (log : Journal) (c by : ℕ) : Command → Line → Reply → Typ
   Cuts : (key : ShardRef) (counter : ℕ)
       → Tells log c by (command.CutLease key counter) (plain_line c by (entry.LeaseCut key counter)) reply.Done
 
--- a refusal of the service's to a command that asks it, one of the leases' to any other
+-- A command for the service may get a refusal of the service, and any other command one of the leases.
 abbrev pub may_refuse : Command → Refusal → Bool
 may_refuse what r = if is_service what then is_service_refusal r else is_lease_refusal r
 
--- what a command leads to
+-- What a command leads to.
 pub data Outcome (log : Journal) (c by : ℕ) : Command → List Line → Result Reply Refusal → Type 0 where
   Refuses : (what : Command) (r : Refusal) → may_refuse what r ≡ true → Outcome log c by what [] (Err r)
   Answers : (what : Command) (r : Reply) → Shows log what r → Outcome log c by what [] (Ok r)
@@ -151,7 +152,7 @@ pub data Outcome (log : Journal) (c by : ℕ) : Command → List Line → Result
       (Ok (reply.Scaled name (length (open_shards log s)) goal
       (map (λ line. line.what) (step_lines log c by s (steps_to log s goal)))))
 
--- ---- the walk
+-- ---- The walk
 
 module _ (log : Journal) (c by : ℕ) where
   Is : Command → List Line → Result Reply Refusal → Type 0
@@ -272,15 +273,15 @@ module _ (log : Journal) (c by : ℕ) where
   unfolding Is
   walk what = leads_so (Is what) (decide log c by what) (led what)
 
-  -- the same of a command that was accepted
+  -- What an accepted command leads to.
   pub accepted : (what : Command) (lines : List Line) (r : Reply) → decide log c by what ≡ Accepted lines r
       → Outcome log c by what lines (Ok r)
   unfolding Is
   accepted what lines r is = subst (Leads (Is what)) is (led what)
 
--- ---- each line
+-- ---- Each line
 
--- the item is one of these
+-- The item `item` is in a list of items.
 abbrev pub IsAmong : List NewItem → NewItem → Type 0
 IsAmong [] item = ⊥
 IsAmong (x ∷ items) item = (x ≡ item) ⊎ IsAmong items item
@@ -291,7 +292,7 @@ of_all P [] item among all = absurd among
 of_all P (x ∷ items) item (inl same) all = subst P same all.0
 of_all P (x ∷ items) item (inr among) all = of_all P items item among all.1
 
--- a line that a command adds: the one that it tells, the line of an item of many, a merge or a split of a scaling
+-- A line that a command adds is the one that it tells, the line of an item of many, or a merge or a split of a scaling.
 pub data IsAdded (log : Journal) (c by : ℕ) : Command → Line → Type 0 where
   Alone : (what : Command) (line : Line) (r : Reply) → Tells log c by what line r → IsAdded log c by what line
   Stored_one : (name : List ℕ) (items : List NewItem) (before : Journal) (s number : ℕ) (item : NewItem)
@@ -340,7 +341,7 @@ each_of P log c by _ _ _ (Scales name goal s named few fits) each =
     each_step P c by s (steps_to log s goal) log (λ sh other n child. each _ (Joined name goal s sh other n child))
     (λ sh at n low high. each _ (Divided name goal s sh at n low high))
 
--- a command that asks adds no line
+-- A command that only reads adds no line.
 idle : (log : Journal) (c by : ℕ) (what : Command) (lines : List Line) (answer : Result Reply Refusal)
     → Outcome log c by what lines answer
     → is_query what ≡ true → lines ≡ []
@@ -353,20 +354,20 @@ pub query_idle : (log : Journal) (c by : ℕ) (what : Command) → is_query what
     → lines_of (decide log c by what) ≡ []
 query_idle log c by what = idle log c by what _ _ (walk log c by what)
 
--- what holds of each line that a command may add holds of the lines that it adds
+-- What is true of each line that a command may add is true of the lines that it adds.
 pub each_line : (P : Line → Type 0) (log : Journal) (c by : ℕ) (what : Command)
     → ((line : Line) → IsAdded log c by what line → P line)
     → AllByRecursion P (lines_of (decide log c by what))
 each_line P log c by what each = each_of P log c by what _ _ (walk log c by what) each
 
--- ---- the lines of a journal
+-- ---- The lines of a journal
 
 pub all_with : (P : Line → Type 0) (lines : List Line) (log : Journal) → AllByRecursion P lines → AllByRecursion P log
     → AllByRecursion P (with_lines lines log)
 all_with P [] log new old = old
 all_with P (line ∷ lines) log new old = all_with P lines (line ∷ log) new.1 (new.0, old)
 
--- what holds of each line that turns of some kind add holds of the journal of such turns
+-- What is true of each line that turns of some kind add is true of the journal of such turns.
 pub each_journal : (P : Line → Type 0) (Q : Turn → Type 0)
     → ((log : Journal) (c : ℕ) (turn : Turn) → Q turn → (line : Line) → IsAdded log c turn.by turn.what line → P line)
     → (h : List Turn) → AllByRecursion Q h → AllByRecursion P (journal h)

@@ -1,4 +1,4 @@
--- What a machine answers to a list of turns, and the journal that it leaves.
+-- What a machine answers to the turns of a history, and the journal that the history leaves.
 use Rattle.std.specs.Prelude.{ℕ, max, List, [], ◌∷◌, Result, Ok, Err}
 use Rattle.kds_defs.specs.declared.command.Command.{Command}
 use Rattle.kds_defs.specs.declared.command.Command.TheVariants as command
@@ -16,11 +16,11 @@ use Rattle.kds_defs.specs.PutCommands.{enforce, put, put_many}
 use Rattle.kds_defs.specs.ScaleCommands.{scale_stream}
 use Rattle.kds_defs.specs.Streams.{stream_named}
 
--- what follows where a live stream has the name
+-- The decision `next` of the live stream with the name `name`, or a refusal if there is no such stream.
 abbrev pub with_stream : Journal → List ℕ → (ℕ → Decision) → Decision
 with_stream log name next = with stream_named log name or refusal.NoStream then next
 
--- what a command leads to, after the lines of log, at the clock c, by this actor
+-- The decision on a command of the actor `by` at the clock `c`, after the lines of `log`.
 abbrev pub decide : Journal → ℕ → ℕ → Command → Decision
 decide log c by (command.Create name count) = create log c by name count
 decide log c by (command.Delete name) = with_stream log name λ s. delete log c by s
@@ -49,36 +49,36 @@ decide log c by (command.Give t) = give log c by t
 decide log c by (command.Mark t counter to) = mark log c by t counter to
 decide log c by (command.CutLease key counter) = cut_lease log c by key counter
 
--- the lines that a decision adds
+-- The lines that a decision adds to the journal.
 abbrev pub lines_of : Decision → List Line
 lines_of (Refused r) = []
 lines_of (Accepted lines reply) = lines
 
--- and its answer
+-- The answer of a decision: its reply or its refusal.
 abbrev pub answer_of : Decision → Result Reply Refusal
 answer_of (Refused r) = Err r
 answer_of (Accepted lines reply) = Ok reply
 
--- a history: the turns so far, the newest first, so that `turn ∷ h` is h followed by the turn.
--- Its clock is the greatest moment in it
+-- A history is the list of the turns so far, the newest first: `turn ∷ h` is the history `h` followed by `turn`. Its
+-- clock is the greatest time of its turns, or 0 if it has no turns.
 abbrev pub clock : List Turn → ℕ
 clock [] = 0
 clock (turn ∷ h) = max (clock h) turn.at
 
--- what a turn leads to after the lines of log, where its clock is c
+-- The decision on `turn` at the clock `c`, after the lines of `log`.
 abbrev pub decision : Journal → ℕ → Turn → Decision
 decision log c turn = decide log c turn.by turn.what
 
--- the journal of a history
+-- The journal that a history leaves.
 abbrev pub journal : List Turn → Journal
 journal [] = []
 journal (turn ∷ h) = with_lines (lines_of (decision (journal h) (clock (turn ∷ h)) turn)) (journal h)
 
--- the answer to a turn after a history
+-- The answer to `turn` after the history `h`.
 abbrev pub answer : List Turn → Turn → Result Reply Refusal
 answer h turn = answer_of (decision (journal h) (clock (turn ∷ h)) turn)
 
--- the answers to turns that follow a history, one after another
+-- The answers to `turns`, which follow the history `h` one after another, the first of them first.
 abbrev pub answers : List Turn → List Turn → List (Result Reply Refusal)
 answers h [] = []
 answers h (turn ∷ turns) = answer h turn ∷ answers (turn ∷ h) turns

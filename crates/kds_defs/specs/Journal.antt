@@ -1,8 +1,8 @@
--- The journal: what was done, the newest line first.
+-- The journal (event log): what was done, the newest line first.
 use Rattle.std.specs.Prelude.{ℕ, List, [], ◌∷◌}
 use Rattle.kds_defs.specs.declared.entry.Entry.{Entry}
 
--- a line: when it was written, by which actor, what it says; and of a put the record's key and payload
+-- A line of the journal: its clock, its actor and its entry. The line of a put also has the record's key and payload.
 pub record Line : Type 0 where
   pub clock : ℕ
   pub by : ℕ
@@ -10,15 +10,15 @@ pub record Line : Type 0 where
   pub key : List ℕ
   pub payload : List ℕ
 
--- the lines, the newest first: `line ∷ log` is log with one more line
+-- A list of lines, the newest first: `line ∷ log` is the journal `log` followed by `line`.
 abbrev pub Journal : Type 0
 Journal = List Line
 
--- log with these lines, of which the first is the oldest, added in turn
+-- The journal `log` followed by `lines`, of which the first is the oldest.
 abbrev pub with_lines : List Line → Journal → Journal
 with_lines [] log = log
 with_lines (line ∷ lines) log = with_lines lines (line ∷ log)
 
--- a line that is no put
+-- The line of an entry `what` that isn't a put, so that it has no key and no payload.
 abbrev pub plain_line : ℕ → ℕ → Entry → Line
 plain_line clock by what = record { clock = clock; by = by; what = what; key = []; payload = [] }

@@ -1,22 +1,22 @@
--- The keys of leases: shards of streams.
+-- The keys of leases. Each key is a shard of a stream.
 use Rattle.std.specs.Prelude.{ℕ, Bool, ◌==◌, ◌&&◌, nat_lt, if◌then◌else◌}
 use Rattle.kds_base.specs.declared.lease_key.ShardRef.{ShardRef}
 use Rattle.kds_defs.specs.Journal.{Journal}
 use Rattle.kds_defs.specs.Shards.{is_listed}
 
--- a shard of a stream
+-- The key of shard `sh` of stream `s`.
 abbrev pub ref : ℕ → ℕ → ShardRef
 ref s sh = record { stream = s; shard = sh }
 
--- both name the same shard
+-- Whether `a` and `b` are the same shard.
 abbrev pub same_key : ShardRef → ShardRef → Bool
 same_key a b = (a.stream == b.stream) && (a.shard == b.shard)
 
--- a comes before b: by stream, and then by shard
+-- Whether the key `a` comes before the key `b`. Keys are ordered by stream, and then by shard.
 abbrev pub is_before : ShardRef → ShardRef → Bool
 is_before a b =
     if a.stream == b.stream then nat_lt a.shard b.shard else nat_lt a.stream b.stream
 
--- the shard is listed
+-- Whether the shard `key` is listed at the clock `c`, after the lines of `log`.
 abbrev pub is_listed_key : Journal → ℕ → ShardRef → Bool
 is_listed_key log c key = is_listed log c key.stream key.shard

@@ -1,4 +1,4 @@
--- Which commands ask the stream service and which the leases, and the answers that each may get.
+-- Which commands are for the stream service and which are for leases, and the answers that each may get.
 use Rattle.std.specs.Prelude.{Bool, true, false, ◌&&◌, not, Result, Ok, Err}
 use Rattle.kds_defs.specs.declared.command.Command.{Command}
 use Rattle.kds_defs.specs.declared.command.Command.TheVariants as command
@@ -7,7 +7,7 @@ use Rattle.kds_defs.specs.declared.reply.Refusal.TheVariants as refusal
 use Rattle.kds_defs.specs.declared.reply.Reply.{Reply}
 use Rattle.kds_defs.specs.declared.reply.Reply.TheVariants as reply
 
--- the command asks for streams, shards or records, and not for leases
+-- Whether a command is for streams, shards or records, and not for leases.
 abbrev pub is_service : Command → Bool
 is_service command.Survey = false
 is_service (command.MakeLease key from) = false
@@ -21,7 +21,7 @@ is_service (command.Mark tenure counter to) = false
 is_service (command.CutLease key counter) = false
 is_service _ = true
 
--- it changes streams, shards or records
+-- Whether a command changes streams, shards or records.
 abbrev pub is_change : Command → Bool
 is_change (command.Create name count) = true
 is_change (command.Delete name) = true
@@ -34,11 +34,11 @@ is_change (command.Scale name target) = true
 is_change (command.Enforce name on) = true
 is_change _ = false
 
--- it reads them
+-- Whether the command `what` reads streams, shards or records, and changes nothing.
 abbrev pub is_query : Command → Bool
 is_query what = is_service what && not (is_change what)
 
--- it is one for leases that names a tenure, and a counter or a place
+-- Whether a command is for leases and names a tenure, together with a counter or a position.
 abbrev pub is_counted : Command → Bool
 is_counted (command.Renew tenure counter) = true
 is_counted (command.Free tenure counter) = true
@@ -71,7 +71,7 @@ is_service_refusal refusal.Spent = true
 is_service_refusal (refusal.Throttled sh) = true
 is_service_refusal _ = false
 
--- an answer that a command to the service may get
+-- Whether an answer is one that a command for the stream service may get.
 abbrev pub is_service_answer : Result Reply Refusal → Bool
 is_service_answer (Ok r) = is_service_reply r
 is_service_answer (Err r) = is_service_refusal r
@@ -108,7 +108,7 @@ is_lease_refusal refusal.ShardListed = true
 is_lease_refusal refusal.Spent = true
 is_lease_refusal _ = false
 
--- an answer that a command for leases may get
+-- Whether an answer is one that a command for leases may get.
 abbrev pub is_lease_answer : Result Reply Refusal → Bool
 is_lease_answer (Ok r) = is_lease_reply r
 is_lease_answer (Err r) = is_lease_refusal r

@@ -1,4 +1,4 @@
--- Which journals a machine can leave: each line is good after the lines before it.
+-- The journals that a machine can leave: each line is good after the lines before it.
 use Rattle.std.specs.Prelude.{ℕ, ◌-◌, ◌^◌, ◌<◌, ◌≤◌, ◌≡◌, not, nat_lt, [], ◌∷◌, Option, Some, None}
 use Rattle.kds_defs.specs.declared.command.NewItem.{NewItem}
 use Rattle.kds_defs.specs.declared.entry.Entry.{Entry}
@@ -14,20 +14,21 @@ use Rattle.kds_defs.specs.StreamCommands.{create, delete, split, merge, keep}
 use Rattle.kds_defs.specs.PutCommands.{enforce, put}
 use Rattle.kds_defs.specs.Streams.{is_live, hours}
 
--- what follows where the stream of this number is live
+-- The decision `next` if stream `s` is live, or else a refusal.
 abbrev pub in_stream : Journal → ℕ → Decision → Decision
 in_stream log s next = refuse refusal.NoStream if not (is_live log s) else next
 
--- the item that a put line stored
+-- The item that the put `line` stored.
 abbrev pub item_of : Line → ℕ → NewItem
 item_of line hash = record { key = line.key; hash = hash; payload = line.payload }
 
--- the reach of a tenure
+-- The reach of a tenure, or 0 if there is no tenure.
 abbrev pub reach_in : Option TenureState → ℕ
 reach_in None = 0
 reach_in (Some T) = reach T
 
--- what the command that an entry tells leads to after the lines of log
+-- The decision on the command that an entry tells, after the lines of `log`. The actor and the clock are those of
+-- `line`.
 abbrev pub told : Journal → Line → Entry → Decision
 told log line (entry.Made s name count) = create log line.clock line.by name count
 told log line (entry.Gone s) = in_stream log s (delete log line.clock line.by s)
@@ -48,32 +49,32 @@ told log line (entry.Given t) = give log line.clock line.by t
 told log line (entry.Marked t counter to) = mark log line.clock line.by t (counter - 1) to
 told log line (entry.LeaseCut key counter) = cut_lease log line.clock line.by key counter
 
--- the numbers of an entry lie in their ranges
+-- The numbers of an entry are within their ranges.
 abbrev pub IsInRange : Entry → Type 0
 IsInRange (entry.Made s name count) = IsShardCount count
 IsInRange (entry.Put s sh number hash bytes key_bytes) = hash < 2 ^ 128
 IsInRange (entry.Kept s wanted) = IsRetention wanted
 IsInRange _ = Unit {0}
 
--- the clock of the newest line
+-- The clock of the newest line, or 0 if there are no lines.
 abbrev pub last_clock : Journal → ℕ
 last_clock [] = 0
 last_clock (line ∷ log) = line.clock
 
--- a line is good after the lines of log: the command that it tells, by its actor at its clock, is allowed there
--- and gives this line
+-- The line `line` is good after the lines of `log`: the command that it tells, by its actor at its clock, is allowed
+-- there and gives exactly this line.
 pub record IsGood (log : Journal) (line : Line) : Type 0 where
   pub in_order : last_clock log ≤ line.clock
   pub in_range : IsInRange line.what
   pub reply : Reply
   pub allowed : told log line line.what ≡ Accepted (line ∷ []) reply
 
--- each line is good after the lines before it
+-- Each line of a journal is good after the lines before it.
 abbrev pub IsLegal : Journal → Type 0
 IsLegal [] = Unit {0}
 IsLegal (line ∷ log) = IsGood log line × IsLegal log
 
--- a state that can be reached: the journal is legal, and no line of it is later than the clock
+-- The journal `log` can be reached at the clock `c`: it is legal, and none of its lines is later than `c`.
 pub record IsReached (log : Journal) (c : ℕ) : Type 0 where
   pub legal : IsLegal log
   pub order : last_clock log ≤ c

@@ -23,13 +23,13 @@ use Rattle.kds_defs.specs.Records.{Logged, next_number, left_from, batch, number
 use Rattle.kds_defs.specs.Shards.{ShardState, shard_at, Closing, is_listed, listed_shards, open_shards, children, shown}
 use Rattle.kds_defs.specs.Streams.{is_live, live_streams, name_of, made_at, hours}
 
--- there are more of them than the limit
+-- Whether there are more elements in `xs` than `limit`.
 abbrev pub are_more : {A : Type 0} → ℕ → List A → Bool
 are_more limit xs = nat_lt limit (length xs)
 
 -- ---- ListStreams
 
--- a comes before b in the order of bytes
+-- Whether the name `a` comes before the name `b` in the order of bytes (`name_before`).
 abbrev pub is_less : Ordering → Bool
 is_less Less = true
 is_less Equal = false
@@ -50,7 +50,7 @@ abbrev pub is_after_name : Option (List ℕ) → List ℕ → Bool
 is_after_name None name = true
 is_after_name (Some after) name = name_before after name
 
--- the names of the live streams after a name, in the order of bytes
+-- The names of the live streams, in the order of bytes. With a name in `after`, they are only those behind it.
 abbrev pub names_after : Journal → Option (List ℕ) → List (List ℕ)
 names_after log after = filter (is_after_name after) (names_in_order (map (name_of log) (live_streams log)))
 
@@ -58,7 +58,7 @@ abbrev pub streams : Journal → Option (List ℕ) → ℕ → Decision
 streams log after limit =
     Accepted [] (reply.Streams (take limit (names_after log after)) (are_more limit (names_after log after)))
 
--- ---- DescribeStream, DescribeStreamSummary, ListShards, of a live stream
+-- ---- DescribeStream, DescribeStreamSummary and ListShards for a live stream
 
 abbrev pub about : Journal → ℕ → About
 about log s = record { name = name_of log s; made = made_at log s; hours = hours log s }
@@ -67,7 +67,7 @@ abbrev pub is_after_shard : Option ℕ → ShardState → Bool
 is_after_shard None x = true
 is_after_shard (Some after) x = nat_lt after x.no
 
--- the listed shards after a number, as they are shown
+-- The listed shards, as replies show them. With a number in `after`, they are only those with a greater number.
 abbrev pub shards_from : Journal → ℕ → ℕ → Option ℕ → List Shard
 shards_from log c s after = map shown (filter (is_after_shard after) (listed_shards log c s))
 
@@ -79,7 +79,7 @@ describe log c s after limit =
 abbrev pub summary : Journal → ℕ → Decision
 summary log s = Accepted [] (reply.Summary (about log s) (length (open_shards log s)))
 
--- the number of the last shard that is shown
+-- The number of the last shard in a list of shards as replies show them, or 0 if the list is empty.
 abbrev pub last_no : List Shard → ℕ
 last_no [] = 0
 last_no (x ∷ []) = x.no
@@ -92,7 +92,7 @@ list_shards log c s after limit =
     then Some (record { stream = s; after = last_no (take limit (shards_from log c s after)); issued = c })
     else None))
 
--- a token of this moment is too old
+-- Whether a token that was issued at the time `issued` is too old at the clock `c`.
 abbrev pub is_old : ℕ → ℕ → Bool
 is_old c issued = nat_lt TOKEN_LIFE (c - issued)
 
@@ -102,14 +102,15 @@ more log c page limit =
     refuse refusal.NoStream if not (is_live log page.stream) else
     list_shards log c page.stream (Some page.after) limit
 
--- ---- GetShardIterator, of a live stream
+-- ---- GetShardIterator for a live stream
 
--- the number is at least the shard's first, and at most the next one, or at most the ending one
+-- Whether `q` is at least `first`, the shard's first number. It must also be at most `next`, the stream's next number,
+-- or at most the ending number of a closed shard.
 abbrev pub is_good_at : ℕ → ℕ → ℕ → Option Closing → Bool
 is_good_at first next q None = nat_le first q && nat_le q next
 is_good_at first next q (Some closing) = nat_le first q && nat_le q closing.number
 
--- the same, but it is below the next one
+-- Whether `is_good_at` holds for `q` and, if the shard isn't closed, `q` is also below `next`.
 abbrev pub is_good_after : ℕ → ℕ → ℕ → Option Closing → Bool
 is_good_after first next q None = nat_le first q && nat_lt q next
 is_good_after first next q (Some closing) = nat_le first q && nat_le q closing.number
@@ -121,7 +122,7 @@ is_good_start start.TrimHorizon next x = true
 is_good_start start.Latest next x = true
 is_good_start (start.Time moment) next x = true
 
--- the position where reading begins
+-- The position in shard `sh` at which reading begins.
 abbrev pub position_of : Journal → ℕ → ℕ → ℕ → Start → ℕ
 position_of log c s sh (start.At q) = q
 position_of log c s sh (start.After q) = q + 1
@@ -141,7 +142,7 @@ get_iterator log c s sh from =
 
 -- ---- GetRecords
 
--- the shard is closed
+-- Whether a shard is there and is closed.
 abbrev pub is_closed_at : Option ShardState → Bool
 is_closed_at None = false
 is_closed_at (Some x) = not (is_none x.closing)
@@ -150,16 +151,16 @@ abbrev pub are_none : {A : Type 0} → List A → Bool
 are_none [] = true
 are_none (x ∷ xs) = false
 
--- the shard is closed, and no record that is not trimmed is at or above the place
+-- Whether shard `sh` is closed, and no record at or above `place` is left that isn't trimmed.
 abbrev pub ends_at : Journal → ℕ → ℕ → ℕ → ℕ → Bool
 ends_at log c s sh place = is_closed_at (shard_at log s sh) && are_none (left_from log c s sh place)
 
--- how long ago the first of these records arrived, 0 where there is none
+-- How long before `c` the first record of a list arrived, or 0 if the list is empty.
 abbrev pub behind : ℕ → List Logged → ℕ
 behind c [] = 0
 behind c (r ∷ rs) = c - r.arrival
 
--- the reply to a read at a position, which goes on at the place after its batch
+-- The reply to a read with the batch `rs`, after which reading goes on at `place`.
 abbrev pub records_reply : Journal → ℕ → ℕ → ℕ → List Logged → ℕ → Decision
 records_reply log c s sh rs place =
     Accepted [] (if ends_at log c s sh place
@@ -174,12 +175,13 @@ get_records log c iter limit =
     let rs = batch log c iter.stream iter.shard iter.position limit in
     records_reply log c iter.stream iter.shard rs (place_after iter.position (numbers_of rs))
 
--- ---- the survey of a worker
+-- ---- The survey of a worker
 
 abbrev pub refs_of : ℕ → List ShardState → List ShardRef
 refs_of s xs = map (λ x. ref s x.no) xs
 
--- the listed shards of these streams, in the order of their keys
+-- The keys of the listed shards of the streams in a list. If these streams are in the order of their numbers, the keys
+-- are in order too.
 abbrev pub listed_in : Journal → ℕ → List ℕ → List ShardRef
 listed_in log c [] = []
 listed_in log c (s ∷ streams) = refs_of s (listed_shards log c s) ++ listed_in log c streams

@@ -1,5 +1,5 @@
--- What a shard takes within a second (Kinesis Data Streams Developer Guide, Quotas and Limits: 1,000 records and 1 MB a
--- second for each shard).
+-- What a shard accepts within a second (Kinesis Data Streams Developer Guide, Quotas and Limits: 1,000 records and 1 MB
+-- a second for each shard).
 use Rattle.std.specs.Prelude.{ℕ, ◌+◌, ◌/◌, Bool, ◌==◌, ◌&&◌, ◌||◌, nat_le, nat_lt, if◌then◌else◌, List, [], ◌∷◌, length}
 use Rattle.std.specs.List.{filter}
 use Rattle.kds_defs.specs.declared.entry.Entry.{Entry}
@@ -7,36 +7,37 @@ use Rattle.kds_defs.specs.declared.entry.Entry.TheVariants as entry
 use Rattle.kds_defs.specs.declared.limits.TheConstants.{SECOND, SECOND_BYTES, SECOND_RECORDS}
 use Rattle.kds_defs.specs.Journal.{Line, Journal}
 
--- a put as its shard's throughput counts it: when, and how many bytes of payload and key
+-- A put as the throughput of its shard counts it: its time, and the number of bytes of its payload and key.
 pub record SizedPut : Type 0 where
   pub clock : ℕ
   pub bytes : ℕ
 
--- ---- the window, of any list of puts
+-- ---- The window of any list of puts
 
--- the clocks lie in one second
+-- Whether the times `a` and `b` are in the same second.
 abbrev pub is_same_second : ℕ → ℕ → Bool
 is_same_second a b = a / SECOND == b / SECOND
 
--- the puts in the second of a clock
+-- Those of `puts` that were made in the same second as `c`.
 abbrev pub window : ℕ → List SizedPut → List SizedPut
 window c puts = filter (λ p. is_same_second p.clock c) puts
 
--- the bytes of these puts
+-- The number of bytes of a list of puts together.
 abbrev pub bytes_of : List SizedPut → ℕ
 bytes_of [] = 0
 bytes_of (p ∷ puts) = p.bytes + bytes_of puts
 
--- so many bytes more are too much for a window with so many records and bytes: one with no record takes any item
+-- Whether `bytes` more bytes are too much for a window that has `records` records with `held` bytes. A window without
+-- records accepts any item.
 abbrev pub is_too_much : ℕ → ℕ → ℕ → Bool
 is_too_much records held bytes =
     nat_le SECOND_RECORDS records || (nat_lt 0 records && nat_lt SECOND_BYTES (held + bytes))
 
--- an item of so many bytes, at a clock, is more than its shard takes after these puts
+-- Whether an item of `bytes` bytes, at the time `c`, is more than its shard accepts after `puts`.
 abbrev pub is_throttled : List SizedPut → ℕ → ℕ → Bool
 is_throttled puts c bytes = is_too_much (length (window c puts)) (bytes_of (window c puts)) bytes
 
--- ---- the puts of a shard, the newest first
+-- ---- The puts of a shard, the newest first
 
 abbrev pub puts_after : Line → Entry → ℕ → ℕ → List SizedPut → List SizedPut
 puts_after line (entry.Put stream shard seq hash bytes key_bytes) s sh before =

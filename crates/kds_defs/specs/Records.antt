@@ -9,19 +9,20 @@ use Rattle.kds_defs.specs.declared.limits.TheConstants.{BATCH_BYTES}
 use Rattle.kds_defs.specs.Journal.{Line, Journal}
 use Rattle.kds_defs.specs.Streams.{is_live, trim_floor}
 
--- how many numbers of a stream a line draws: a put, a split and a merge draw one each
+-- How many sequence numbers of stream `s` an entry draws: a put, a split and a merge draw one each.
 abbrev pub draws : Entry → ℕ → ℕ
 draws (entry.Put stream shard seq hash bytes key_bytes) s = if stream == s then 1 else 0
 draws (entry.Split stream shard at seq low high) s = if stream == s then 1 else 0
 draws (entry.Merged stream shard other seq child) s = if stream == s then 1 else 0
 draws _ s = 0
 
--- the next sequence number of a stream: 1 plus the numbers that were drawn
+-- The next sequence number of stream `s`: 1 plus the number of sequence numbers that were drawn.
 abbrev pub next_number : Journal → ℕ → ℕ
 next_number [] s = 1
 next_number (line ∷ log) s = draws line.what s + next_number log s
 
--- a record of a shard: its number, its arrival, the bytes of its payload and key together, and the record itself
+-- A record of a shard: its sequence number, its time of arrival, the bytes of its payload and key together, and its key
+-- and payload.
 pub record Logged : Type 0 where
   pub seq : ℕ
   pub arrival : ℕ
@@ -29,11 +30,11 @@ pub record Logged : Type 0 where
   pub key : List ℕ
   pub payload : List ℕ
 
--- a record as it is read
+-- The record `r` as a read returns it.
 abbrev pub stored : Logged → Stored
 stored r = record { seq = r.seq; arrival = r.arrival; key = r.key; payload = r.payload }
 
--- a stored record, with the bytes of its payload and key counted
+-- The stored record `r`, together with the number of bytes of its payload and key.
 abbrev pub logged : Stored → Logged
 logged r = record {
   seq = r.seq;
@@ -43,7 +44,7 @@ logged r = record {
   payload = r.payload;
 }
 
--- the records of a shard in order (Kinesis API Reference, Record)
+-- The records of shard `sh` of stream `s`, in order (Kinesis API Reference, Record).
 abbrev pub records_after : Line → Entry → ℕ → ℕ → List Logged → List Logged
 records_after line (entry.Put stream shard seq hash bytes key_bytes) s sh before =
     if (stream == s) && (shard == sh)
@@ -61,43 +62,45 @@ abbrev pub records : Journal → ℕ → ℕ → List Logged
 records [] s sh = []
 records (line ∷ log) s sh = records_after line line.what s sh (records log s sh)
 
--- ---- batches, of any list of records
+-- ---- Batches of any list of records
 
--- those that arrived at or above the floor and have a number at or above a position
+-- Whether the record `r` is left: it arrived at or above `floor`, and its number is at or above `position`.
 abbrev pub is_left : ℕ → ℕ → Logged → Bool
 is_left floor position r = not (nat_lt r.arrival floor) && nat_le position r.seq
 
 abbrev pub left_among : ℕ → ℕ → List Logged → List Logged
 left_among floor position rs = filter (is_left floor position) rs
 
--- the longest beginning of at most so many records and so many payload and key bytes
+-- The longest prefix of a list of records that has at most `limit` records and at most `room` bytes of payloads and
+-- keys.
 abbrev pub beginning : ℕ → ℕ → List Logged → List Logged
 beginning zero room rs = []
 beginning (suc limit) room [] = []
 beginning (suc limit) room (r ∷ rs) =
     if nat_le r.bytes room then r ∷ beginning limit (room - r.bytes) rs else []
 
--- the numbers of records
+-- The sequence numbers of the records `rs`.
 abbrev pub numbers_of : List Logged → List ℕ
 numbers_of rs = map (λ r. r.seq) rs
 
--- the place after these numbers: one above the last, or the same place if there are none
+-- The place after a list of numbers: one above the last of them, or `place` if the list is empty.
 abbrev pub place_after : ℕ → List ℕ → ℕ
 place_after place [] = place
 place_after place (n ∷ ns) = place_after (n + 1) ns
 
--- ---- batches of a shard
+-- ---- Batches of a shard
 
--- the records that are not trimmed and whose number is at or above a position: none in a stream that is gone
+-- The records of shard `sh` that aren't trimmed and whose number is at or above `position`. If stream `s` isn't live,
+-- there are no such records.
 abbrev pub left_from : Journal → ℕ → ℕ → ℕ → ℕ → List Logged
 left_from log c s sh position =
     if is_live log s then left_among (trim_floor log c s) position (records log s sh) else []
 
--- a batch (Kinesis API Reference, GetRecords)
+-- The batch of a read of at most `limit` records at `position` (Kinesis API Reference, GetRecords).
 abbrev pub batch : Journal → ℕ → ℕ → ℕ → ℕ → ℕ → List Logged
 batch log c s sh position limit = beginning limit BATCH_BYTES (left_from log c s sh position)
 
--- the number of the first of these records that arrived at or after a moment, or else this number
+-- The number of the first record in a list that arrived at or after `moment`, or else `otherwise`.
 abbrev pub first_at : List Logged → ℕ → ℕ → ℕ
 first_at [] moment otherwise = otherwise
 first_at (r ∷ rs) moment otherwise = if nat_le moment r.arrival then r.seq else first_at rs moment otherwise

@@ -17,35 +17,36 @@ use Rattle.kds_defs.specs.Shards.{ShardState, shard_at, is_open, open_shards, is
 use Rattle.kds_defs.specs.Keys.{ref}
 use Rattle.kds_defs.specs.Streams.{was_made, is_trimmed}
 
--- ---- partition of the keys (guide on resharding)
+-- ---- Partition of the keys (guide on resharding)
 
--- how many of these ranges contain the key
+-- The number of ranges in a list that contain the key `k`.
 abbrev pub times_covered : List Span → ℕ → ℕ
 times_covered [] k = 0
 times_covered (r ∷ rs) k = (if covers r k then 1 else 0) + times_covered rs k
 
--- each key lies in exactly one of these ranges
+-- Each hash key lies in exactly one of `ranges`.
 abbrev pub IsPartition : List Span → Type 0
 IsPartition ranges = (k : ℕ) → k < 2 ^ 128 → times_covered ranges k ≡ 1
 
--- the ranges of the open shards of a stream
+-- The ranges of the open shards of stream `s`.
 abbrev pub open_ranges : Journal → ℕ → List Span
 open_ranges log s = map (λ x. x.range) (open_shards log s)
 
--- the open shards of each stream partition the keys
+-- The open shards of each stream partition the keys.
 abbrev pub HasPartitions : Journal → Type 0
 HasPartitions log = (s : ℕ) → was_made log s ≡ true → IsPartition (open_ranges log s)
 
--- ---- one home
+-- ---- One home
 
--- this shard of the stream is open, and its range contains the key
+-- Shard `sh` of stream `s` is open, and its range contains the key `k`.
 pub record IsHome (log : Journal) (s k sh : ℕ) : Type 0 where
   pub state : ShardState
   pub made : shard_at log s sh ≡ Some state
   pub is_open_now : is_open state ≡ true
   pub contains : Covers state.range k
 
--- a put stands in the home of its hash, and puts, splits and merges draw the next number
+-- The record of a put is in the home of its hash, and a put, a split or a merge draws the next sequence number of its
+-- stream.
 abbrev pub IsPlaced : Journal → Entry → Type 0
 IsPlaced log (entry.Put s sh number hash bytes key_bytes) = IsHome log s hash sh × (number ≡ next_number log s)
 IsPlaced log (entry.Split s sh at number low high) = number ≡ next_number log s
@@ -56,16 +57,16 @@ abbrev pub ArePlaced : Journal → Type 0
 ArePlaced [] = Unit {0}
 ArePlaced (line ∷ log) = IsPlaced log line.what × ArePlaced log
 
--- ---- fence (Kinesis Client Library, leases)
+-- ---- Fence (Kinesis Client Library, leases)
 
--- the tenure is this actor's, and it is the tenure of its key's row
+-- Tenure `t` is that of the actor `by`, and the row of its key names this tenure.
 pub record HoldsRow (log : Journal) (by t : ℕ) : Type 0 where
   pub state : TenureState
   pub begun : tenure log t ≡ Some state
   pub own : state.by ≡ by
   pub current : tenure_in (row log state.key) ≡ t
 
--- and this counter is one above the row's
+-- Tenure `t` of the actor `by` holds its row, and `counter` is one above the row's counter.
 pub record WritesRow (log : Journal) (by t counter : ℕ) : Type 0 where
   pub holds : HoldsRow log by t
   pub next : counter ≡ counter_in (row log holds.state.key) + 1
@@ -81,9 +82,9 @@ abbrev pub AreFenced : Journal → Type 0
 AreFenced [] = Unit {0}
 AreFenced (line ∷ log) = IsFenced log line.by line.what × AreFenced log
 
--- ---- lineage
+-- ---- Lineage
 
--- the parent's row reads the shard's end, or the parent is expired
+-- A parent is past (`IsPast`) if its row reads the shard's end or the parent has expired.
 abbrev pub IsExpiredState : Journal → ℕ → ℕ → Option ShardState → Type 0
 IsExpiredState log c s None = ⊥
 IsExpiredState log c s (Some x) = is_expired log c s x ≡ true
@@ -93,17 +94,17 @@ IsPast log c s None = Unit {0}
 IsPast log c s (Some parent) = (reads_end (row log (ref s parent)) ≡ true)
     ⊎ IsExpiredState log c s (shard_at log s parent)
 
--- both parents of the shard are past
+-- The shard is there, and both of its parents are past.
 abbrev pub ArePastState : Journal → ℕ → ℕ → Option ShardState → Type 0
 ArePastState log c s None = ⊥
 ArePastState log c s (Some x) = IsPast log c s x.parent × IsPast log c s x.adjacent
 
--- and so are those of the tenure's shard
+-- The key of the tenure is there, and both parents of its shard are past.
 abbrev pub AreParentsPast : Journal → ℕ → Option ShardRef → Type 0
 AreParentsPast log c None = ⊥
 AreParentsPast log c (Some key) = ArePastState log c key.stream (shard_at log key.stream key.shard)
 
--- an opening line of the tenure stands in the journal
+-- The journal has a line that opens tenure `t`.
 abbrev pub IsOpening : Entry → ℕ → Type 0
 IsOpening (entry.Opened tenure) t = tenure ≡ t
 IsOpening _ t = ⊥
@@ -112,7 +113,7 @@ abbrev pub WasOpened : Journal → ℕ → Type 0
 WasOpened [] t = ⊥
 WasOpened (line ∷ log) t = IsOpening line.what t ⊎ WasOpened log t
 
--- an opening stands after the parents are past, and a read stands after an opening
+-- If the entry opens a tenure, the parents of its shard are past. If the entry is a read, its tenure was opened before.
 abbrev pub IsInLine : Journal → ℕ → Entry → Type 0
 IsInLine log c (entry.Opened t) = AreParentsPast log c (key_of log t)
 IsInLine log c (entry.Read t limit ended numbers) = WasOpened log t
@@ -122,7 +123,7 @@ abbrev pub AreInLine : Journal → Type 0
 AreInLine [] = Unit {0}
 AreInLine (line ∷ log) = IsInLine log line.clock line.what × AreInLine log
 
--- ---- coverage
+-- ---- Coverage
 
 abbrev pub IsAmong : ℕ → List ℕ → Type 0
 IsAmong n [] = ⊥
@@ -132,7 +133,7 @@ abbrev pub IsRead : ℕ → List ReadDone → Type 0
 IsRead n [] = ⊥
 IsRead n (r ∷ rs) = IsAmong n r.numbers ⊎ IsRead n rs
 
--- a tenure of the key was given the record of this number
+-- A tenure of `key` was given the record with the number `n`.
 pub record IsDelivered (log : Journal) (key : ShardRef) (n : ℕ) : Type 0 where
   pub by_tenure : ℕ
   pub state : TenureState
@@ -140,21 +141,21 @@ pub record IsDelivered (log : Journal) (key : ShardRef) (n : ℕ) : Type 0 where
   pub of_key : state.key ≡ key
   pub given : IsRead n (given_reads state)
 
--- the record was delivered or is trimmed
+-- The record `r` of the shard `key` was delivered or is trimmed.
 abbrev pub IsSettled : Journal → ℕ → ShardRef → Logged → Type 0
 IsSettled log c key r = IsDelivered log key r.seq ⊎ (is_trimmed log c key.stream r.arrival ≡ true)
 
--- each record of the key's shard from the floor on and below this place is so
+-- Each record of the shard `key` whose number is at or above `floor` and below `place` was delivered or is trimmed.
 abbrev pub SettledBetween : Journal → ℕ → ShardRef → ℕ → ℕ → Type 0
 SettledBetween log c key floor place =
     AllByRecursion (λ r. floor ≤ r.seq → r.seq < place → IsSettled log c key r) (records log key.stream key.shard)
 
--- each record from the floor on
+-- Each record of the shard `key` whose number is at or above `floor` was delivered or is trimmed.
 abbrev pub SettledFrom : Journal → ℕ → ShardRef → ℕ → Type 0
 SettledFrom log c key floor =
     AllByRecursion (λ r. floor ≤ r.seq → IsSettled log c key r) (records log key.stream key.shard)
 
--- each record from the floor on, at or below the checkpoint, was delivered or is trimmed
+-- Each record from `floor` on that is at or below the checkpoint was delivered or is trimmed.
 abbrev pub IsCovered : Journal → ℕ → ShardRef → ℕ → Checkpoint → Type 0
 IsCovered log c key floor TrimHorizon = Unit {0}
 IsCovered log c key floor (At q) = SettledBetween log c key floor (q + 1)
@@ -164,7 +165,7 @@ abbrev pub all_numbers : List ReadDone → List ℕ
 all_numbers [] = []
 all_numbers (r ∷ rs) = r.numbers ++ all_numbers rs
 
--- each is above the one before, and the first at or above the place
+-- The numbers of a list rise strictly, and the first of them is at or above `place`.
 abbrev pub RiseFrom : ℕ → List ℕ → Type 0
 RiseFrom place [] = Unit {0}
 RiseFrom place (n ∷ ns) = (place ≤ n) × RiseFrom (n + 1) ns
@@ -173,7 +174,7 @@ pub record AreCovered (log : Journal) (c : ℕ) : Type 0 where
   pub rows : (key : ShardRef) (r : Row) → row log key ≡ Some r → IsCovered log c key r.floor r.checkpoint
   pub reads_rise : (t : ℕ) (T : TenureState) → tenure log t ≡ Some T → RiseFrom 0 (all_numbers T.reads)
 
--- ---- all of it, at the clock c
+-- ---- All of it, at the clock `c`
 
 pub record IsSafe (log : Journal) (c : ℕ) : Type 0 where
   pub partition : HasPartitions log

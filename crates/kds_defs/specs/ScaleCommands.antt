@@ -1,4 +1,4 @@
--- UpdateShardCount: its refusals in order, and what it leads to.
+-- UpdateShardCount: its refusals in order, and its lines and reply.
 use Rattle.std.specs.Prelude.{ℕ, ◌+◌, ◌-◌, ◌==◌, ◌||◌, not, nat_lt, List, [], ◌∷◌, length, map}
 use Rattle.std.specs.List.{filter}
 use Rattle.kds_defs.specs.declared.entry.Entry.{Entry}
@@ -16,41 +16,41 @@ use Rattle.kds_defs.specs.Shards.{ShardState, shards, open_in, open_shards, home
 use Rattle.kds_defs.specs.Streams.{live_streams}
 use Rattle.kds_defs.specs.StreamCommands.{last_number}
 
--- the starts of these shards, in rising order
+-- The starts of the ranges of a list of shards, in rising order.
 abbrev pub starts_among : List ShardState → List ℕ
 starts_among [] = []
 starts_among (x ∷ xs) = with_start x.range.start (starts_among xs)
 
--- the steps to so many uniform ranges
+-- The steps from the open shards of stream `s` to `target` uniform ranges.
 abbrev pub steps_to : Journal → ℕ → ℕ → List ScaleStep
 steps_to log s target = scale (starts_among (open_shards log s)) target
 
--- how many shards the steps make: one a merge, two a split
+-- The number of shards that a list of steps makes: a merge makes one, and a split makes two.
 abbrev pub made_by : List ScaleStep → ℕ
 made_by [] = 0
 made_by (Join b ∷ steps) = 1 + made_by steps
 made_by (Cut b ∷ steps) = 2 + made_by steps
 
--- how many shards the other streams have open
+-- The number of shards that are open in the live streams other than `s`.
 abbrev pub open_elsewhere : Journal → ℕ → ℕ
 open_elsewhere log s = open_in log (filter (λ t. not (t == s)) (live_streams log))
 
--- the entry of one step: a merge of the shard that ends before the key with the one that starts at it, or a split of
--- the shard that contains it
+-- The entry of one step. A merge is of the shard that ends before the key `b` with the shard that starts at `b`, and a
+-- split is of the shard that contains `b`.
 abbrev pub step_entry : Journal → ℕ → ScaleStep → Entry
 step_entry log s (Join b) =
     entry.Merged s (home log s (b - 1)) (home log s b) (next_number log s) (length (shards log s))
 step_entry log s (Cut b) =
     entry.Split s (home log s b) b (next_number log s) (length (shards log s)) (length (shards log s) + 1)
 
--- a line for each step, in turn
+-- A line for each step, one after another.
 abbrev pub step_lines : Journal → ℕ → ℕ → ℕ → List ScaleStep → List Line
 step_lines log c by s [] = []
 step_lines log c by s (step ∷ steps) =
     let line : Line = plain_line c by (step_entry log s step) in
     line ∷ step_lines (line ∷ log) c by s steps
 
--- UpdateShardCount, of a live stream
+-- The decision on UpdateShardCount for the live stream `s`.
 abbrev pub scale_stream : Journal → ℕ → ℕ → List ℕ → ℕ → ℕ → Decision
 scale_stream log c by name s target =
     refuse refusal.Full if nat_lt OPEN_SHARDS (open_elsewhere log s + target) else

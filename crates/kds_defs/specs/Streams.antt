@@ -1,4 +1,4 @@
--- The streams of a journal: which are live, their names, their retention, and what is trimmed.
+-- The streams of a journal: which are live, their names and retention, and what is trimmed.
 use Rattle.std.specs.Prelude.{ℕ, zero, suc, ◌+◌, ◌-◌, ◌*◌, max, Bool, false, ◌==◌, ◌&&◌, ◌||◌, not, nat_lt}
 use Rattle.std.specs.Prelude.{if◌then◌else◌, nat_eq, List, [], ◌∷◌, Option, Some, None}
 use Rattle.std.specs.List.{filter, find}
@@ -8,13 +8,13 @@ use Rattle.kds_defs.specs.declared.entry.Entry.TheVariants as entry
 use Rattle.kds_defs.specs.declared.limits.TheConstants.{FIRST_HOURS, HOUR}
 use Rattle.kds_defs.specs.Journal.{Line, Journal}
 
--- two names are the same
+-- Whether the names `a` and `b` are the same.
 abbrev pub same_name : List ℕ → List ℕ → Bool
 same_name a b = pointwise nat_eq a b
 
--- ---- each reading of a journal has two parts: what it is of no lines, and what one more line makes of it
+-- ---- Each reading (projection) of a journal has two parts: its value for no lines, and how a line changes it
 
--- how many streams were made, which is the number of the last one
+-- The number of streams that were made, which is also the number of the latest one.
 abbrev pub made_count_after : Entry → ℕ → ℕ
 made_count_after (entry.Made stream name shards) before = before + 1
 made_count_after _ before = before
@@ -23,7 +23,7 @@ abbrev pub made_count : Journal → ℕ
 made_count [] = 0
 made_count (line ∷ log) = made_count_after line.what (made_count log)
 
--- the stream was made
+-- Whether stream `s` was made.
 abbrev pub was_made_after : Entry → ℕ → Bool → Bool
 was_made_after (entry.Made stream name shards) s before = (stream == s) || before
 was_made_after _ s before = before
@@ -32,7 +32,7 @@ abbrev pub was_made : Journal → ℕ → Bool
 was_made [] s = false
 was_made (line ∷ log) s = was_made_after line.what s (was_made log s)
 
--- the stream was made, and has not gone since
+-- Whether stream `s` was made and has not been deleted since.
 abbrev pub is_live_after : Entry → ℕ → Bool → Bool
 is_live_after (entry.Made stream name shards) s before = (stream == s) || before
 is_live_after (entry.Gone stream) s before = not (stream == s) && before
@@ -42,7 +42,7 @@ abbrev pub is_live : Journal → ℕ → Bool
 is_live [] s = false
 is_live (line ∷ log) s = is_live_after line.what s (is_live log s)
 
--- the name of a stream
+-- The name of stream `s`.
 abbrev pub name_of_after : Entry → ℕ → List ℕ → List ℕ
 name_of_after (entry.Made stream name shards) s before = if stream == s then name else before
 name_of_after _ s before = before
@@ -51,7 +51,7 @@ abbrev pub name_of : Journal → ℕ → List ℕ
 name_of [] s = []
 name_of (line ∷ log) s = name_of_after line.what s (name_of log s)
 
--- when a stream was made
+-- The time at which stream `s` was made.
 abbrev pub made_at_after : Line → Entry → ℕ → ℕ → ℕ
 made_at_after line (entry.Made stream name shards) s before = if stream == s then line.clock else before
 made_at_after line _ s before = before
@@ -60,7 +60,8 @@ abbrev pub made_at : Journal → ℕ → ℕ
 made_at [] s = 0
 made_at (line ∷ log) s = made_at_after line line.what s (made_at log s)
 
--- a stream's retention in hours: 24 hours at first (Kinesis API Reference, IncreaseStreamRetentionPeriod)
+-- The retention of stream `s` in hours, which is 24 hours at first (Kinesis API Reference,
+-- IncreaseStreamRetentionPeriod).
 abbrev pub hours_after : Entry → ℕ → ℕ → ℕ
 hours_after (entry.Made stream name shards) s before = if stream == s then FIRST_HOURS else before
 hours_after (entry.Kept stream hours) s before = if stream == s then hours else before
@@ -70,31 +71,32 @@ abbrev pub hours : Journal → ℕ → ℕ
 hours [] s = FIRST_HOURS
 hours (line ∷ log) s = hours_after line.what s (hours log s)
 
--- and in milliseconds
+-- The retention of stream `s` in milliseconds.
 abbrev pub retention : Journal → ℕ → ℕ
 retention log s = hours log s * HOUR
 
--- so many numbers from n on
+-- The `count` numbers from `n` on.
 abbrev pub numbers_from : ℕ → ℕ → List ℕ
 numbers_from n zero = []
 numbers_from n (suc count) = n ∷ numbers_from (n + 1) count
 
--- the live streams in the order of their numbers
+-- The live streams, in the order of their numbers.
 abbrev pub live_streams : Journal → List ℕ
 live_streams log = filter (is_live log) (numbers_from 1 (made_count log))
 
--- the live stream of a name
+-- The live stream with the name `name`, if there is one.
 abbrev pub stream_named : Journal → List ℕ → Option ℕ
 stream_named log name = find (λ s. same_name (name_of log s) name) (live_streams log)
 
--- ---- trimming (Kinesis API Reference, retention)
+-- ---- Trimming (Kinesis API Reference, retention)
 
--- one above clock less retention, and 0 where that is negative
+-- One above `clock` minus `retention`, or 0 if the difference is negative.
 abbrev pub floor_at : ℕ → ℕ → ℕ
 floor_at clock retention = clock + 1 - retention
 
--- what a line adds to the floor of a stream: its clock less the retention after it and, save for the
--- stream's own first line, less the retention before it
+-- What `line` adds to the trim floor of stream `s`: the floor at the clock of `line` by the retention after it or by
+-- the retention before it, whichever is greater. For the line that makes the stream, only the retention after it
+-- counts.
 abbrev pub floor_after : Journal → Line → ℕ → ℕ
 floor_after log line s =
     if was_made (line ∷ log) s
@@ -106,19 +108,21 @@ abbrev pub floor_of_lines : Journal → ℕ → ℕ
 floor_of_lines [] s = 0
 floor_of_lines (line ∷ log) s = max (floor_after log line s) (floor_of_lines log s)
 
--- one above the stream's cut, and 0 where the cut is negative: an arrival or a closing below it is trimmed
+-- One above the cut (trim horizon) of stream `s`, or 0 if the cut is negative. A record that arrived below it is
+-- trimmed, and a shard that was closed below it has expired.
 abbrev pub trim_floor : Journal → ℕ → ℕ → ℕ
 trim_floor log c s = max (floor_at c (retention log s)) (floor_of_lines log s)
 
--- the cut itself, where it is not negative
+-- The cut of stream `s`, or `None` if it is negative.
 abbrev pub cut : Journal → ℕ → ℕ → Option ℕ
 cut log c s = if trim_floor log c s == 0 then None else Some (trim_floor log c s - 1)
 
--- one above a cut
+-- One above a cut, or 0 if the cut is `None`.
 abbrev pub floor_of : Option ℕ → ℕ
 floor_of None = 0
 floor_of (Some moment) = moment + 1
 
--- what happened at that moment is trimmed: it lies at or below the cut, or the stream is gone
+-- Whether what happened in stream `s` at `moment` is trimmed: `moment` is at or below the cut, or the stream isn't
+-- live.
 abbrev pub is_trimmed : Journal → ℕ → ℕ → ℕ → Bool
 is_trimmed log c s moment = not (is_live log s) || nat_lt moment (trim_floor log c s)

@@ -1,4 +1,4 @@
--- Which stream an entry and a command speak of.
+-- The stream that an entry or a command is about.
 use Rattle.std.specs.Prelude.{ℕ, ◌≡◌, false, List, [], Option, Some, None}
 use Rattle.kds_defs.specs.declared.command.Command.{Command}
 use Rattle.kds_defs.specs.declared.command.Command.TheVariants as command
@@ -11,7 +11,7 @@ use Rattle.kds_defs.specs.Records.{next_number, records}
 use Rattle.kds_defs.specs.Shards.{shards}
 use Rattle.kds_defs.specs.Streams.{floor_of_lines, is_live, was_made}
 
--- the stream that an entry speaks of, if it isn't of a lease
+-- The number of the stream that an entry is about, or `None` if the entry is about a lease.
 abbrev pub stream_of : Entry → Option ℕ
 stream_of (entry.Made s name count) = Some s
 stream_of (entry.Gone s) = Some s
@@ -22,7 +22,7 @@ stream_of (entry.Kept s hours) = Some s
 stream_of (entry.Enforced s on) = Some s
 stream_of _ = None
 
--- the name of the stream that a command is for: a stream that must be there, so CreateStream has none
+-- The name of the live stream that a command is for. CreateStream has none, because its stream isn't there yet.
 abbrev pub name_of_command : Command → Option (List ℕ)
 name_of_command (command.Delete name) = Some name
 name_of_command (command.Describe name after limit) = Some name
@@ -38,7 +38,8 @@ name_of_command (command.Scale name target) = Some name
 name_of_command (command.Enforce name on) = Some name
 name_of_command _ = None
 
--- no line of the journal speaks of this stream: its readings are those of no lines
+-- Stream `s` is new to the journal `log`: all that `log` says of `s` is what an empty journal says, as if no line were
+-- about `s`.
 pub record IsFresh (log : Journal) (s : ℕ) : Type 0 where
   pub gone : is_live log s ≡ false
   pub unmade : was_made log s ≡ false

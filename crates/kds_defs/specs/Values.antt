@@ -1,10 +1,10 @@
--- What contracts see of a shard and of a row: the fields.
+-- The fields of a row and of a shard, as contracts see them.
 use Rattle.std.specs.Prelude.{ℕ, Option}
 use Rattle.kds_base.specs.Span.{Span}
 use Rattle.kds_base.specs.declared.lease_key.Checkpoint.{Checkpoint}
 use Rattle.kds_base.specs.declared.lease_key.ShardRef.{ShardRef}
 
--- a row of the lease table (Kinesis Client Library, lease)
+-- A row of the lease table (Kinesis Client Library, lease).
 pub record RowValue : Type 0 where
   pub key : ShardRef
   pub owner : Option ℕ
@@ -16,7 +16,7 @@ pub record RowValue : Type 0 where
   pub parent : Option ℕ
   pub adjacent : Option ℕ
 
--- a shard as it is shown (Kinesis API Reference, Shard)
+-- A shard as replies show it (Kinesis API Reference, Shard).
 pub record ShardValue : Type 0 where
   pub no : ℕ
   pub range : Span

@@ -10,7 +10,7 @@ use Rattle.std.specs.Prelude.{nat_lt}
 use Rattle.kds_base.specs.NumberText.{are_digits, digits_of}
 use Rattle.kds_head.specs.Values.{is_byte_count, byte_count}
 
--- a text of digits, as a fact
+-- The text `text` consists of digits.
 abbrev pub IsDigits : List ℕ → Type 0
 IsDigits text = list_all is_ascii_digit text ≡ true
 
@@ -44,7 +44,7 @@ read_is false text e short =
     let none : is_byte_count text ≡ false = grind (arith, common_steps) in
     rw e (sym (no_count text none))
 
--- no more digits than always fit
+-- A text with no more digits than always fit is read as its number.
 pub counted : (text : List ℕ) → length text ≤ 19 → digits_of 64 text ≡ byte_count text
 counted text short = read_is (are_digits text) text refl short
 

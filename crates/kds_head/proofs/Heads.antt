@@ -1,4 +1,4 @@
--- How many headers a head of so many bytes can have; at most one finding; what is decided stays; the limits.
+-- How many headers a head of a given number of bytes can have; at most one finding; what is decided stays; the limits.
 use Rattle.std.proofs.Common.{◌≡◌, ◌≢◌, ℕ, ◌+◌, ◌*◌, ◌<◌, ◌≤◌, ◌⊎◌, List, [], ◌∷◌, ◌++◌, map, length, take, sym, ap}
 use Rattle.std.proofs.Common.{◌∙◌, subst, arith, zero, suc, get_or, refl, inl, inr, codes, Bool, true, false, Result}
 use Rattle.std.proofs.Common.{Ok, Err}
@@ -27,7 +27,7 @@ end_some : (e : LineEnd) → 1 ≤ length (print_end e)
 end_some crlf = omega arith
 end_some lf = omega arith
 
--- each field line has three bytes or more
+-- Each field line has three bytes or more.
 field_three : (f : Field) → 0 < length f.name → 3 ≤ length (print_field f)
 field_three f h =
     let whole : length (print_field f) ≡ length f.name + (1 + (length f.raw + length (print_end f.end))) =
@@ -44,12 +44,12 @@ fields_three (f ∷ fields) all =
     + length (flat_map print_field fields) = length-append (print_field f) _ in
     omega (arith, parts, rest, field_three f first.name.0)
 
--- a head has two spaces beside its fields
+-- A head has two spaces beside its fields.
 head_fields : (h : RequestHead) → length (flat_map print_field h.fields) + 2 ≤ length (print_request h)
 unfolding print_request
 head_fields h = simp length-append (omega arith)
 
--- a head with more headers than there is room for has more bytes than are there
+-- A head with more headers than there is room for has more bytes than are there.
 pub too_many_bytes : (room : ℕ) (buf : List ℕ) → length buf ≤ 3 * room + 2 → RequestExceeds room buf → ⊥
 too_many_bytes room buf short e =
     let h = e.3 in
@@ -62,7 +62,7 @@ too_many_bytes room buf short e =
 at_most : (n k : ℕ) → nat_lt k n ≡ false → n ≤ k
 at_most n k e = grind (arith, nat_tests)
 
--- ---- one finding
+-- ---- One finding
 
 pub none_now : (front : List ℕ) → NeverHasRequest front → HasNoRequest front
 none_now front never h rest reads = never [] h rest (reads.0, append-nil front ∙ reads.1)
@@ -84,13 +84,13 @@ at_most_one_in front found other (inr (inr a)) (inl b) = absurd (a.0.0 b.0 b.1.0
 at_most_one_in front found other (inr (inr a)) (inr (inl b)) = absurd (never_may front b.0 a.0.1)
 at_most_one_in front found other (inr (inr a)) (inr (inr b)) = a.1 ∙ sym b.1
 
--- ---- what is decided stays
+-- ---- What is decided stays
 
 never_more : (front more : List ℕ) → NeverHasRequest front → NeverHasRequest (front ++ more)
 never_more front more never rest h r reads =
     never (more ++ rest) h r (reads.0, sym (append_assoc front more rest) ∙ reads.1)
 
--- two ways to cut the same bytes
+-- Of two ways to cut the same bytes, one cuts no later than the other.
 cuts : (a b c d : List ℕ) → a ++ b ≡ c ++ d → ((m : List ℕ) × (c ≡ a ++ m))
     ⊎ ((m : List ℕ) × (a ≡ c ++ m) × (m ++ b ≡ d))
 cuts [] b c d e = inl (c, refl)
@@ -105,7 +105,7 @@ cuts (x ∷ a) b (y ∷ c) d e = both (cuts a b c d (cc))
     both (inl p) = inl (p.0, rw (same, p.1) refl)
     both (inr p) = inr (p.0, rw (same, p.1) refl, p.2)
 
--- the shortest head that goes on after a method and a space
+-- The shortest head that goes on after a method and a space.
 abbrev short_head : List LineEnd → List ℕ → RequestHead
 short_head blank method =
     record { blank = blank; method = method; target = 47 ∷ []; minor = 1; line_end = lf; fields = []; last = lf }
@@ -128,7 +128,7 @@ is_short_head blank method token = record {
   fields = All-nil IsField;
 }
 
--- what follows the space of that head
+-- What follows the space of that head.
 short_rest : List ℕ
 short_rest = 47 ∷ 32 ∷ codes "HTTP/1.1" ++ 10 ∷ 10 ∷ []
 
@@ -137,7 +137,7 @@ short_printed : (blank : List LineEnd) (method : List ℕ)
 unfolding print_request short_rest
 short_printed blank method = simp append_assoc
 
--- where a head may come after more bytes, it may come now
+-- If a head may come after more bytes, it may come now.
 pub may_before : (front more : List ℕ) → MayBecomeRequest (front ++ more) → MayBecomeRequest front
 may_before front more (inl m) = inl (more ++ m.0, m.1, (m.2.0, sym (append_assoc front more m.0) ∙ m.2.1))
 may_before front more (inr e) =
@@ -205,9 +205,9 @@ stays_found bytes more found f n = by_front (front_grows 16384 bytes more)
         subst (λ (z : List ℕ). length z ≤ 16384) g.1 (front_short 16384 (bytes ++ more)) in
         subst (λ (z : List ℕ). IsFoundIn z found) (sym g.1) (stays_in (take 16384 bytes) g.0 found short f n)
 
--- ---- the limits
+-- ---- The limits
 
--- a refusal of the table, or a head of so many bytes whose body is no longer than it may be
+-- A refusal has a status of the table, or a head of `bytes` bytes has a body that is no longer than it may be.
 IsLimited : ℕ → Found → Type 0
 IsLimited bytes Need = ⊥
 IsLimited bytes (Refused status) = is_refusal status ≡ true
@@ -281,7 +281,7 @@ method_token = (
   All-cons (λ b. IsTrue (is_token_byte b)) 65 [] refl (All-nil (λ b. IsTrue (is_token_byte b))),
 )
 
--- nothing is there
+-- If no bytes are there, more are needed.
 pub empty_need : IsFound [] Need
 empty_need = inr (inr (
   (no_head, inl (print_request least, least, (is_short_head [] (65 ∷ []) method_token, sym (append-nil _)))),

@@ -1,4 +1,4 @@
--- One pass over the headers finds what the definitions say of each name.
+-- One scan of the headers finds what the definitions say of each name.
 use Rattle.std.proofs.Common.{◌≡◌, ◌∙◌, ℕ, ◌+◌, List, [], ◌∷◌, Bool, true, false, map, Option, Some, None, refl, sym}
 use Rattle.std.proofs.Common.{ap, subst, arith, codes, inl, inr}
 use Rattle.std.proofs.lemmas.Bool.{cases_Bool}
@@ -18,7 +18,7 @@ use Rattle.kds_head.specs.Findings.{is_somewhere, value_in, IsSeen, AreFindings,
 use Rattle.kds_head.specs.Findings.{no_findings}
 use Rattle.kds_head.specs.Values.{byte_count, body_length, named_operation, operation, is_json, says_json}
 
--- ---- one name
+-- ---- One name
 
 count_cons : (name : List ℕ) (h : List ℕ × List ℕ) (hs : Headers)
     → count_named name (h ∷ hs) ≡ cond (has_name name h) 1 0 + count_named name hs
@@ -129,7 +129,7 @@ seen_all name front [] = record { some = sym (ap (λ k. nat_lt 0 k) (no_count na
 seen_all name front (h ∷ hs) =
     seen_step name front h hs (has_name name (header_bytes front h)) refl (seen_all name front hs)
 
--- ---- the names apart
+-- ---- The names apart
 
 abbrev read : List ℕ → Findings → List HeaderSpan → Findings
 read front found hs = fold (findings_after front) found hs
@@ -189,7 +189,7 @@ all_found front hs found e = record {
     seen name s is = subst (λ (z : Seen). IsSeen name front (map (header_bytes front) hs) z) (sym is)
         (seen_all name front hs)
 
--- ---- what the table asks
+-- ---- What the table asks
 
 pub none_is : (n : ℕ) → nat_lt 0 n ≡ false → (n == 0) ≡ true
 none_is n e = grind (arith, nat_tests)

@@ -4,7 +4,7 @@ use Rattle.std.specs.Prelude.{decimal}
 use Rattle.std.proofs.lemmas.List.{append_assoc}
 use Rattle.kds_head.specs.Response.{line, reason_phrase, content_type, connection, response_text}
 
--- eight parts that are added one after another
+-- Eight parts are added one after another.
 pub eight : (t a b c d e f g h t1 t2 t3 t4 t5 t6 t7 t8 : List ℕ)
     → t1 ≡ t ++ a → t2 ≡ t1 ++ b → t3 ≡ t2 ++ c → t4 ≡ t3 ++ d → t5 ≡ t4 ++ e → t6 ≡ t5 ++ f → t7 ≡ t6 ++ g
     → t8 ≡ t7 ++ h
@@ -12,7 +12,7 @@ pub eight : (t a b c d e f g h t1 t2 t3 t4 t5 t6 t7 t8 : List ℕ)
 eight t a b c d e f g h t1 t2 t3 t4 t5 t6 t7 t8 e1 e2 e3 e4 e5 e6 e7 e8 =
     rw (e8, e7, e6, e5, e4, e3, e2, e1) (simp append_assoc)
 
--- seven parts that are written one in front of another
+-- Seven parts are written one in front of another.
 pub in_front : (a b c d e f g body t1 t2 t3 t4 t5 t6 t7 : List ℕ)
     → t1 ≡ g ++ body → t2 ≡ f ++ t1 → t3 ≡ e ++ t2 → t4 ≡ d ++ t3 → t5 ≡ c ++ t4 → t6 ≡ b ++ t5 → t7 ≡ a ++ t6
     → t7 ≡ a ++ (b ++ (c ++ (d ++ (e ++ (f ++ (g ++ body))))))

@@ -20,7 +20,7 @@ other_stays (b ∷ bs) = other_stays bs
 no_way : (bs : List ℕ) → run Other bs ≡ Target → ⊥
 no_way bs h = let bad : Other ≡ Target = sym (other_stays bs) ∙ h in cc bad
 
--- ---- from the place to the grammar
+-- ---- From the place to the grammar
 
 in_target : (bs : List ℕ) → run Target bs ≡ Target → AllPass is_uri_byte bs
 in_target [] h = All-nil (λ b. IsTrue (is_uri_byte b))
@@ -101,7 +101,7 @@ in_blank (b ∷ c ∷ cs) h = elim (cases_Bool (b == 10)) [
   ]
 ]
 
--- ---- from the grammar to the place
+-- ---- From the grammar to the place
 
 no_token : (b n : ℕ) → is_token_byte b ≡ true → is_token_byte n ≡ false → (b == n) ≡ false
 no_token b n token none = elim (cases_Bool (b == n)) [

@@ -9,41 +9,43 @@ use Rattle.kds_head.specs.declared.numbers.TheConstants.{HEAD_BYTES, BODY_BYTES}
 use Rattle.kds_head.specs.Response.{is_refusal}
 use Rattle.kds_head.specs.Table.{judged}
 
--- the bytes begin with this head
+-- The bytes `front` begin with the head `head`.
 abbrev pub BeginsWith : List ℕ → RequestHead → Type 0
 BeginsWith front head = (rest : List ℕ) × ReadsRequest front head rest
 
--- no bytes can follow that make a head; a target is judged at its end, not before
+-- No bytes can follow `front` that make a head. A target is judged at its end, not before.
 abbrev pub NeverBecomesHead : List ℕ → Type 0
 NeverBecomesHead front = NeverHasRequest front × ¬ (EndsInTarget front)
 
--- there is no head, and one may come, or the bytes end inside a target
+-- The bytes `front` have no head, and a head may still come, or they end inside a target.
 abbrev pub MayBecomeHead : List ℕ → Type 0
 MayBecomeHead front = HasNoRequest front × MayBecomeRequest front
 
--- where a head may still come: there are as many bytes as it may have (RFC 6585, section 5), or fewer
+-- What is found in `bytes` bytes if a head may still come: a refusal if a head can't have more bytes (RFC 6585, section
+-- 5), and otherwise that more bytes are needed.
 abbrev pub undecided : ℕ → Found
 undecided bytes = if bytes == HEAD_BYTES then Refused 431 else Need
 
--- what is found of the bytes that a head may have
+-- The finding `found` is what is found in `front`, which are the bytes that a head may have.
 abbrev pub IsFoundIn : List ℕ → Found → Type 0
 IsFoundIn front found =
     ((head : RequestHead) × BeginsWith front head × (found ≡ judged head))
     ⊎ (NeverBecomesHead front × (found ≡ Refused 400))
     ⊎ (MayBecomeHead front × (found ≡ undecided (length front)))
 
--- what is found of the bytes of a connection
+-- The finding `found` is what is found in the bytes `bytes` of a connection.
 abbrev pub IsFound : List ℕ → Found → Type 0
 IsFound bytes found = IsFoundIn (take HEAD_BYTES bytes) found
 
--- a head has some bytes, which are there, and it and its body are no longer than they may be
+-- The head `whole` has some bytes, which are there in `bytes`, and it and its body are no longer than they may be.
 pub record IsBounded (bytes : List ℕ) (whole : Head) : Type 0 where
   pub some : 0 < whole.length
   pub there : whole.length ≤ length bytes
   pub head : whole.length ≤ HEAD_BYTES
   pub body : whole.body ≤ BODY_BYTES
 
--- bytes that need more are fewer than a head may have, a refusal has a status of the table, and a head is bounded
+-- Bytes that need more are fewer than a head may have, a refusal has a status that refuses a connection, and a head is
+-- bounded.
 abbrev pub IsWithinLimits : List ℕ → Found → Type 0
 IsWithinLimits bytes Need = length bytes < HEAD_BYTES
 IsWithinLimits bytes (Refused status) = is_refusal status ≡ true

@@ -1,4 +1,4 @@
--- What one pass over the headers of a head finds of the names that the service reads.
+-- What one scan of the headers of a head finds of the names that the service reads.
 use Rattle.std.specs.Prelude.{◌≡◌, ℕ, List, Bool, true, false, ◌||◌, nat_lt, codes, if◌then◌else◌, Option, Some, None}
 use Rattle.httparse.specs.Spans.{header_bytes, span_bytes}
 use Rattle.httparse.specs.declared.spans.Span.{Span}
@@ -8,24 +8,24 @@ use Rattle.kds_head.specs.declared.findings.Seen.TheVariants.{Nowhere, Once, Oft
 use Rattle.kds_head.specs.declared.findings.Findings.{Findings}
 use Rattle.kds_head.specs.Headers.{Headers, has_name, has_name_and_value, count_named, only_value, any_has}
 
--- some header has the name
+-- Whether some header has a name, by what was seen of the name.
 abbrev pub is_somewhere : Seen → Bool
 is_somewhere Nowhere = false
 is_somewhere (Once value) = true
 is_somewhere Often = true
 
--- the value of the one header of the name, where there is exactly one
+-- The value of the header that has a name, by what was seen of the name, if exactly one header has it.
 abbrev pub value_in : List ℕ → Seen → Option (List ℕ)
 value_in front Nowhere = None
 value_in front (Once value) = Some (span_bytes front value)
 value_in front Often = None
 
--- what was seen of a name says whether some header has it, and the value of the one that has it
+-- What was seen of the name `name` says whether some header has it, and gives the value if exactly one header has it.
 pub record IsSeen (name front : List ℕ) (headers : Headers) (seen : Seen) : Type 0 where
   pub some : is_somewhere seen ≡ nat_lt 0 (count_named name headers)
   pub value : value_in front seen ≡ only_value name headers
 
--- what was seen of each name, and whether some header Connection is `close`
+-- The findings `found` are what was seen of each name, and whether some header Connection is `close`.
 pub record AreFindings (front : List ℕ) (headers : Headers) (found : Findings) : Type 0 where
   pub encoding : IsSeen (codes "Transfer-Encoding") front headers found.encoding
   pub length : IsSeen (codes "Content-Length") front headers found.length
@@ -33,9 +33,9 @@ pub record AreFindings (front : List ℕ) (headers : Headers) (found : Findings)
   pub media_type : IsSeen (codes "Content-Type") front headers found.media_type
   pub close : found.close ≡ any_has (codes "Connection") (codes "close") headers
 
--- ---- one header more
+-- ---- The next header
 
--- what was seen after a header that has the name, with its value
+-- What was seen of a name after another header that has the name, with the value `value`.
 abbrev pub one_more : Seen → Span → Seen
 one_more Nowhere value = Once value
 one_more (Once first) value = Often

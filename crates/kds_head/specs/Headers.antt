@@ -8,30 +8,30 @@ use Rattle.std.specs.Str.{bytes_eq}
 abbrev pub Headers : Type 0
 Headers = List (List ℕ × List ℕ)
 
--- the same word, without regard to ASCII case (RFC 9110, section 5.1)
+-- Whether `a` and `b` are the same word, without regard to ASCII case (RFC 9110, section 5.1).
 abbrev pub same_word : List ℕ → List ℕ → Bool
 same_word a b = bytes_eq (map to_ascii_lowercase a) (map to_ascii_lowercase b)
 
--- the header has this name
+-- Whether `header` has the name `name`.
 abbrev pub has_name : List ℕ → List ℕ × List ℕ → Bool
 has_name name header = same_word header.0 name
 
--- the header has this name and this value
+-- Whether `header` has the name `name` and the value `value`.
 abbrev pub has_name_and_value : List ℕ → List ℕ → List ℕ × List ℕ → Bool
 has_name_and_value name value header = same_word header.0 name && same_word header.1 value
 
--- how many headers have this name
+-- The number of headers with the name `name`.
 unfoldable pub count_named : List ℕ → Headers → ℕ
 count_named name headers = count_by (has_name name) headers
 
--- the value of the first header of this name
+-- The value of the first header with the name `name`.
 abbrev pub first_value : List ℕ → Headers → Option (List ℕ)
 first_value name headers = option_map (λ h. h.1) (find (has_name name) headers)
 
--- the value of the one header of this name, where there is exactly one
+-- The value of the header with the name `name`, if there is exactly one such header.
 unfoldable pub only_value : List ℕ → Headers → Option (List ℕ)
 only_value name headers = if count_named name headers == 1 then first_value name headers else None
 
--- some header of this name has this value
+-- Whether some header with the name `name` has the value `value`.
 unfoldable pub any_has : List ℕ → List ℕ → Headers → Bool
 any_has name value headers = list_any (has_name_and_value name value) headers

@@ -12,12 +12,12 @@ use Rattle.kds_head.specs.declared.found.Found.{Found}
 use Rattle.kds_head.specs.declared.found.Found.TheVariants.{Refused, Whole}
 use Rattle.kds_head.specs.declared.numbers.TheConstants.{HEADERS, BODY_BYTES}
 
--- a case that refuses with a status where a test holds, and the cases after it
+-- A case that refuses with `status` if `test` holds, and otherwise the cases `later` after it.
 infixr 1 refused◌if◌else◌
 unfoldable pub refused◌if◌else◌ : ℕ → Bool → Found → Found
 refused status if test else later = if test then Refused status else later
 
--- a head of so many bytes, with its method, its target, its minor version and its headers
+-- What a head of `bytes` bytes leads to, with its method, its target, its minor version and its headers.
 abbrev pub judged_by : ℕ → List ℕ → List ℕ → ℕ → Headers → Found
 judged_by bytes method target minor headers =
     refused 400 if nat_lt HEADERS (length headers) else
@@ -35,12 +35,12 @@ judged_by bytes method target minor headers =
       close = closes minor headers;
     })
 
--- the same of a head in these bytes, whose parts and headers stand in these spans
+-- What a head in the bytes `front` leads to, if its parts stand in `spans` and its headers in `headers`.
 abbrev pub judged_in : List ℕ → List HeaderSpan → RequestSpans → Found
 judged_in front headers spans =
     judged_by spans.len (slice_range front spans.method.start spans.method.end)
     (slice_range front spans.path.start spans.path.end) spans.version (map (header_bytes front) headers)
 
--- what a whole head of the grammar leads to
+-- What the whole head `h` of the grammar leads to.
 abbrev pub judged : RequestHead → Found
 judged h = judged_by (length (print_request h)) h.method h.target h.minor (map name_and_value h.fields)

@@ -9,38 +9,39 @@ use Rattle.std.specs.Str.Parse.{digits_value}
 use Rattle.kds_head.specs.declared.numbers.TheConstants.{LENGTH_DIGITS}
 use Rattle.kds_head.specs.Headers.{Headers, only_value, any_has}
 
--- a number of bytes: 1 to 19 digits (RFC 9110, section 8.6)
+-- Whether `text` is a number of bytes: 1 to 19 digits (RFC 9110, section 8.6).
 abbrev pub is_byte_count : List ℕ → Bool
 is_byte_count text = nat_lt 0 (length text) && nat_le (length text) LENGTH_DIGITS && list_all is_ascii_digit text
 
--- the number that such a text writes
+-- The number that `text` denotes, if it is a number of bytes.
 unfoldable pub byte_count : List ℕ → Option ℕ
 byte_count text = if is_byte_count text then Some (digits_value 10 text) else None
 
--- the number of the one Content-Length
+-- The number in the only header Content-Length, if there is exactly one.
 unfoldable pub body_length : Headers → Option ℕ
 body_length headers = option_and_then byte_count (only_value (codes "Content-Length") headers)
 
--- what follows `Kinesis_20131202.` in a target, and nothing where it begins otherwise
+-- What follows `Kinesis_20131202.` in `target`, or nothing if `target` begins otherwise.
 abbrev pub named_operation : List ℕ → List ℕ
 named_operation target =
     if starts_with nat_eq target (codes "Kinesis_20131202.") then drop (length (codes "Kinesis_20131202."))
     target else []
 
--- the operation that the one X-Amz-Target names, and nothing where it names none (Kinesis API Reference, Making API
--- Requests)
+-- The operation that the only X-Amz-Target names, or nothing if it names none (Kinesis API Reference, Making API
+-- Requests).
 unfoldable pub operation : Headers → List ℕ
 operation headers = option_map_or named_operation (only_value (codes "X-Amz-Target") headers) []
 
--- the media type of the service's JSON, alone or before a `;` (RFC 9110, section 8.3.1)
+-- Whether `media_type` is that of the service's JSON, alone or before a `;` (RFC 9110, section 8.3.1).
 abbrev pub is_json : List ℕ → Bool
 is_json media_type = bytes_eq media_type (codes "application/x-amz-json-1.1")
     || starts_with nat_eq media_type (codes "application/x-amz-json-1.1;")
 
--- the one Content-Type is that
+-- Whether the only Content-Type is the media type of the service's JSON.
 unfoldable pub says_json : Headers → Bool
 says_json headers = option_map_or is_json (only_value (codes "Content-Type") headers) false
 
--- the connection closes after HTTP/1.0, and after a header Connection that is `close` (RFC 9112, section 9.3)
+-- Whether the connection closes: it does after HTTP/1.0, and after a header Connection that is `close` (RFC 9112,
+-- section 9.3).
 abbrev pub closes : ℕ → Headers → Bool
 closes minor headers = minor == 0 || any_has (codes "Connection") (codes "close") headers

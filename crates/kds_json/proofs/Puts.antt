@@ -69,7 +69,7 @@ record_reads place d small =
     either_reads IsItem (is_some (as_object d)) _ _ (in_record_reads place (item_of d) small (item_reads d))
     (record_name_text place small)
 
--- as many records as there are in the array, each of them good
+-- There are as many records as in the array, and each of them may be put.
 abbrev AreRead : Items → List NewItem → Type 0
 AreRead ds xs = AllByRecursion IsItem xs × (length xs ≡ count ds)
 

@@ -26,7 +26,7 @@ use Rattle.kds_json_members.proofs.Members.{required_reads, some_name_is, some_o
 use Rattle.kds_json.proofs.Puts.{put_reads, many_reads}
 use Rattle.kds_json.proofs.Steps.{asks, takes, names, may_take, limits, lacks, takes_token}
 
--- ---- operations
+-- ---- Operations
 
 create_reads : (d : Data) → Reads IsRequest (create_stream d)
 unfolding create_stream
@@ -182,7 +182,7 @@ members_read op.DecreaseRetention d = keep_reads false d
 members_read op.UpdateShardCount d = scale_reads d
 members_read op.EnforceLimits d = enforce_reads d
 
--- ---- requests
+-- ---- Requests
 
 object_reads : (o : Option Data) → Reads (Anything Data) (if_object o)
 object_reads (Some (object ms)) = tt
@@ -197,10 +197,10 @@ asked_reads operation body =
     then_reads (Anything Data) IsRequest (object_of body) _ (object_reads (read_body body))
     (λ d _. members_read what d))
 
--- the command that a request asks for may be asked
+-- The command for which a request asks may be asked for.
 pub asked_request : (operation body : List ℕ) (what : Command) → asked operation body ≡ Ok what → IsRequest what
 asked_request operation body what e = let is = rw e at (asked_reads operation body) in is
 
--- the fault of a request names a text
+-- The fault of a request names a text.
 pub fault_text : (operation body : List ℕ) (f : Fault) → asked operation body ≡ Err f → IsUtf8 f.member
 fault_text operation body f e = let text = rw e at (asked_reads operation body) in text

@@ -14,7 +14,7 @@ use Rattle.kds_json_members.specs.Reading.{◌>>=◌}
 use Rattle.kds_json_members.proofs.Members.{Anything, IsPlain, Reads, absent_reads, anything, name_is, number_is}
 use Rattle.kds_json_members.proofs.Members.{optional_reads, required_reads, then_reads, token_reads}
 
--- a member that must be there
+-- A step reads a member that must be there.
 pub asks : {A : Type 0} (P : A → Type 0) (reads : Data → Option A) (name : List ℕ) (d : Data) (f : A
     → Result Command Fault) → IsPlain name
     → ((x : Data) → IfSome (reads x) P) → ((x : A) → P x → Reads IsRequest (f x))
@@ -22,18 +22,18 @@ pub asks : {A : Type 0} (P : A → Type 0) (reads : Data → Option A) (name : L
 asks P reads name d f plain h k =
     then_reads P IsRequest (required_at reads name d) f (required_reads P reads name d plain h) k
 
--- the same, where nothing need be known of it
+-- A step reads a member that must be there, and nothing need be known of its value.
 pub takes : {A : Type 0} (reads : Data → Option A) (name : List ℕ) (d : Data) (f : A → Result Command Fault)
     → IsPlain name
     → ((x : A) → Reads IsRequest (f x)) → Reads IsRequest (required_at reads name d >>= f)
 takes {A} reads name d f plain k = asks (Anything A) reads name d f plain (λ x. anything (reads x)) (λ x _. k x)
 
--- the name of a stream
+-- A step reads the name of a stream.
 pub names : (d : Data) (f : List ℕ → Result Command Fault) → ((x : List ℕ) → IsName x → Reads IsRequest (f x))
     → Reads IsRequest (required_at name_in (codes "StreamName") d >>= f)
 names d f k = asks IsName name_in (codes "StreamName") d f refl name_is k
 
--- a member that may be there
+-- A step reads a member that may be there.
 pub may_take : {A : Type 0} (default : A) (reads : Data → Option A) (name : List ℕ) (d : Data) (f : A
     → Result Command Fault) → IsPlain name
     → ((x : A) → Reads IsRequest (f x)) → Reads IsRequest (optional_at default reads name d >>= f)
@@ -41,7 +41,7 @@ may_take {A} default reads name d f plain k =
     then_reads (Anything A) IsRequest (optional_at default reads name d) f
     (optional_reads (Anything A) default reads name d plain tt (λ x. anything (reads x))) (λ x _. k x)
 
--- a limit
+-- A step reads a limit.
 pub limits : (default : ℕ) (name : List ℕ) (d : Data) (f : ℕ → Result Command Fault) → IsPlain name → IsLimit default
     → ((n : ℕ) → IsLimit n → Reads IsRequest (f n))
     → Reads IsRequest (optional_at default (number_in 1 MOST) name d >>= f)
@@ -49,12 +49,12 @@ limits default name d f plain is k =
     then_reads IsLimit IsRequest (optional_at default (number_in 1 MOST) name d) f
     (optional_reads IsLimit default (number_in 1 MOST) name d plain is (number_is 1 MOST)) k
 
--- a member that must not be there
+-- A step reads a member that must not be there.
 pub lacks : (name : List ℕ) (d : Data) (f : ⊤ → Result Command Fault) → IsPlain name → ((x : ⊤) → Reads IsRequest (f x))
     → Reads IsRequest (absent_at name d >>= f)
 lacks name d f plain k = then_reads (Anything ⊤) IsRequest (absent_at name d) f (absent_reads name d plain) (λ x _. k x)
 
--- a token
+-- A step reads a token.
 pub takes_token : {A : Type 0} (stands_for : List ℕ → Option A) (name : List ℕ) (d : Data) (f : A
     → Result Command Fault) → IsPlain name
     → ((x : A) → Reads IsRequest (f x)) → Reads IsRequest (token_at stands_for name d >>= f)

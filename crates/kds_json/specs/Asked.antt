@@ -16,7 +16,7 @@ use Rattle.kds_json.specs.Operations.{keep, update_shard_count, enforce_limits, 
 use Rattle.kds_json.specs.Operations.{get_records, split_shard, merge_shards, list_shards}
 use Rattle.kds_json.specs.Many.{put_records}
 
--- what a body reads as, where it is JSON in UTF-8 (RFC 8259)
+-- What `body` reads as, if it is JSON in UTF-8 (RFC 8259).
 unfoldable pub read_body : List ℕ → Option Data
 read_body body = if is_utf8 body then read body else None
 
@@ -24,12 +24,12 @@ abbrev pub if_object : Option Data → Result Data Fault
 if_object (Some (object ms)) = Ok (object ms)
 if_object _ = Err (fault_of Serialization [])
 
--- the object that a body is
+-- The object that `body` is, or a fault if it isn't an object.
 abbrev pub object_of : List ℕ → Result Data Fault
 object_of body = if_object (read_body body)
 
--- The operation of a name, if there is one (Kinesis API Reference, Actions; LocalEnforceLimits is this project's own),
--- in the four parts in which the code asks for it.
+-- The operation with the name `name`, if there is one (Kinesis API Reference, Actions; LocalEnforceLimits is this
+-- project's own), in the four parts in which the code asks for it.
 abbrev pub setting_named : List ℕ → Option Operation
 setting_named name =
     if bytes_eq name (codes "IncreaseStreamRetentionPeriod") then Some op.IncreaseRetention
@@ -62,7 +62,7 @@ operation_named name =
     else if bytes_eq name (codes "DescribeStream") then Some op.DescribeStream
     else reading_named name
 
--- what the members of an operation ask for
+-- What the members `d` of a request ask for, by its operation.
 abbrev pub members_of : Operation → Data → Result Command Fault
 members_of op.CreateStream d = create_stream d
 members_of op.DeleteStream d = delete_stream d
@@ -81,13 +81,14 @@ members_of op.DecreaseRetention d = keep false d
 members_of op.UpdateShardCount d = update_shard_count d
 members_of op.EnforceLimits d = enforce_limits d
 
--- An operation that isn't known is refused before the body is read.
+-- What the operation name `operation` and `body` ask for. An operation that isn't known is refused before the body is
+-- read.
 unfoldable pub asked : List ℕ → List ℕ → Result Command Fault
 asked operation body = do
   what ← some_or Unknown [] (operation_named operation)
   d ← object_of body
   members_of what d
 
--- what a request may ask for: a lawful command of the stream service
+-- The command `what` is one that a request may ask for: a lawful command of the stream service.
 abbrev pub IsRequest : Command → Type 0
 IsRequest what = IsLawfulCommand what × (is_service what ≡ true)

@@ -1,5 +1,5 @@
--- What the members of each operation ask for. They are checked in the order in which they stand here; a member
--- that isn't named is ignored.
+-- What the members of each operation ask for. They are checked in the order in which they stand here. A member that
+-- isn't named is ignored.
 use Rattle.std.specs.Prelude.{ℕ, List, length, codes, Bool, if◌then◌else◌, is_some, None, Result, Ok, Err}
 use Rattle.std.specs.Str.{bytes_eq}
 use Rattle.serde_json.specs.Data.{Data}
@@ -19,9 +19,9 @@ use Rattle.kds_json_members.specs.Member.{member_of, absent_at, required_at, opt
 use Rattle.kds_json_members.specs.Kinds.{name_in, some_name_in, mode_in, scaling_in, number_in, moment_in, key_in}
 use Rattle.kds_json_members.specs.Kinds.{blob_in, id_in, some_id_in, hash_in, hash_at, sequence_in}
 
--- ---- streams
+-- ---- Streams
 
--- CreateStream (Kinesis API Reference, CreateStream, Request Parameters)
+-- What CreateStream asks for (Kinesis API Reference, CreateStream, Request Parameters).
 unfoldable pub create_stream : Data → Result Command Fault
 create_stream d = do
   name ← required_at name_in (codes "StreamName") d
@@ -29,20 +29,20 @@ create_stream d = do
   mode ← optional_at tt mode_in (codes "StreamModeDetails") d
   Ok (command.Create name shards)
 
--- DeleteStream (Kinesis API Reference, DeleteStream, Request Parameters)
+-- What DeleteStream asks for (Kinesis API Reference, DeleteStream, Request Parameters).
 unfoldable pub delete_stream : Data → Result Command Fault
 delete_stream d = do
   name ← required_at name_in (codes "StreamName") d
   Ok (command.Delete name)
 
--- ListStreams (Kinesis API Reference, ListStreams, Request Parameters)
+-- What ListStreams asks for (Kinesis API Reference, ListStreams, Request Parameters).
 unfoldable pub list_streams : Data → Result Command Fault
 list_streams d = do
   after ← optional_at None some_name_in (codes "ExclusiveStartStreamName") d
   limit ← optional_at NAMES_LIMIT (number_in 1 MOST) (codes "Limit") d
   Ok (command.Streams after limit)
 
--- DescribeStream (Kinesis API Reference, DescribeStream, Request Parameters)
+-- What DescribeStream asks for (Kinesis API Reference, DescribeStream, Request Parameters).
 unfoldable pub describe_stream : Data → Result Command Fault
 describe_stream d = do
   name ← required_at name_in (codes "StreamName") d
@@ -50,20 +50,21 @@ describe_stream d = do
   limit ← optional_at DESCRIBED_LIMIT (number_in 1 MOST) (codes "Limit") d
   Ok (command.Describe name after limit)
 
--- DescribeStreamSummary (Kinesis API Reference, DescribeStreamSummary, Request Parameters)
+-- What DescribeStreamSummary asks for (Kinesis API Reference, DescribeStreamSummary, Request Parameters).
 unfoldable pub describe_summary : Data → Result Command Fault
 describe_summary d = do
   name ← required_at name_in (codes "StreamName") d
   Ok (command.Summary name)
 
--- IncreaseStreamRetentionPeriod and DecreaseStreamRetentionPeriod (Kinesis API Reference, Request Parameters)
+-- What IncreaseStreamRetentionPeriod and DecreaseStreamRetentionPeriod ask for (Kinesis API Reference, Request
+-- Parameters).
 unfoldable pub keep : Bool → Data → Result Command Fault
 keep raise d = do
   name ← required_at name_in (codes "StreamName") d
   wanted ← required_at (number_in LEAST_HOURS MOST_HOURS) (codes "RetentionPeriodHours") d
   Ok (command.Keep name wanted raise)
 
--- UpdateShardCount (Kinesis API Reference, UpdateShardCount, Request Parameters)
+-- What UpdateShardCount asks for (Kinesis API Reference, UpdateShardCount, Request Parameters).
 unfoldable pub update_shard_count : Data → Result Command Fault
 update_shard_count d = do
   name ← required_at name_in (codes "StreamName") d
@@ -71,16 +72,16 @@ update_shard_count d = do
   uniform ← required_at scaling_in (codes "ScalingType") d
   Ok (command.Scale name target)
 
--- LocalEnforceLimits, an operation of this project's own
+-- What LocalEnforceLimits asks for, which is an operation of this project's own.
 unfoldable pub enforce_limits : Data → Result Command Fault
 enforce_limits d = do
   name ← required_at name_in (codes "StreamName") d
   on ← required_at as_bool (codes "Enforce") d
   Ok (command.Enforce name on)
 
--- ---- records
+-- ---- Records
 
--- a record that is to be put, by its own members (Kinesis API Reference, PutRecordsRequestEntry)
+-- The record to put that the members of `d` describe (Kinesis API Reference, PutRecordsRequestEntry).
 unfoldable pub item_of : Data → Result NewItem Fault
 item_of d = do
   key ← required_at key_in (codes "PartitionKey") d
@@ -88,14 +89,14 @@ item_of d = do
   hash ← hash_at key (codes "ExplicitHashKey") d
   Ok (record { key = key; hash = hash; payload = payload })
 
--- PutRecord (Kinesis API Reference, PutRecord, Request Parameters)
+-- What PutRecord asks for (Kinesis API Reference, PutRecord, Request Parameters).
 unfoldable pub put_record : Data → Result Command Fault
 put_record d = do
   name ← required_at name_in (codes "StreamName") d
   item ← item_of d
   Ok (command.Put name item)
 
--- reading begins at a number, or after it
+-- Reading begins at a sequence number, or after it (`start_after`).
 unfoldable pub start_at : Data → Result Start Fault
 start_at d = do
   number ← required_at sequence_in (codes "StartingSequenceNumber") d
@@ -106,13 +107,13 @@ start_after d = do
   number ← required_at sequence_in (codes "StartingSequenceNumber") d
   Ok (start.After number)
 
--- at the first record of a moment or after it
+-- Reading begins at the first record of a moment or after it.
 unfoldable pub start_time : Data → Result Start Fault
 start_time d = do
   moment ← required_at moment_in (codes "Timestamp") d
   Ok (start.Time moment)
 
--- where reading begins, by a ShardIteratorType (Kinesis API Reference, GetShardIterator, ShardIteratorType)
+-- Where reading begins, by the ShardIteratorType `kind` (Kinesis API Reference, GetShardIterator, ShardIteratorType).
 unfoldable pub start_of : List ℕ → Data → Result Start Fault
 start_of kind d =
     if bytes_eq kind (codes "TRIM_HORIZON") then Ok start.TrimHorizon
@@ -122,7 +123,7 @@ start_of kind d =
     else if bytes_eq kind (codes "AT_TIMESTAMP") then start_time d
     else Err (fault_of Invalid (codes "ShardIteratorType"))
 
--- GetShardIterator (Kinesis API Reference, GetShardIterator, Request Parameters)
+-- What GetShardIterator asks for (Kinesis API Reference, GetShardIterator, Request Parameters).
 unfoldable pub get_shard_iterator : Data → Result Command Fault
 get_shard_iterator d = do
   name ← required_at name_in (codes "StreamName") d
@@ -131,16 +132,16 @@ get_shard_iterator d = do
   from ← start_of kind d
   Ok (command.GetIterator name shard from)
 
--- GetRecords (Kinesis API Reference, GetRecords, Request Parameters)
+-- What GetRecords asks for (Kinesis API Reference, GetRecords, Request Parameters).
 unfoldable pub get_records : Data → Result Command Fault
 get_records d = do
   iter ← token_at iter_of (codes "ShardIterator") d
   limit ← optional_at RECORDS_LIMIT (number_in 1 MOST) (codes "Limit") d
   Ok (command.Records iter limit)
 
--- ---- shards
+-- ---- Shards
 
--- SplitShard (Kinesis API Reference, SplitShard, Request Parameters)
+-- What SplitShard asks for (Kinesis API Reference, SplitShard, Request Parameters).
 unfoldable pub split_shard : Data → Result Command Fault
 split_shard d = do
   name ← required_at name_in (codes "StreamName") d
@@ -148,7 +149,7 @@ split_shard d = do
   at ← required_at hash_in (codes "NewStartingHashKey") d
   Ok (command.Split name shard at)
 
--- MergeShards (Kinesis API Reference, MergeShards, Request Parameters)
+-- What MergeShards asks for (Kinesis API Reference, MergeShards, Request Parameters).
 unfoldable pub merge_shards : Data → Result Command Fault
 merge_shards d = do
   name ← required_at name_in (codes "StreamName") d
@@ -156,7 +157,7 @@ merge_shards d = do
   other ← required_at id_in (codes "AdjacentShardToMerge") d
   Ok (command.Merge name shard other)
 
--- ListShards of a stream by its name
+-- What ListShards asks for if it lists the shards of a stream that is given by its name.
 unfoldable pub list_from_start : Data → Result Command Fault
 list_from_start d = do
   name ← required_at name_in (codes "StreamName") d
@@ -165,7 +166,7 @@ list_from_start d = do
   limit ← optional_at SHARDS_LIMIT (number_in 1 MOST) (codes "MaxResults") d
   Ok (command.Shards name after limit)
 
--- ListShards that goes on where an earlier one ended
+-- What ListShards asks for if it goes on where an earlier listing ended.
 unfoldable pub list_from_token : Data → Result Command Fault
 list_from_token d = do
   no_name ← absent_at (codes "StreamName") d
@@ -175,6 +176,6 @@ list_from_token d = do
   limit ← optional_at SHARDS_LIMIT (number_in 1 MOST) (codes "MaxResults") d
   Ok (command.More page limit)
 
--- ListShards (Kinesis API Reference, ListShards, Request Parameters)
+-- What ListShards asks for (Kinesis API Reference, ListShards, Request Parameters).
 unfoldable pub list_shards : Data → Result Command Fault
 list_shards d = if is_some (member_of (codes "NextToken") d) then list_from_token d else list_from_start d

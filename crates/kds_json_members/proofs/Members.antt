@@ -29,13 +29,13 @@ use Rattle.kds_json_members.specs.Kinds.{name_in, some_name_in, within, number_i
 use Rattle.kds_json_members.specs.Kinds.{fitting, blob_of, blob_in, hash_in, hash_at}
 use Rattle.kds_json_members.proofs.Digests.{hash_fits}
 
--- ---- steps
+-- ---- Steps
 
--- what a step gives has the property, or the member that its fault names is text
+-- What the step `r` gives has the property `P`, or the member that its fault names is text.
 abbrev pub Reads : {A : Type 0} → (A → Type 0) → Result A Fault → Type 0
 Reads P r = MatchResult r P (λ f. IsUtf8 f.member)
 
--- where nothing is known of a value
+-- Nothing is known of the value `x`.
 abbrev pub Anything : (A : Type 0) → A → Type 0
 Anything A x = Unit {0}
 
@@ -70,7 +70,7 @@ pub kept_if : {A : Type 0} (P : A → Type 0) (b : Bool) (x : A) → (b ≡ true
 kept_if P true x h = h refl
 kept_if P false x h = tt
 
--- ---- kinds
+-- ---- Kinds
 
 pub map_has : {A B : Type 0} (P : B → Type 0) (f : A → B) (o : Option A) → IfSome o (λ x. P (f x))
     → IfSome (option_map f o) P
@@ -128,9 +128,9 @@ hash_is x =
     (λ text. kept_if IsHash (is_plain text && nat_lt (digits_value 10 text) (2 ^ 128)) (digits_value 10 text)
     (hash_from_test text))
 
--- ---- members
+-- ---- Members
 
--- a name of bytes below 128, as each of ours is: `refl` shows it
+-- The name `name` has only bytes below 128, as each name in requests has: `refl` shows it.
 abbrev pub IsPlain : List ℕ → Type 0
 IsPlain name = list_all (λ b. nat_lt b 128) name ≡ true
 
@@ -143,7 +143,7 @@ plain_bytes (b ∷ name) h =
 pub plain_text : (name : List ℕ) → IsPlain name → IsUtf8 name
 plain_text name plain = IsUtf8-from_ascii name (plain_bytes name plain)
 
--- what a required member gives has the property, if what it reads has it
+-- What a required member gives has the property `P`, if what it reads has it.
 pub required_reads : {A : Type 0} (P : A → Type 0) (reads : Data → Option A) (name : List ℕ) (d : Data) → IsPlain name
     → ((x : Data) → IfSome (reads x) P) → Reads P (required_at reads name d)
 unfolding required_at

@@ -1,4 +1,4 @@
--- The map that the members of an object stand in: what is found at a name.
+-- The map in which the members of an object stand: what is found at a name.
 use Rattle.std.proofs.Common.{◌≡◌, ℕ, List, [], ◌∷◌, Option, Some, None, is_some, option_map, option_and_then, String}
 use Rattle.std.proofs.Common.{BTreeMap, Global, Ordering, Less, Equal, Greater, string_bytes, nat_cmp, is_eq}
 use Rattle.std.proofs.Common.{cond, Bool, true, false, bytes_eq, true≢false, refl, sym, ap, ◌∙◌}
@@ -18,7 +18,7 @@ use Rattle.kds_json_members.specs.Member.{unless_null, member_of}
 abbrev Entry : Type 0
 Entry = String Global × Value
 
--- the test of a name by which a map finds an entry
+-- The test of the name `name` by which a map finds an entry.
 abbrev pub at_name : List ℕ → String Global → Bool
 at_name name = is_at (λ k. slice_cmp nat_cmp name (string_bytes k))
 
@@ -38,7 +38,7 @@ other_is (string s) h = refl
 other_is (array ds) h = refl
 other_is (object ms) h = refl
 
--- null, another value, or nothing
+-- What is at a name: null counts as absent, another value is the member, and nothing is no member.
 pub null_at : (name : List ℕ) (es : List Entry) (v : Value) → Some v ≡ lookup (at_name name) es
     → is_some (as_null (view v)) ≡ true
     → None ≡ member_of name (object (members_view es))

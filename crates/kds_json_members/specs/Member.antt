@@ -1,5 +1,5 @@
--- The members of a request: which must be there, which may be, and what is wrong with them. A member that is
--- null counts as absent.
+-- The members of a request: which must be there, which may be, and what is wrong with them. A member that is null
+-- counts as absent.
 use Rattle.std.specs.Prelude.{◌≡◌, ℕ, List, false, Option, Some, None, option_and_then, Result, Ok, Err, ⊤, String}
 use Rattle.std.specs.BTreeMap.{BTreeMap}
 use Rattle.std.specs.Str.{bytes_eq}
@@ -12,7 +12,7 @@ use Rattle.kds_json_members.specs.declared.problem.Fault.{Fault}
 use Rattle.kds_json_members.specs.declared.problem.FaultKind.TheVariants.{Missing, Invalid, Token}
 use Rattle.kds_json_members.specs.Reading.{◌>>=◌, fault_of, some_or}
 
--- the object that a map of members stands for
+-- The object that the map of members `m` stands for.
 abbrev pub object_view : BTreeMap (String Global) Value → Data
 object_view m = object (members_view m.entries)
 
@@ -24,11 +24,11 @@ unless_null (string s) = Some (string s)
 unless_null (array ds) = Some (array ds)
 unless_null (object ms) = Some (object ms)
 
--- the member of this name, if it is there
+-- The member of `d` with the name `name`, if it is there.
 abbrev pub member_of : List ℕ → Data → Option Data
 member_of name d = option_and_then unless_null (get name d)
 
--- a member that must be there
+-- The member `name` of `d`, which must be there.
 abbrev pub required : List ℕ → Data → Result Data Fault
 required name d = some_or Missing name (member_of name d)
 
@@ -36,11 +36,11 @@ abbrev pub absent_of : List ℕ → Option Data → Result ⊤ Fault
 absent_of name None = Ok tt
 absent_of name (Some x) = Err (fault_of Invalid name)
 
--- a member that must not be there
+-- The check of the member `name` of `d`, which must not be there.
 abbrev pub absent_at : List ℕ → Data → Result ⊤ Fault
 absent_at name d = absent_of name (member_of name d)
 
--- a member that must be there, as what it reads
+-- The member `name` of `d`, which must be there, as what `reads` reads.
 unfoldable pub required_at : {A : Type 0} → (Data → Option A) → List ℕ → Data → Result A Fault
 required_at reads name d = do
   x ← required name d
@@ -50,11 +50,11 @@ abbrev pub value_or : {A : Type 0} → A → (Data → Option A) → List ℕ �
 value_or default reads name None = Ok default
 value_or default reads name (Some x) = some_or Invalid name (reads x)
 
--- a member that may be there, as what it reads, or a default where it is absent
+-- The member `name` of `d`, which may be there, as what `reads` reads, or `default` if it is absent.
 unfoldable pub optional_at : {A : Type 0} → A → (Data → Option A) → List ℕ → Data → Result A Fault
 optional_at default reads name d = value_or default reads name (member_of name d)
 
--- a token, as what its text stands for
+-- The token in the member `name` of `d`, as what its text stands for.
 unfoldable pub token_at : {A : Type 0} → (List ℕ → Option A) → List ℕ → Data → Result A Fault
 token_at stands_for name d = do
   text ← required_at as_str name d

@@ -1,4 +1,4 @@
--- What stands after a line, and where it stopped.
+-- What is true after a line, and where the reading stopped.
 use Rattle.std.proofs.Common.{◌≡◌, ℕ, ◌+◌, List, [], ◌∷◌, ◌++◌, length, Bool, true, false, Option, Some, None, refl}
 use Rattle.std.proofs.Common.{sym, ap, ◌∙◌, subst, ◌<◌, ◌≤◌, ◌⊎◌, arith, inl, inr}
 use Rattle.std.proofs.lemmas.Grind.{common_steps}
@@ -23,9 +23,9 @@ use Rattle.kds_lines.specs.Telling.{Because, HasTaken, Unwritten, Told}
 use Rattle.kds_lines.proofs.Pieces.{line_fed, line_over, more_fed, more_over, at_end, lines_so_far, fed_begins}
 use Rattle.kds_lines.proofs.Pieces.{begins_more, too_long_more}
 
--- ---- what is written
+-- ---- What is written
 
--- what waited is written
+-- If what waited is written, nothing waits.
 pub flushed : (start before now : Option (List ℕ)) (output waits missing : List ℕ)
     → Wrote start before output waits missing → Appends before now waits → Wrote start now output [] missing
 flushed start before now output waits missing w a = record {
@@ -34,7 +34,7 @@ flushed start before now output waits missing w a = record {
   written = Appends-trans start before now w.front waits w.written a;
 }
 
--- a front of it is
+-- If a front of what waited is written, the rest is lost.
 pub lost : (start before now : Option (List ℕ)) (output waits missing : List ℕ)
     → Wrote start before output waits missing → AppendsFront before now waits → Loses start now output
 lost start before now output waits missing w a = (
@@ -65,7 +65,7 @@ flush_err (Err x) before now piece waits e h =
     λ start whole missing w.
     lost start before now whole waits missing w (subst (λ (z : List ℕ). AppendsFront before now z) e h)
 
--- ---- the end of a line
+-- ---- The end of a line
 
 at_length : (len used : ℕ) (w : List ℕ) {b : Bool} → len ≡ length w → is_over len (used + len + 1) ≡ b
     → is_over (length w) (used + length w + 1) ≡ b
@@ -98,7 +98,7 @@ module _ (before took : List (List ℕ) → Type 0) (broke refuses : List (List 
         };
       }
 
-  -- a line stops it
+  -- A line stops the reading.
   pub line_stops : (o : Outcome) (y a : List ℕ) (ts : List (List ℕ)) (used : ℕ) (held waits : List ℕ)
       (start now : Option (List ℕ)) → Fed y ts used held → NoFeed a
       → HasTakenFed o took broke (y ++ (a ++ 10 ∷ [])) ts → Stops o refuses (y ++ (a ++ 10 ∷ [])) ts → Unwritten o []
@@ -114,7 +114,7 @@ module _ (before took : List (List ℕ) → Type 0) (broke refuses : List (List 
     unwritten = all;
   }
 
-  -- memory ran out before its own line, after it, or in the middle of it
+  -- Memory ran out before the line, after it, or in the middle of it.
   line_breaks : (y a held waits : List ℕ) (ts : List (List ℕ)) (used : ℕ) (start now : Option (List ℕ))
       → Fed y ts used held → NoFeed a
       → is_over (length (held ++ a)) (used + length (held ++ a) + 1) ≡ false → Wrote start now (output ts) waits []
@@ -171,9 +171,9 @@ module _ (before took : List (List ℕ) → Type 0) (broke refuses : List (List 
       line_breaks y a old.held waits st.texts old.used start now st.bytes n
       (at_length len old.used (old.held ++ a) el short) (rw same st.wrote) (breaks st.texts st.taken)
 
-  -- ---- what is written
+  -- ---- What is written
 
-  -- the output was written, or waits on
+  -- The output was written, or waits on.
   pub stands_written : (y : List ℕ) (old new : LineBuffer) (start mid now : Option (List ℕ)) → new.held ≡ old.held
       → new.count ≡ old.count → new.used ≡ old.used
       → (st : Stands took output y old start mid)
@@ -216,7 +216,7 @@ module _ (before took : List (List ℕ) → Type 0) (broke refuses : List (List 
     unwritten = h.unwritten;
   }
 
-  -- the sink failed where it had stopped already
+  -- The sink failed after the reading had stopped already.
   lost_there : (y : List ℕ) (ts : List (List ℕ)) (start now : Option (List ℕ)) → Begins y ts → took ts
       → Loses start now (output ts)
       → Halted Write took broke refuses output y [] start now
@@ -261,7 +261,7 @@ module _ (before took : List (List ℕ) → Type 0) (broke refuses : List (List 
   fed_lost (Err o) piece old new held mid now ok err fed start st loses =
       halted_lost o (fed ++ piece) new.output start mid now (err fed start st) loses
 
-  -- ---- one after another
+  -- ---- One after another
 
   stops_more : (o : Outcome) (y z : List ℕ) (ts : List (List ℕ)) → IsFeedStop o → Stops o refuses y ts
       → Stops o refuses (y ++ z) ts
@@ -277,7 +277,7 @@ module _ (before took : List (List ℕ) → Type 0) (broke refuses : List (List 
   taken_more Memory y z ts (inr part) = inr (part.0, begins_more y z _ part.1, part.2)
   taken_more _ y z ts t = t
 
-  -- where it stopped, more bytes change nothing
+  -- After the reading has stopped, more bytes change nothing.
   pub halted_more : (o : Outcome) (y z waits : List ℕ) (start now : Option (List ℕ)) → IsFeedStop o
       → Halted o took broke refuses output y waits start now
       → Halted o took broke refuses output (y ++ z) waits start now
@@ -299,7 +299,7 @@ module _ (before took : List (List ℕ) → Type 0) (broke refuses : List (List 
     stands = subst (λ (z : List ℕ). Stands took output z reading start now) (sym (append-nil fed)) st;
   }
 
-  -- one more line
+  -- A further line goes on from the lines before it.
   pub lines_go : (fed piece rest line next : List ℕ) (old new : LineBuffer) (start mid now : Option (List ℕ))
       → (f : FedLines before output fed piece rest old start mid) → rest ≡ line ++ next
       → Stands took output ((fed ++ f.front) ++ line) new start now → FedLines took output fed piece next new start now
@@ -321,7 +321,7 @@ module _ (before took : List (List ℕ) → Type 0) (broke refuses : List (List 
       subst (λ (z : List ℕ). Halted o took broke refuses output z waits start now) e
       (halted_more o ((fed ++ f.front) ++ line) next waits start now k h)
 
-  -- ---- a whole piece
+  -- ---- A whole piece
 
   pub piece_held : (fed piece rest : List ℕ) (old new : LineBuffer) (start now : Option (List ℕ))
       → (f : FedLines took output fed piece rest old start now) → NoFeed rest
@@ -366,7 +366,7 @@ module _ (before took : List (List ℕ) → Type 0) (broke refuses : List (List 
         unwritten = s.1.0;
       })
 
--- ---- bytes that are held
+-- ---- Bytes that are held
 
 some_over : (used : ℕ) (w : List ℕ) → used ≤ INPUT_BYTES → is_over (length w) (used + length w) ≡ true → (0 < length w)
     × ((LINE_BYTES < length w) ⊎ (INPUT_BYTES < used + length w))
@@ -385,7 +385,7 @@ pub hold_fed : (y a : List ℕ) (used : ℕ) (held now : List ℕ) (ts : List (L
     → NoFeed a → Fed (y ++ a) ts used now
 hold_fed y a used held now ts e f n = rw e (more_fed y a ts used held f n)
 
--- why a line stops it is why a piece does
+-- An outcome with which a line stops the reading is one with which a piece does.
 pub own_is_feed : (o : Outcome) → IsOwnStop o → IsFeedStop o
 own_is_feed (Stopped n) h = tt
 own_is_feed TooLong h = tt
@@ -396,16 +396,16 @@ own_is_feed _ h = absurd h
 pub own_is_no_write : (o : Outcome) → IsOwnStop o → o ≡ Write → ⊥
 own_is_no_write o h e = let bad : IsOwnStop Write = subst (λ (z : Outcome). IsOwnStop z) e h in bad
 
--- ---- the source
+-- ---- The source
 
 not_over : (len used : ℕ) → len ≤ LINE_BYTES → used + len ≤ INPUT_BYTES → is_over len (used + len) ≡ false
 not_over len used a b = grind (arith, common_steps)
 
--- ---- what is told
+-- ---- What is told
 
 module _ (took : List (List ℕ) → Type 0) (broke refuses : List (List ℕ) → List ℕ → Type 0) (output : List (List ℕ)
     → List ℕ) where
-  -- the source fails
+  -- The source fails.
   pub halted_read : (all left after start now : Option (List ℕ)) (reading : LineBuffer)
       → Running took output all left reading start now → Keeps left after
       → HaltedAfter Read took broke refuses output all after start now
@@ -441,12 +441,12 @@ module _ (took : List (List ℕ) → Type 0) (broke refuses : List (List ℕ) �
     unwritten = h.unwritten;
   }
 
-  -- of the first lines, in all the bytes
+  -- The lines of all bytes begin with the first lines.
   begun : (x fed ys : List ℕ) (ts : List (List ℕ)) → x ≡ fed ++ ys → (b : Begins fed ts)
       → (lined x).texts ≡ ts ++ (b ys).0
   begun x fed ys ts e b = ap (λ z. (lined z).texts) e ∙ (b ys).1
 
-  -- where memory ran out, by how far it took the next line
+  -- What is told if memory ran out, by how far the taker took the next line.
   told_broken : (x fed ys : List ℕ) (start now : Option (List ℕ)) → x ≡ fed ++ ys
       → (h : Halted Memory took broke refuses output fed [] start now)
       → HasTakenFed Memory took broke fed h.texts → Told Memory took broke refuses output x (Some ys) start now

@@ -12,7 +12,7 @@ use Rattle.kds_defs.specs.declared.limits.TheConstants.{LINE_BYTES, INPUT_BYTES}
 use Rattle.kds_lines.specs.Lines.{too_long, unfinished, pieces, is_over, is_feed, ended, preceded, last_of, lined_from}
 use Rattle.kds_lines.specs.Lines.{lined, preceded_by, Fed, Begins, IsTooLong, NoFeed, HasFeedAt}
 
--- ---- the first line feed
+-- ---- The first line feed
 
 no_other : (b : ℕ) → ((b == 10) ≡ true → ⊥) → (b == 10) ≡ false
 no_other b differs = elim (cases_Bool (b == 10)) [
@@ -51,7 +51,7 @@ first_is bytes (Some at) h =
       parts = parted bytes at h.0.high h.1 ∙ ap (λ n. take at bytes ++ 10 ∷ drop n bytes) next;
     }
 
--- the bytes at a line feed, taken apart
+-- The bytes around the first line feed are taken apart there.
 pub feed_parts : (rest tail after next : List ℕ) (at : ℕ) → HasFeedAt rest at → tail ≡ take at rest
     → after ≡ drop at rest → next ≡ drop 1 after
     → (rest ≡ (tail ++ 10 ∷ []) ++ next) × NoFeed tail
@@ -62,7 +62,7 @@ feed_parts rest tail after next at c et ea en =
       subst (λ (z : List ℕ). NoFeed z) (sym et) c.before,
     )
 
--- ---- pieces
+-- ---- Pieces
 
 abbrev IsCut : List (List ℕ) → Type 0
 IsCut ps = (q : List ℕ) × (qs : List (List ℕ)) × (ps ≡ q ∷ qs)
@@ -75,7 +75,7 @@ cut_cond : (c : Bool) (ps : List (List ℕ)) (b : ℕ) → IsCut (cond c ([] ∷
 cut_cond true ps b = ([], ps, refl)
 cut_cond false ps b = onto_first_cut b ps
 
--- there is always a piece
+-- There is always a piece.
 pieces_cut : (bytes : List ℕ) → IsCut (pieces bytes)
 pieces_cut [] = ([], [], refl)
 pieces_cut (b ∷ bs) = cut_cond (is_feed b) (pieces bs) b
@@ -93,7 +93,7 @@ onto_nothing : (ps : List (List ℕ)) → IsCut ps → ps ≡ onto_piece [] ps
 onto_nothing [] c = cc
 onto_nothing (q ∷ qs) c = refl
 
--- bytes with no line feed go before the first piece of what follows
+-- Bytes with no line feed go before the first piece of what follows.
 pieces_onto : (a z : List ℕ) → NoFeed a → pieces (a ++ z) ≡ onto_piece a (pieces z)
 pieces_onto [] z n = onto_nothing (pieces z) (pieces_cut z)
 pieces_onto (b ∷ a) z n = slice_split-cons_no is_feed b (a ++ z) n.0 ∙ ap (onto_first b) (pieces_onto a z n.1)
@@ -103,7 +103,7 @@ no_feed-append : (a b : List ℕ) → NoFeed a → NoFeed b → NoFeed (a ++ b)
 no_feed-append [] b n m = m
 no_feed-append (x ∷ a) b n m = (n.0, no_feed-append a b n.1 m)
 
--- bytes with no line feed are one piece
+-- Bytes with no line feed are one piece.
 pieces_none : (a : List ℕ) → NoFeed a → pieces a ≡ a ∷ []
 pieces_none a n = ap pieces (sym (append-nil a)) ∙ pieces_onto a [] n ∙ ap (λ w. w ∷ []) (append-nil a)
 
@@ -111,7 +111,7 @@ pieces_feed : (a z : List ℕ) → NoFeed a → pieces (a ++ 10 ∷ z) ≡ a ∷
 pieces_feed a z n = pieces_onto a (10 ∷ z) n ∙ ap (λ q. onto_piece a q) (slice_split-cons_yes is_feed 10 z refl)
     ∙ ap (λ q. q ∷ pieces z) (append-nil a)
 
--- ---- lines
+-- ---- Lines
 
 lined_cut : (used : ℕ) (p : List ℕ) (ps : List (List ℕ)) → IsCut ps
     → lined_from used (p ∷ ps)
@@ -139,7 +139,7 @@ longer : (used n m k : ℕ) → n ≤ m → (LINE_BYTES < n) ⊎ (INPUT_BYTES < 
 longer used n m k le (inl h) = inl (omega arith)
 longer used n m k le (inr h) = inr (omega arith)
 
--- too many bytes with no line feed are too long, whatever follows
+-- Too many bytes with no line feed are too long, whatever follows.
 lined_over : (used : ℕ) (a : List ℕ) (ps : List (List ℕ)) → IsCut ps → 0 < length a → (LINE_BYTES < length a)
     ⊎ (INPUT_BYTES < used + length a)
     → lined_from used (onto_piece a ps) ≡ ended too_long
@@ -156,9 +156,9 @@ lined_over used a (q ∷ r ∷ rs) c n h =
     over_at _ _ (longer used (length a) (length (a ++ q)) 1 (omega arith) h) in
     rw over refl
 
--- ---- bytes that are fed
+-- ---- Bytes that are fed
 
--- what a line feed makes of the lines
+-- What a line feed makes of the lines.
 feed_goes : (y a z : List ℕ) (ts : List (List ℕ)) (used : ℕ) (held : List ℕ) → Fed y ts used held → NoFeed a
     → lined ((y ++ (a ++ 10 ∷ [])) ++ z)
     ≡ preceded_by ts (cond (is_over (length (held ++ a)) (used + length (held ++ a) + 1)) (ended too_long)
@@ -169,7 +169,7 @@ feed_goes y a z ts used held f n =
     ap lined whole_y ∙ f.goes_on (a ++ 10 ∷ z) ∙ ap (λ w. preceded_by ts (lined_from used (pieces w))) whole_held
     ∙ ap (preceded_by ts) (lined_first used (held ++ a) z (no_feed-append held a f.no_feed n))
 
--- a line feed comes
+-- If a line feed comes, the line is whole, and nothing is held.
 pub line_fed : (y a : List ℕ) (ts : List (List ℕ)) (used : ℕ) (held : List ℕ) → Fed y ts used held → NoFeed a
     → is_over (length (held ++ a)) (used + length (held ++ a) + 1) ≡ false
     → Fed (y ++ (a ++ 10 ∷ [])) (ts ++ (held ++ a) ∷ []) (used + length (held ++ a) + 1) []
@@ -186,7 +186,7 @@ line_fed y a ts used held f n short = record {
 nothing_more : (ts : List (List ℕ)) → preceded_by ts (ended too_long) ≡ record { texts = ts; end = too_long }
 nothing_more ts = ap (λ w. record { texts = w; end = too_long }) (append-nil ts)
 
--- a line feed comes, and with it the line or the input is too long
+-- If a line feed comes with which the line or the input is too long, the bytes are too long.
 pub line_over : (y a : List ℕ) (ts : List (List ℕ)) (used : ℕ) (held : List ℕ) → Fed y ts used held → NoFeed a
     → is_over (length (held ++ a)) (used + length (held ++ a) + 1) ≡ true → IsTooLong (y ++ (a ++ 10 ∷ [])) ts
 line_over y a ts used held f n over = λ more. feed_goes y a more ts used held f n
@@ -195,7 +195,7 @@ line_over y a ts used held f n over = λ more. feed_goes y a more ts used held f
     over
     ∙ nothing_more ts
 
--- bytes come with no line feed
+-- If bytes come with no line feed, they are held too.
 pub more_fed : (y a : List ℕ) (ts : List (List ℕ)) (used : ℕ) (held : List ℕ) → Fed y ts used held → NoFeed a
     → Fed (y ++ a) ts used (held ++ a)
 more_fed y a ts used held f n = record {
@@ -204,7 +204,7 @@ more_fed y a ts used held f n = record {
   no_feed = no_feed-append held a f.no_feed n;
 }
 
--- and there are too many
+-- If too many bytes come with no line feed, the bytes are too long.
 pub more_over : (y a : List ℕ) (ts : List (List ℕ)) (used : ℕ) (held : List ℕ) → Fed y ts used held → NoFeed a
     → 0 < length (held ++ a)
     → (LINE_BYTES < length (held ++ a)) ⊎ (INPUT_BYTES < used + length (held ++ a)) → IsTooLong (y ++ a) ts
@@ -213,7 +213,7 @@ more_over y a ts used held f n some over =
     λ z. g.goes_on z ∙ ap (λ w. preceded_by ts (lined_from used w)) (pieces_onto (held ++ a) z g.no_feed)
     ∙ ap (preceded_by ts) (lined_over used (held ++ a) (pieces z) (pieces_cut z) some over) ∙ nothing_more ts
 
--- what is held is the last line
+-- At the end of the bytes, what is held is the last line.
 pub at_end : (y : List ℕ) (ts : List (List ℕ)) (used : ℕ) (held : List ℕ) → Fed y ts used held
     → lined y ≡ preceded_by ts (last_of used held)
 at_end y ts used held f =
@@ -225,13 +225,13 @@ no_texts : (used : ℕ) (held : List ℕ) → (last_of used held).texts ≡ []
 no_texts used [] = refl
 no_texts used (b ∷ bs) = refl
 
--- the whole lines so far
+-- The whole lines so far are the lines of the bytes.
 pub lines_so_far : (y : List ℕ) (ts : List (List ℕ)) (used : ℕ) (held : List ℕ) → Fed y ts used held
     → (lined y).texts ≡ ts
 lines_so_far y ts used held f =
     ap (λ l. l.texts) (at_end y ts used held f) ∙ ap (λ z. ts ++ z) (no_texts used held) ∙ append-nil ts
 
--- ---- the first lines, whatever follows
+-- ---- The first lines, whatever follows
 
 pub fed_begins : (y : List ℕ) (ts : List (List ℕ)) (used : ℕ) (held : List ℕ) → Fed y ts used held → Begins y ts
 fed_begins y ts used held f = λ more. (_, ap (λ l. l.texts) (f.goes_on more))

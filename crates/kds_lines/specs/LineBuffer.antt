@@ -1,4 +1,4 @@
--- What stands while an input is read.
+-- What is true while an input is read line by line.
 use Rattle.std.specs.Prelude.{◌≡◌, ◌⊎◌, ℕ, ◌+◌, List, [], ◌∷◌, ◌++◌, length, Result, Err}
 use Rattle.std.specs.declared.option.Option.{Option}
 use Rattle.std.specs.Io.KnownBytes.{Consumes}
@@ -9,7 +9,7 @@ use Rattle.kds_lines.specs.declared.outcome.Outcome.{Outcome}
 use Rattle.kds_lines.specs.declared.outcome.Outcome.TheVariants.{Stopped, TooLong, Read, Write, Memory}
 use Rattle.kds_lines.specs.declared.reading.LineBuffer.{LineBuffer}
 
--- these bytes were fed: their whole lines were taken, and their output was written or waits
+-- The bytes `fed` were fed: their whole lines were taken, and the output for these lines was written or waits.
 pub record Stands (took : List (List ℕ) → Type 0) (output : List (List ℕ)
     → List ℕ) (fed : List ℕ) (reading : LineBuffer)
     (start now : Option (List ℕ)) : Type 0 where
@@ -19,7 +19,7 @@ pub record Stands (took : List (List ℕ) → Type 0) (output : List (List ℕ)
   pub taken : took texts
   pub wrote : Wrote start now (output texts) reading.output []
 
--- why it stopped so after these lines of the bytes that were fed
+-- Why the reading stopped with an outcome after the lines `texts` of the bytes `fed`.
 abbrev pub Stops : Outcome → (List (List ℕ) → List ℕ → Type 0) → List ℕ → List (List ℕ) → Type 0
 Stops TooLong refuses fed texts = IsTooLong fed texts
 Stops (Stopped n) refuses fed texts = (text : List ℕ) × Begins fed (texts ++ text ∷ []) × refuses texts text
@@ -29,15 +29,16 @@ Stops Write refuses fed texts = Unit {0}
 Stops Memory refuses fed texts = Unit {0}
 Stops _ refuses fed texts = ⊥
 
--- These lines of the bytes that were fed were taken. Where memory ran out, it may have done so in the middle of the
--- next one.
+-- The lines `texts` of the bytes `fed` were taken. If memory ran out, it may have done so in the middle of the next
+-- line.
 abbrev pub HasTakenFed : Outcome → (List (List ℕ) → Type 0) → (List (List ℕ) → List ℕ → Type 0) → List ℕ → List (List ℕ)
     → Type 0
 HasTakenFed Memory took broke fed texts =
     took texts ⊎ ((text : List ℕ) × Begins fed (texts ++ text ∷ []) × broke texts text)
 HasTakenFed _ took broke fed texts = took texts
 
--- These bytes were fed when it stopped so: the lines that were taken are their first ones.
+-- The bytes `fed` were fed when the reading stopped with `outcome`. The lines that were taken are the first lines of
+-- these bytes.
 pub record Halted (outcome : Outcome) (took : List (List ℕ) → Type 0) (broke refuses : List (List ℕ) → List ℕ → Type 0)
     (output : List (List ℕ) → List ℕ) (fed waits : List ℕ) (start now : Option (List ℕ)) : Type 0 where
   pub texts : List (List ℕ)
@@ -48,7 +49,7 @@ pub record Halted (outcome : Outcome) (took : List (List ℕ) → Type 0) (broke
   pub wrote : Wrote start now (output texts) waits missing
   pub unwritten : Unwritten outcome missing
 
--- A front of the piece was fed, and this is the rest.
+-- A prefix of `piece` was fed, and `rest` is what remains of `piece`.
 pub record FedLines (took : List (List ℕ) → Type 0) (output : List (List ℕ) → List ℕ) (fed piece rest : List ℕ)
     (reading : LineBuffer)
     (start now : Option (List ℕ)) : Type 0 where
@@ -56,41 +57,40 @@ pub record FedLines (took : List (List ℕ) → Type 0) (output : List (List ℕ
   pub parts : piece ≡ front ++ rest
   pub stands : Stands took output (fed ++ front) reading start now
 
--- ---- one step of a reading, whatever was fed before it, from what the taker took and the sink held to what they do
--- now
+-- ---- One step of a reading, whatever was fed before it: what the taker took and the sink held, before and after it
 
 module _ (took took_now : List (List ℕ) → Type 0) (output : List (List ℕ) → List ℕ) (before after : LineBuffer)
     (held now : Option (List ℕ)) where
-  -- these bytes are fed too
+  -- The step feeds the bytes `piece`.
   abbrev pub Feeds : List ℕ → Type 0
   Feeds piece = (fed : List ℕ) (start : Option (List ℕ)) → Stands took output fed before start held
       → Stands took_now output (fed ++ piece) after start now
 
-  -- a front of the piece is fed too, and this is its rest
+  -- The step feeds a prefix of `piece`, and `rest` is what remains of `piece`.
   abbrev pub FeedsFront : List ℕ → List ℕ → Type 0
   FeedsFront piece rest = (fed : List ℕ) (start : Option (List ℕ)) → Stands took output fed before start held
       → FedLines took_now output fed piece rest after start now
 
-  -- the line that is held comes to its end by these bytes and a line feed
+  -- The step feeds `tail` and a line feed, which end the line that is held.
   abbrev pub EndsLine : List ℕ → Type 0
   EndsLine tail =
       (fed : List ℕ) (start : Option (List ℕ)) → Stands took output fed before start held → NoFeed tail
       → Stands took_now output (fed ++ (tail ++ 10 ∷ [])) after start now
 
   module _ (broke refuses : List (List ℕ) → List ℕ → Type 0) where
-    -- it stops so in this piece
+    -- The reading stops with `outcome` in the bytes `piece`.
     abbrev pub StopsIn : Outcome → List ℕ → Type 0
     StopsIn outcome piece =
         (fed : List ℕ) (start : Option (List ℕ)) → Stands took output fed before start held
         → Halted outcome took_now broke refuses output (fed ++ piece) after.output start now
 
-    -- it stops so in this line
+    -- The reading stops with `outcome` in the line that `tail` and a line feed end.
     abbrev pub StopsInLine : Outcome → List ℕ → Type 0
     StopsInLine outcome tail =
         (fed : List ℕ) (start : Option (List ℕ)) → Stands took output fed before start held → NoFeed tail
         → Halted outcome took_now broke refuses output (fed ++ (tail ++ 10 ∷ [])) after.output start now
 
--- how many bytes were fed
+-- The number of bytes that were fed.
 abbrev pub fed_count : LineBuffer → ℕ
 fed_count reading = reading.used + length reading.held
 
@@ -103,7 +103,7 @@ pub record Running (took : List (List ℕ) → Type 0) (output : List (List ℕ)
   pub stands : Stands took output fed reading start now
   pub flushed : reading.output ≡ []
 
--- It stopped so after some bytes were taken from the source.
+-- The reading stopped with `outcome` after some bytes were taken from the source.
 pub record HaltedAfter (outcome : Outcome) (took : List (List ℕ) → Type 0) (broke refuses : List (List ℕ) → List ℕ
     → Type 0)
     (output : List (List ℕ) → List ℕ) (all left start now : Option (List ℕ)) : Type 0 where
@@ -111,7 +111,7 @@ pub record HaltedAfter (outcome : Outcome) (took : List (List ℕ) → Type 0) (
   pub consumed : Consumes all left fed
   pub halted : Halted outcome took broke refuses output fed [] start now
 
--- ---- a read and all that follows from it, from what was left of the source to what is left now
+-- ---- A read and all that follows from it, from what was left of the source to what is left now
 
 module _ (took took_now : List (List ℕ) → Type 0) (output : List (List ℕ)
     → List ℕ) (left left_now held now : Option (List ℕ)) where
@@ -125,31 +125,31 @@ module _ (took took_now : List (List ℕ) → Type 0) (output : List (List ℕ)
       (all start : Option (List ℕ)) → Running took output all left before start held
       → HaltedAfter outcome took_now broke refuses output all left_now start now
 
--- How it stops where the output of a piece that was fed so can't be written: by want of memory where that came before,
--- since a line may have been taken in part.
+-- How the reading stops if the output of a piece can't be written: with Write, or with Memory if memory ran out when
+-- the piece was fed, because a line may have been taken in part.
 abbrev pub lost_after : Result (Unit {0}) Outcome → Outcome
 lost_after (Err Memory) = Memory
 lost_after _ = Write
 
--- why bytes that end no line are not held
+-- Why bytes that end no line can't be held, by the outcome with which the reading then stops.
 abbrev pub HoldStops : Outcome → List ℕ → List (List ℕ) → Type 0
 HoldStops TooLong fed texts = IsTooLong fed texts
 HoldStops Memory fed texts = Unit {0}
 HoldStops _ fed texts = ⊥
 
--- why a line may stop the reading
+-- A line may stop the reading with this outcome.
 abbrev pub IsOwnStop : Outcome → Type 0
 IsOwnStop (Stopped n) = Unit {0}
 IsOwnStop TooLong = Unit {0}
 IsOwnStop Memory = Unit {0}
 IsOwnStop _ = ⊥
 
--- why a piece may
+-- A piece of the input may stop the reading with the outcome `o`.
 abbrev pub IsFeedStop : Outcome → Type 0
 IsFeedStop Write = Unit {0}
 IsFeedStop o = IsOwnStop o
 
--- why it may stop before the input's end
+-- The reading may stop with the outcome `o` before the input's end.
 abbrev pub IsStop : Outcome → Type 0
 IsStop Read = Unit {0}
 IsStop o = IsFeedStop o

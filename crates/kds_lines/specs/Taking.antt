@@ -1,7 +1,7 @@
--- What taking a line does.
+-- What it means to take a line.
 use Rattle.std.specs.Prelude.{◌≡◌, ◌⊎◌, ℕ, List, [], ◌∷◌, ◌++◌}
 
--- the line was taken after those, and its output was added
+-- The line `text` was taken after `lines`, and the output grew from `before` to `after` by what the line adds.
 pub record Goes (took : List (List ℕ) → Type 0) (output : List (List ℕ) → List ℕ) (lines : List (List ℕ))
     (text before after : List ℕ) : Type 0 where
   pub taken : took (lines ++ text ∷ [])
@@ -9,11 +9,11 @@ pub record Goes (took : List (List ℕ) → Type 0) (output : List (List ℕ) �
   pub grows : output (lines ++ text ∷ []) ≡ output lines ++ added
   pub wrote : after ≡ before ++ added
 
--- the whole text goes on after the front
+-- The text `whole` begins with `front`.
 abbrev pub GoesOn : List ℕ → List ℕ → Type 0
 GoesOn front whole = (back : List ℕ) × (whole ≡ front ++ back)
 
--- memory ran out after those lines: this one was not taken, or it was, or it ran out in the middle of it
+-- Memory ran out after `lines`: the line `text` was not taken, or it was taken, or memory ran out in the middle of it.
 abbrev pub Breaks : (List (List ℕ) → Type 0) → (List (List ℕ) → List ℕ → Type 0) → (List (List ℕ) → List ℕ)
     → List (List ℕ) → List ℕ → Type 0
 Breaks took broke output lines text =

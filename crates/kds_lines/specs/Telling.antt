@@ -7,8 +7,8 @@ use Rattle.kds_lines.specs.declared.outcome.Outcome.{Outcome}
 use Rattle.kds_lines.specs.declared.outcome.Outcome.TheVariants.{Whole, Unfinished, Stopped, TooLong, Read, Write}
 use Rattle.kds_lines.specs.declared.outcome.Outcome.TheVariants.{Memory}
 
--- Why it ended so after these lines of the bytes, where these lines were left, and of the source these bytes. With
--- Read these are the lines of the bytes that were read.
+-- Why the reading of `bytes` ended with an outcome, after the lines `texts`. The lines `rest` were left, and of the
+-- source the bytes `left`. With Read, `texts` are the lines of the bytes that were read.
 abbrev pub Because : Outcome → (List (List ℕ) → List ℕ → Type 0) → List ℕ → Option (List ℕ) → List (List ℕ)
     → List (List ℕ) → Type 0
 Because Whole refuses bytes left texts rest = ((lined bytes).end ≡ whole) × (rest ≡ [])
@@ -22,22 +22,22 @@ Because Read refuses bytes left texts rest =
 Because Write refuses bytes left texts rest = Unit {0}
 Because Memory refuses bytes left texts rest = Unit {0}
 
--- how much of the output was not written: all was, unless the sink failed or memory ran out
+-- The part `back` of the output was not written. It is empty unless the sink failed or memory ran out.
 abbrev pub Unwritten : Outcome → List ℕ → Type 0
 Unwritten Write back = Unit {0}
 Unwritten Memory back = Unit {0}
 Unwritten _ back = back ≡ []
 
--- These lines were taken, before those that are left. Where memory ran out, it may have done so in the middle of the
--- next one.
+-- The lines `texts` were taken, and the lines `rest` are left. If memory ran out, it may have done so in the middle of
+-- the first line that is left.
 abbrev pub HasTaken : Outcome → (List (List ℕ) → Type 0) → (List (List ℕ) → List ℕ → Type 0) → List (List ℕ)
     → List (List ℕ) → Type 0
 HasTaken Memory took broke texts rest =
     took texts ⊎ ((text : List ℕ) × (later : List (List ℕ)) × (rest ≡ text ∷ later) × broke texts text)
 HasTaken _ took broke texts rest = took texts
 
--- The reading of these bytes ended so: the lines that were taken are the first ones of the bytes, and a front of their
--- output was written.
+-- The reading of `bytes` ended with `outcome`: the lines that were taken are the first lines of `bytes`, and a prefix
+-- of their output was written.
 pub record Told (outcome : Outcome) (took : List (List ℕ) → Type 0) (broke refuses : List (List ℕ) → List ℕ → Type 0)
     (output : List (List ℕ) → List ℕ) (bytes : List ℕ) (left before after : Option (List ℕ)) : Type 0 where
   pub texts : List (List ℕ)

@@ -8,7 +8,7 @@ use Rattle.kds_defs.specs.declared.limits.TheConstants.{BATCH_BYTES}
 use Rattle.kds_defs.specs.declared.reply.Stored.{Stored}
 use Rattle.kds_log.specs.Log.{FirstFits, IsWithin, IsPrefix}
 
--- the beginning of a list whose first record takes these bytes
+-- The beginning of a list that has the first record `r` exactly if `b` holds.
 abbrev chosen : Bool → Logged → List Logged → List Logged
 chosen b r rs = if b then r ∷ rs else []
 
@@ -35,7 +35,7 @@ within (suc limit) room (r ∷ rs) =
     within_more (nat_le r.bytes room) limit room r (beginning limit (room - r.bytes) rs) refl
     (within limit (room - r.bytes) rs)
 
--- a front of a list that is not empty: it is empty, or has the first record
+-- A front of a list either is empty or has the first record of the list.
 same_head : (r x : Logged) (rs xs : List Logged) → r ∷ rs ≡ x ∷ xs → r ≡ x
 same_head r x rs xs h = cc
 
@@ -65,7 +65,7 @@ no_longer (suc limit) room (r ∷ rs) (x ∷ front) p h =
     longest_more (nat_le r.bytes room) limit room r front (beginning limit (room - r.bytes) rs) refl w
     (λ inner. no_longer limit (room - r.bytes) rs front (p.0, t) inner)
 
--- ---- a batch that isn't empty
+-- ---- A batch that isn't empty
 
 pub some_taken : (limit room : ℕ) (rs : List Logged) → 1 ≤ limit → FirstFits room rs → beginning limit room rs ≢ []
 some_taken limit room [] some le_so = absurd le_so

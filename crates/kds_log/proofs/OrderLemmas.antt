@@ -7,7 +7,7 @@ use Rattle.kds_base.proofs.Facts.{all_append, all_weaker, all_both, all_filter}
 use Rattle.kds_defs.specs.Records.{Logged, is_left, left_among, numbers_of}
 use Rattle.kds_log.specs.Log.{LogValue, IsBefore, AreInOrder, IsUpTo, IsOrderly, first_number, since, IsLeast}
 
--- ---- order
+-- ---- Order
 
 in_order-append : (rs : List Logged) (x : Logged) → AreInOrder rs → AllByRecursion (λ r. IsBefore r x) rs
     → AreInOrder (rs ++ x ∷ [])
@@ -24,9 +24,9 @@ in_order-filter p [] h = tt
 in_order-filter p (r ∷ rs) h =
     in_order_choice (p r) r (filter p rs) (all_filter (IsBefore r) p rs h.0) (in_order-filter p rs h.1)
 
--- ---- the log
+-- ---- The log
 
--- a record that is appended comes after those before it
+-- A record that is appended comes after those before it.
 up_to_before : (last : Option ℕ) (r x : Logged) → IfSome last (λ n. n < x.seq) → IsUpTo last r → r.arrival ≤ x.arrival
     → IsBefore r x
 up_to_before None r x above up arrival = absurd up
@@ -56,7 +56,7 @@ orderly-left log floor position orderly = record {
   numbers = all_filter (IsUpTo log.last) (is_left floor position) log.kept orderly.numbers;
 }
 
--- ---- the least number
+-- ---- The least number
 
 at_front : (n : ℕ) (ns : List ℕ) → Contains (n ∷ ns) n
 at_front n ns = (0, omega arith, refl)
@@ -66,7 +66,7 @@ all_numbers : (n : ℕ) (rs : List Logged) → AllByRecursion (λ r. n < r.seq) 
 all_numbers n [] h = tt
 all_numbers n (r ∷ rs) h = let first : n < r.seq = h.0 in (omega arith, all_numbers n rs h.1)
 
--- in order, the first number is the least
+-- In order, the first number is the least.
 pub first_is_least : (rs : List Logged) → AreInOrder rs → IsLeast (numbers_of rs) (first_number rs)
 first_is_least [] h = refl
 first_is_least (r ∷ rs) h = (

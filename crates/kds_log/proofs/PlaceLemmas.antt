@@ -11,17 +11,17 @@ use Rattle.kds_defs.specs.Records.{Logged, is_left, left_among, logged}
 use Rattle.kds_defs.specs.declared.reply.Stored.{Stored}
 use Rattle.kds_log.specs.Log.{IsBefore, AreInOrder, since}
 
--- the record isn't left
+-- Whether the record `x` isn't left.
 abbrev pub is_past : ℕ → ℕ → Stored → Bool
 is_past floor position x = not (is_left floor position (logged x))
 
--- ---- tests
+-- ---- Tests
 
 past_before : (floor position : ℕ) (a b : Stored) → a.seq ≤ b.seq → a.arrival ≤ b.arrival
     → is_past floor position b ≡ true → is_past floor position a ≡ true
 past_before floor position a b numbers arrivals h = grind (arith, nat_tests)
 
--- ---- order
+-- ---- Order
 
 all_at : (P : Logged → Type 0) (xs : List Stored) (j : ℕ) (d : Stored) → AllByRecursion P (map logged xs)
     → j < length xs → P (logged (get_or xs j d))
@@ -50,7 +50,7 @@ partitioned floor position xs order i j d le lt h =
     let follows = in_order-at xs i j d order le lt in
     past_before floor position (get_or xs i d) (get_or xs j d) follows.0 follows.1 h
 
--- ---- what is left
+-- ---- What is left
 
 all_left : (floor position : ℕ) (xs : List Stored)
     → ((k : ℕ) (d : Stored) → k < length xs → is_past floor position (get_or xs k d) ≡ false)
@@ -74,7 +74,7 @@ left_from floor position (x ∷ xs) (suc i) h =
       (λ k d low lt. h.1 (suc k) d (omega arith) (omega arith)),
     )
 
--- where the first record is left, all are
+-- If the first record is left, all records are left.
 left_at_first : (floor position : ℕ) (x : Stored) (xs : List Stored) → AreInOrder (map logged (x ∷ xs))
     → is_past floor position x ≡ false → left_among floor position (map logged (x ∷ xs)) ≡ map logged (x ∷ xs)
 left_at_first floor position x xs order h =
@@ -90,7 +90,7 @@ left_at_front floor position x (y ∷ ys) order is h =
     left_at_first floor position y ys order
     (ap not (ap (λ (z : Stored). is_left floor position (logged z)) (sym is) ∙ h))
 
--- ---- the later of a floor and a moment
+-- ---- The later of a floor and a moment
 
 since_choice : (b d : Bool) (r : Logged) (rs ys : List Logged) (moment : ℕ) → nat_le moment r.arrival ≡ d
     → since moment rs ≡ ys → since moment (cond b (r ∷ rs) rs) ≡ cond (cond b d false) (r ∷ ys) ys
@@ -102,7 +102,8 @@ is_late : (floor moment : ℕ) (r : Logged) → cond (is_left floor 0 r) (nat_le
     ≡ is_left (max floor moment) 0 r
 is_late floor moment r = grind (arith, nat_tests)
 
--- those that are left and arrived at or after a moment are left at the later of both
+-- The records that are left and arrived at or after a moment are those that are left at the later of the floor and the
+-- moment.
 pub since_left : (floor moment : ℕ) (rs : List Logged)
     → since moment (left_among floor 0 rs) ≡ left_among (max floor moment) 0 rs
 since_left floor moment [] = refl

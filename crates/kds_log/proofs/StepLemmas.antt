@@ -8,7 +8,7 @@ use Rattle.kds_defs.specs.declared.reply.Stored.{Stored}
 use Rattle.kds_defs.proofs.Batches.{beginning_one, beginning_none}
 use Rattle.kds_log.specs.Log.{first_number}
 
--- the records from a place on
+-- The records from the place `i` on.
 abbrev pub ahead : List Stored → ℕ → List Logged
 ahead xs i = map logged (drop i xs)
 
@@ -21,13 +21,13 @@ ahead_more xs i x lt is =
 pub ahead_none : (xs : List Stored) (i : ℕ) → length xs ≤ i → ahead xs i ≡ []
 ahead_none xs i le = ap (map logged) (drop_all i xs le)
 
--- ---- batches
+-- ---- Batches
 
--- the batch so far, and the beginning of what is left, are the whole batch
+-- The batch so far, and the beginning of the records that are left, are the whole batch.
 abbrev pub Grows : List Stored → ℕ → ℕ → List Logged → List Stored → Type 0
 Grows batch left room rest whole = batch ++ map stored (beginning left room rest) ≡ whole
 
--- a record that fits is taken
+-- A record that fits is taken.
 pub grows_by : (xs : List Stored) (i : ℕ) (x : Stored) → i < length xs → x ≡ get_or xs i x
     → (batch : List Stored) (left room bytes : ℕ) (whole : List Stored) → (left ≡ 0 → ⊥) → bytes ≡ (logged x).bytes
     → bytes ≤ room
@@ -43,7 +43,7 @@ grows_by xs i x within is batch left room bytes whole some same small h =
     append_assoc batch (x ∷ []) (map stored (beginning (left - 1) (room - bytes) rest))
     ∙ ap (λ taken. batch ++ map stored taken) (sym one) ∙ h
 
--- at the end of the records the batch is whole
+-- At the end of the records the batch is whole.
 pub grows_all : (xs : List Stored) (i : ℕ) (batch : List Stored) (left room : ℕ) (whole : List Stored) → length xs ≤ i
     → Grows batch left room (ahead xs i) whole → batch ≡ whole
 grows_all xs i batch left room whole le h =
@@ -51,7 +51,7 @@ grows_all xs i batch left room whole le h =
     ∙ ap (λ taken. batch ++ map stored taken)
     (sym (ap (beginning left room) (ahead_none xs i le) ∙ beginning_none left room)) ∙ h
 
--- ---- the first record from a place on
+-- ---- The first record from a place on
 
 module _ (xs : List Stored) (i : ℕ) (rs : List Logged) (is_rest : rs ≡ ahead xs i) where
   pub no_number : length xs ≤ i → None ≡ first_number rs

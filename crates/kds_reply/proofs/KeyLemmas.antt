@@ -25,14 +25,14 @@ use Rattle.kds_defs.proofs.Walk.{Outcome, IsAdded, Alone, Stored_one, Answers, A
 use Rattle.kds_defs.proofs.Walk.{of_all, walk}
 use Rattle.kds_reply.specs.Keys.{IsPrintedWhole, ArePrintedWhole}
 
--- ---- lists
+-- ---- Lists
 
 all-if : {A : Type 0} (P : A → Type 0) (b : Bool) (xs ys : List A) → AllByRecursion P xs → AllByRecursion P ys
     → AllByRecursion P (if b then xs else ys)
 all-if P true xs ys h k = h
 all-if P false xs ys h k = k
 
--- ---- records
+-- ---- Records
 
 abbrev HasTextKey : Line → Type 0
 HasTextKey line = IsUtf8 line.key
@@ -76,9 +76,9 @@ batch_text : (log : Journal) (c s sh position limit : ℕ) → HasTextKeys log
 batch_text log c s sh position limit h =
     printed_text _ (beginning_text limit BATCH_BYTES _ (left_text log c s sh position h))
 
--- ---- commands
+-- ---- Commands
 
--- a line that a lawful command adds has a text key
+-- A line that a lawful command adds has a text key.
 line_text : (log : Journal) (c by : ℕ) (what : Command) (line : Line) → IsAdded log c by what line
     → IsLawfulCommand what → HasTextKey line
 line_text log c by _ _ (Alone _ _ _ (Puts name item s named fits)) lawful = lawful.1.key.text
@@ -86,7 +86,7 @@ line_text log c by _ _ (Stored_one name items before s n item among) lawful =
     (of_all IsItem items item among lawful.1.each).key.text
 line_text log c by _ _ _ lawful = IsUtf8-nil
 
--- what a command is answered after lines with text keys is printed whole
+-- What a command is answered after lines with text keys is printed whole.
 answer_text : (log : Journal) (c by : ℕ) (what : Command) (lines : List Line) (answer : Result Reply Refusal)
     → Outcome log c by what lines answer
     → HasTextKeys log → ArePrintedWhole answer
@@ -97,7 +97,7 @@ answer_text log c by _ _ _ (Adds _ _ _ (Reads t position limit T place ended beg
     batch_text log c T.key.stream T.key.shard (reach T) limit h
 answer_text log c by _ _ _ _ h = tt
 
--- ---- histories
+-- ---- Histories
 
 journal_text : (h : List Turn) → IsHistory h → HasTextKeys (journal h)
 journal_text h is = each_journal HasTextKey IsLawful (λ log c turn lawful line added.

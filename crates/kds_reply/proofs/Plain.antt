@@ -26,7 +26,7 @@ member_plain : {A : Type 0} (f : A → Data) (name : List ℕ) (o : Option A) (m
 member_plain f name None ms h rest = rest
 member_plain f name (Some x) ms h rest = rw (h x) rest
 
--- ---- shards
+-- ---- Shards
 
 range_plain : (r : Span) → IsPlain (range_data r)
 unfolding range_data
@@ -49,7 +49,7 @@ unfolding shards_data
 shards_plain shards next =
     member_plain page_string _ next _ (λ p. refl) (rw (list_plain shard_data shards shard_plain) refl)
 
--- ---- streams
+-- ---- Streams
 
 pub streams_plain : (names : List (List ℕ)) (more : Bool) → IsPlain (streams_data names more)
 unfolding streams_data

@@ -4,16 +4,16 @@ use Rattle.serde_json.specs.Data.{Data, string, Members, member, put}
 use Rattle.kds_defs.specs.declared.reply.Page.{Page}
 use Rattle.kds_token.specs.Tokens.{page_token}
 
--- a member that is left out where there is no value
+-- The members `ms` after the member `name`, which is left out if it has no value.
 abbrev pub member_if : List ℕ → Option Data → Members → Members
 member_if name None ms = ms
 member_if name (Some d) ms = member name d ms
 
--- the members with a value at this name, if there is one
+-- The members `ms` with a value at `name`, if there is a value.
 abbrev pub put_if : List ℕ → Option Data → Members → Members
 put_if name None ms = ms
 put_if name (Some d) ms = put name d ms
 
--- the token with which a listing goes on
+-- The token with which a listing goes on at the place `p`.
 abbrev pub page_string : Page → Data
 page_string p = string (page_token p)

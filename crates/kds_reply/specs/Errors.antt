@@ -7,7 +7,7 @@ use Rattle.kds_json_members.specs.declared.problem.FaultKind.TheVariants.{Unknow
 use Rattle.kds_json_members.specs.declared.problem.FaultKind.TheVariants.{Token}
 use Rattle.kds_reply_texts.specs.Errors.{error_data}
 
--- the error that a fault is
+-- The name of the error that a fault is.
 abbrev pub fault_name : FaultKind → List ℕ
 fault_name Unknown = codes "UnknownOperationException"
 fault_name Serialization = codes "SerializationException"
@@ -15,7 +15,7 @@ fault_name Missing = codes "ValidationException"
 fault_name Invalid = codes "ValidationException"
 fault_name Token = codes "InvalidArgumentException"
 
--- its message, at this member
+-- The message of a fault at the member `at`.
 abbrev pub fault_message : FaultKind → List ℕ → List ℕ
 fault_message Unknown at = codes "unknown operation"
 fault_message Serialization at = codes "body is not a JSON object"
@@ -23,6 +23,6 @@ fault_message Missing at = at ++ codes " is missing"
 fault_message Invalid at = at ++ codes " is not valid"
 fault_message Token at = at ++ codes " is not valid"
 
--- the body of a fault
+-- The body of the fault `f`.
 abbrev pub fault_text : Fault → List ℕ
 fault_text f = compact_text (error_data (fault_name f.kind) (fault_message f.kind f.member))

@@ -14,8 +14,8 @@ use Rattle.kds_reply_texts.specs.Records.{records_data}
 use Rattle.kds_reply.specs.Shards.{shards_data}
 use Rattle.kds_reply.specs.Streams.{streams_data, described_data, summary_data, scaled_data}
 
--- What a reply of the stream service tells, if there is anything to tell. No other reply is told in JSON: the last
--- line stands for those, which the condition of `reply` excludes.
+-- What a reply of the stream service tells, if there is anything to tell. No other reply is told in JSON: the last line
+-- stands for those, which the condition of `reply` excludes.
 abbrev pub reply_data : Reply → Option Data
 reply_data Done = None
 reply_data (Streams names more) = Some (streams_data names more)
@@ -29,20 +29,20 @@ reply_data (Records batch next behind children) = Some (records_data batch next 
 reply_data (Shards shards next) = Some (shards_data shards next)
 reply_data _ = None
 
--- as compact JSON, and empty where there is nothing
+-- The text of a body in compact JSON, which is empty if there is nothing to tell.
 abbrev pub body_text : Option Data → List ℕ
 body_text None = []
 body_text (Some d) = compact_text d
 
--- the body of a reply
+-- The body of the reply `r`.
 abbrev pub reply_text : Reply → List ℕ
 reply_text r = body_text (reply_data r)
 
--- the status and the body of an answer
+-- The status and the body of an answer.
 abbrev pub reply_of : Result Reply Refusal → ℕ × List ℕ
 reply_of (Ok r) = (200, reply_text r)
 reply_of (Err r) = (400, refusal_text r)
 
--- the status and the body of a fault
+-- The status and the body of the fault `f`.
 abbrev pub fault_reply : Fault → ℕ × List ℕ
 fault_reply f = (400, fault_text f)

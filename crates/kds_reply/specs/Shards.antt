@@ -1,4 +1,4 @@
--- Shards as they are shown, and listings of them.
+-- Shards as replies show them, and listings of shards.
 use Rattle.std.specs.Prelude.{ℕ, List, codes, Option, option_map}
 use Rattle.serde_json.specs.Data.{Data, object, no_members, member}
 use Rattle.kds_defs.specs.declared.reply.Page.{Page}
@@ -7,14 +7,15 @@ use Rattle.kds_reply_texts.specs.Bodies.{number_data, id_data, list_data}
 use Rattle.kds_reply.specs.Bodies.{member_if, page_string}
 use Rattle.kds_reply_texts.specs.Children.{range_data}
 
--- the sequence numbers of a shard, the ending one where it is closed (Kinesis API Reference, SequenceNumberRange)
+-- The sequence numbers of a shard, with the ending one if the shard is closed (Kinesis API Reference,
+-- SequenceNumberRange).
 unfoldable pub sequence_data : ℕ → Option ℕ → Data
 sequence_data start end =
     object
     (member_if (codes "EndingSequenceNumber") (option_map number_data end)
     (member (codes "StartingSequenceNumber") (number_data start) no_members))
 
--- a shard; its parents are named even when they are expired (Kinesis API Reference, Shard)
+-- The shard `s`, whose parents are named even when they have expired (Kinesis API Reference, Shard).
 unfoldable pub shard_data : Shard → Data
 shard_data s =
     object
@@ -24,8 +25,8 @@ shard_data s =
     (member (codes "SequenceNumberRange") (sequence_data s.start s.end)
     (member (codes "ShardId") (id_data s.no) no_members)))))
 
--- a listing, and where more shards follow the token that goes on (Kinesis API Reference, ListShards, Response
--- Elements)
+-- A listing of the shards `shards`, with the token that goes on if more shards follow (Kinesis API Reference,
+-- ListShards, Response Elements).
 unfoldable pub shards_data : List Shard → Option Page → Data
 shards_data shards next =
     object

@@ -15,7 +15,7 @@ in_pieces : (a b c d e f g : List ℕ)
     → (((((a ++ b) ++ c) ++ d) ++ e) ++ f) ++ g ≡ a ++ (b ++ (c ++ (d ++ (e ++ (f ++ g)))))
 in_pieces a b c d e f g = simp append_assoc
 
--- an object of these names, whatever their values
+-- The text of an object of these names, whatever their values.
 opened : (behind : ℕ) (token : List ℕ) (records : Data)
     → codes "{\"MillisBehindLatest\":" ++ (decimal behind ++ (codes ",\"NextShardIterator\":\"" ++ (escape token
     ++ (codes "\",\"Records\":" ++ (compact_text records ++ codes "}")))))
@@ -38,7 +38,7 @@ open_pieces batch next behind children token is =
     (codes "\",\"Records\":") (compact_text records) (codes "}")
     ∙ opened behind (iter_token next) records)
 
--- the same at the end of a closed shard
+-- The text of such an object at the end of a closed shard.
 ended : (family : Data) (behind : ℕ) (records : Data)
     → codes "{\"ChildShards\":" ++ (compact_text family ++ (codes ",\"MillisBehindLatest\":" ++ (decimal behind
     ++ (codes ",\"NextShardIterator\":null,\"Records\":" ++ (compact_text records ++ codes "}")))))

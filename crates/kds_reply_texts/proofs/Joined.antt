@@ -16,11 +16,11 @@ use Rattle.kds_reply_texts.specs.Writing.{tokens_of}
 pub more : {A : Type 0} (t u v a b : List A) → u ≡ t ++ a → v ≡ u ++ b → v ≡ t ++ (a ++ b)
 more t u v a b first second = second ∙ ap (λ ts. ts ++ b) first ∙ append_assoc t a b
 
--- the first piece of all, behind what stood there
+-- The first piece of all is added behind what stood there.
 pub added_to : {A : Type 0} (t u v a : List A) → u ≡ t → v ≡ u ++ a → v ≡ t ++ a
 added_to t u v a same first = first ∙ ap (λ ts. ts ++ a) same
 
--- the first tokens of all
+-- The first tokens of all are added to nothing.
 pub begun : {A : Type 0} (t u a : List A) → t ≡ [] → u ≡ t ++ a → u ≡ a
 begun t u a nothing first = first ∙ ap (λ ts. ts ++ a) nothing
 
@@ -37,7 +37,7 @@ pub iterator_tokens : (i : Iter) (token : List ℕ) → token ≡ iter_token i
 unfolding iterator_data
 iterator_tokens i token is = rw is refl
 
--- ---- the children of a shard
+-- ---- The children of a shard
 
 pub range_tokens : (r : Span) (end start : ℕ) → end ≡ r.end → start ≡ r.start
     → begin_object ∷ key (codes "EndingHashKey") ∷ string (decimal end) ∷ key (codes "StartingHashKey")

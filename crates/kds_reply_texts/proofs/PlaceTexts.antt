@@ -8,7 +8,7 @@ use Rattle.kds_token.specs.Ids.{shard_id}
 use Rattle.kds_defs.specs.declared.reply.Outcome.{Outcome}
 use Rattle.kds_reply_texts.specs.Bodies.{failed_count, failed_data, list_data, outcome_data, outcomes_data, place_data}
 
--- an object of these two names, whatever their texts
+-- The text of an object of these two names, whatever their texts.
 two_names : (seq id : List ℕ)
     → codes "{\"SequenceNumber\":\"" ++ (escape seq ++ (codes "\",\"ShardId\":\"" ++ (escape id ++ codes "\"}")))
     ≡ compact_text (object
@@ -19,7 +19,7 @@ two_names seq id = simp append_assoc
 in_pieces : (a b c d e : List ℕ) → (((a ++ b) ++ c) ++ d) ++ e ≡ a ++ (b ++ (c ++ (d ++ e)))
 in_pieces a b c d e = simp append_assoc
 
--- where a record was put, as its pieces were added
+-- The text of where a record was put, as its pieces were added.
 pub place_pieces : (p : Place) (id : List ℕ) → id ≡ shard_id p.shard
     → (((codes "{\"SequenceNumber\":\"" ++ escape (decimal p.seq)) ++ codes "\",\"ShardId\":\"") ++ escape id)
     ++ codes "\"}" ≡ compact_text (place_data p)
@@ -31,7 +31,7 @@ place_pieces p id is =
     ∙ ap (λ (x : List ℕ). compact_text (object (member (codes "SequenceNumber") (string (decimal p.seq))
     (member (codes "ShardId") (string x) no_members)))) is
 
--- why a record wasn't put, as its pieces were added
+-- The text of why a record wasn't put, as its pieces were added.
 two_reasons : (name message : List ℕ)
     → codes "{\"ErrorCode\":\"" ++ (escape name ++ (codes "\",\"ErrorMessage\":\"" ++ (escape message ++ codes "\"}")))
     ≡ compact_text (object
@@ -47,7 +47,7 @@ failed_pieces name message =
     in_pieces (codes "{\"ErrorCode\":\"") (escape name) (codes "\",\"ErrorMessage\":\"") (escape message) (codes "\"}")
     ∙ two_reasons name message
 
--- what became of each record, whatever the array is
+-- The text of what became of each record, whatever the array is.
 counted : (n : ℕ) (d : Data)
     → codes "{\"FailedRecordCount\":" ++ (decimal n ++ (codes ",\"Records\":" ++ (compact_text d ++ codes "}")))
     ≡ compact_text (object

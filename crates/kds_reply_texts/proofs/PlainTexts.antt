@@ -42,7 +42,7 @@ escape_plain : (s : List ℕ) → IsPlain s → escape s ≡ s
 escape_plain [] h = refl
 escape_plain (x ∷ xs) h = λ i. plain_byte x h.0 i ++ escape_plain xs h.1 i
 
--- ---- base64
+-- ---- Base64
 
 symbol : (k : ℕ) → k < 64 → is_plain (slice_index standard.encode_table k) ≡ true
 symbol k small = AllPass-from_list_all is_plain standard.encode_table refl k 0 small
@@ -69,7 +69,7 @@ symbols (a ∷ b ∷ c ∷ rest) bytes =
       ),
     )
 
--- the alphabet and the padding are plain
+-- The alphabet of base64 and its padding have no byte to escape.
 pub escape-encoded : (m : List ℕ) → ((k : ℕ) → get_or m k 0 < 256)
     → escape (encode_of standard m) ≡ encode_of standard m
 escape-encoded m bytes =
@@ -77,7 +77,7 @@ escape-encoded m bytes =
     (plain-append (encode_symbols standard.encode_table m) _ (symbols m bytes)
     (plain-replicate (padding_len (length m)) 61 refl))
 
--- ---- digits
+-- ---- Digits
 
 digit : (x : ℕ) → 48 ≤ x → x ≤ 57 → is_plain x ≡ true
 digit x low high = rw (ne_eqb x 34 (λ e. omega arith), ne_eqb x 92 (λ e. omega arith), le-ltb x 32 (omega arith)) refl
@@ -93,7 +93,7 @@ escape-decimal n small =
     escape_plain (decimal n)
     (digits_plain (decimal n) (λ i inside. digit_at (decimal n) i (decimal_is_IsNumeral n small).0.1 inside))
 
--- ---- texts that stand between quotes as they are, where n bytes were looked at, which are all
+-- ---- Texts that stand between quotes as they are, where n bytes were looked at, which are all
 
 below_128 : (d : List ℕ) (n : ℕ) → length d ≤ n → ((k : ℕ) → k < n → get_or d k 0 < 128) → IsAscii d
 below_128 d n all low i =

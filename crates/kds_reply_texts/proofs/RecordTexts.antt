@@ -17,7 +17,7 @@ use Rattle.serde_json.specs.View.{items_of}
 use Rattle.kds_defs.specs.declared.reply.Stored.{Stored}
 use Rattle.kds_reply_texts.specs.Records.{record_data}
 
--- a record, whose digits and base64 stand between quotes as they are
+-- The text of a record, whose digits and base64 stand between quotes as they are.
 pub record_text : (r : Stored)
     → codes "{\"ApproximateArrivalTimestamp\":"
     ++ (decimal (r.arrival / 1000) ++ (codes ",\"Data\":\"" ++ (escape (encode_of standard r.payload)
@@ -28,7 +28,7 @@ pub record_text : (r : Stored)
 unfolding record_data escape_byte
 record_text r = simp append_assoc
 
--- the length of base64, where it fits
+-- The length of base64, if it fits.
 pub size_is : (n size : ℕ) (r : Option ℕ) → (encoded_size n true < 2 ^ 64 → r ≡ Some (encoded_size n true))
     → (2 ^ 64 ≤ encoded_size n true → r ≡ None) → r ≡ Some size → size ≡ encoded_size n true
 size_is n size r fits long is = elim (cases_lt (encoded_size n true) (2 ^ 64)) [
@@ -36,7 +36,7 @@ size_is n size r fits long is = elim (cases_lt (encoded_size n true) (2 ^ 64)) [
   | inr over ↦ let e = long over in absurd (cc)
 ]
 
--- what was written over the room that was made at the end of old
+-- What was written over the room that was made at the end of `old`.
 pub written_over : (s new rest old text part : List ℕ) (at size wide k : ℕ) → take at s ≡ old → at ≡ length old
     → length s ≡ at + size → k ≡ length s → size ≡ wide
     → length new ≡ length part → length new + at ≡ length s → new ≡ text ++ drop wide part
@@ -53,7 +53,7 @@ written_over s new rest old text part at size wide k front is long all fits same
     ap length bytes ∙ length-append old text ∙ omega (arith, ap length over_all) in
     take_at _ _ k len ∙ bytes
 
--- what a writer has of one string
+-- What a writer has of one string.
 pub string_text : (before : List ℕ) (ts : List Token) (text : List ℕ) → before ≡ [] → ts ≡ string text ∷ []
     → before ++ print ts ≡ quoted text
 unfolding print_from
@@ -63,7 +63,7 @@ pub in_pieces : (a b c d e f g h i : List ℕ) → (((((((a ++ b) ++ c) ++ d) ++
     ++ (b ++ (c ++ (d ++ (e ++ (f ++ (g ++ (h ++ i)))))))
 in_pieces a b c d e f g h i = simp append_assoc
 
--- a record, as its pieces were added
+-- The text of a record, as its pieces were added.
 pub record_pieces : (r : Stored) (n : ℕ) (payload name : List ℕ) → n ≡ r.arrival / 1000 → payload ≡ r.payload
     → name ≡ r.key
     → (((((((codes "{\"ApproximateArrivalTimestamp\":" ++ decimal n) ++ codes ",\"Data\":\"")
@@ -77,7 +77,7 @@ record_pieces r n payload name is_n is_payload is_name =
     (escape (decimal r.seq)) (codes "\"}")
     ∙ record_text r)
 
--- ---- items one after another, as records and outcomes are
+-- ---- Items one after another, as records and outcomes are
 
 pub next_item : {A : Type 0} (f : A → Data) (xs : List A) (i : ℕ) (x : A) (later : Bool) (out parted more all : List ℕ)
     → i < length xs → x ≡ get_or xs i x
@@ -93,7 +93,7 @@ next_item f xs i x later out parted more all inside is comma text whole =
     ∙ append_assoc out (comma_if later) (compact_text (f x) ++ rest) in
     joined ∙ ap (λ ys. out ++ items_text later (items_of (map f ys))) (sym here) ∙ whole
 
--- the end of an array, where no item is left
+-- The end of an array, if no item is left.
 pub last_item : {A : Type 0} (f : A → Data) (xs : List A) (i : ℕ) (later : Bool) (out all : List ℕ)
     → length xs ≤ i → out ++ items_text later (items_of (map f (drop i xs))) ≡ all → out ++ 93 ∷ [] ≡ all
 last_item f xs i later out all past whole =

@@ -1,4 +1,4 @@
--- The children of a shard, as they are shown.
+-- The children of a shard, as replies show them.
 use Rattle.std.specs.Prelude.{ℕ, List, ◌++◌, codes}
 use Rattle.std.specs.Option.{option_to_list}
 use Rattle.serde_json.specs.Data.{Data, object, no_members, member}
@@ -6,18 +6,18 @@ use Rattle.kds_base.specs.Span.{Span}
 use Rattle.kds_defs.specs.declared.reply.Shard.{Shard}
 use Rattle.kds_reply_texts.specs.Bodies.{number_data, id_data, list_data}
 
--- a range of hash keys (Kinesis API Reference, HashKeyRange)
+-- The range of hash keys `r` (Kinesis API Reference, HashKeyRange).
 unfoldable pub range_data : Span → Data
 range_data r =
     object
     (member (codes "EndingHashKey") (number_data r.end)
     (member (codes "StartingHashKey") (number_data r.start) no_members))
 
--- the parent, and then the adjacent parent
+-- The parent of the shard `s`, and then its adjacent parent, as far as it has them.
 abbrev pub parents_of : Shard → List ℕ
 parents_of s = option_to_list s.parent ++ option_to_list s.adjacent
 
--- a child of a shard (Kinesis API Reference, ChildShard)
+-- The child `s` of a shard (Kinesis API Reference, ChildShard).
 unfoldable pub child_data : Shard → Data
 child_data s =
     object

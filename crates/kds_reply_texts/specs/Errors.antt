@@ -7,13 +7,13 @@ use Rattle.kds_defs.specs.declared.reply.Refusal.TheVariants.{NoStream, StreamTh
 use Rattle.kds_defs.specs.declared.reply.Refusal.TheVariants.{BadSplit, BadNumber, BadRetention, Expired, PageExpired}
 use Rattle.kds_defs.specs.declared.reply.Refusal.TheVariants.{Full, Spent, Throttled}
 
--- the name of an error, and a message
+-- The error with the name `name` and the message `message`.
 abbrev pub error_data : List ℕ → List ℕ → Data
 error_data name message =
     object (member (codes "__type") (string name) (member (codes "message") (string message) no_members))
 
--- The error that a refusal of the stream service is. No other refusal is told in JSON: the last lines stand for those,
--- which the condition of `reply` excludes.
+-- The name of the error that a refusal of the stream service is. No other refusal is told in JSON: the last lines stand
+-- for those, which the condition of `reply` excludes.
 abbrev pub refusal_name : Refusal → List ℕ
 refusal_name NoStream = codes "ResourceNotFoundException"
 refusal_name StreamThere = codes "ResourceInUseException"
@@ -46,6 +46,6 @@ refusal_message Spent = codes "numbers are used up"
 refusal_message (Throttled sh) = codes "rate exceeded"
 refusal_message _ = []
 
--- the body of a refusal
+-- The body of the refusal `r`.
 abbrev pub refusal_text : Refusal → List ℕ
 refusal_text r = compact_text (error_data (refusal_name r) (refusal_message r))

@@ -1,4 +1,4 @@
--- What a writer adds for a value.
+-- What a writer of JSON adds for a value.
 use Rattle.std.specs.Prelude.{ℕ, List, [], ◌∷◌, Option, Some, None}
 use Rattle.json.specs.Token.{Token, string}
 use Rattle.json.specs.Tree.{json_tokens}
@@ -6,11 +6,11 @@ use Rattle.serde_json.specs.Data.{Data}
 use Rattle.serde_json.specs.Written.{outline}
 use Rattle.kds_token.specs.Ids.{shard_id}
 
--- the tokens of a value
+-- The tokens of the value `d`.
 abbrev pub tokens_of : Data → List Token
 tokens_of d = json_tokens (outline d)
 
--- the token of a shard's id, if there is one
+-- The token of a shard's id, if there is one.
 abbrev pub id_tokens : Option ℕ → List Token
 id_tokens None = []
 id_tokens (Some shard) = string (shard_id shard) ∷ []

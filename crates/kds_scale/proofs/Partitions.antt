@@ -1,5 +1,5 @@
--- What a step of a scaling does to the shards of a stream: the shards that it names are open and touch, or contain the
--- key, and the starts of the open shards are those after the step.
+-- What a step of a scaling does to the shards of a stream: the shards that it names are open and adjacent, or one
+-- contains the key, and the starts of the open shards are those after the step.
 use Rattle.std.proofs.Common.{◌≡◌, ℕ, zero, suc, ◌+◌, ◌-◌, ◌*◌, ◌/◌, ◌%◌, ◌^◌, ◌<◌, ◌≤◌, Bool, true, false, List, []}
 use Rattle.std.proofs.Common.{◌∷◌, ◌++◌, length, Option, Some, None, refl, sym, ap, subst, ◌∙◌, arith}
 use Rattle.std.specs.Prelude.{◌==◌, ◌&&◌, ◌||◌, cond, not, nat_le, nat_lt, slice_get, if◌then◌else◌}
@@ -19,7 +19,7 @@ use Rattle.kds_defs.proofs.Tiles.{other-closed, tiled_split, tiled_merge, width_
 use Rattle.kds_defs.proofs.Members.{in_filter, in_with_start}
 use Rattle.kds_defs.proofs.Rising.{rise_filter, rise_with, same_starts}
 
--- ---- how many open shards start at a key
+-- ---- How many open shards start at a key
 
 abbrev at_start : Span → ℕ → ℕ
 at_start r k = if r.start == k then 1 else 0
@@ -44,7 +44,7 @@ times-closed (y ∷ ys) zero closing x k is open_now =
     )
 times-closed (y ∷ ys) (suc sh) closing x k is open_now = omega (arith, times-closed ys sh closing x k is open_now)
 
--- a shard that is open and starts at the key is counted
+-- A shard that is open and starts at the key `k` is counted.
 times-at : (xs : List ShardState) (sh : ℕ) (x : ShardState) (k : ℕ) → slice_get xs sh ≡ Some x → is_open x ≡ true
     → x.range.start ≡ k → 1 ≤ start_times xs k
 times-at [] sh x k is open_now at = absurd cc
@@ -58,7 +58,7 @@ times-at (y ∷ ys) zero x k is open_now at =
     itself r k h = grind (arith, nat_tests)
 times-at (y ∷ ys) (suc sh) x k is open_now at = omega (arith, times-at ys sh x k is open_now at)
 
--- a range that isn't empty contains its start
+-- A range that isn't empty contains its start.
 start_within : (r : Span) (k : ℕ) → r.start ≤ r.end → at_start r k ≤ one r k
 start_within r k h = grind (arith, nat_tests)
 
@@ -71,7 +71,7 @@ times_within [] k ordered = omega arith
 times_within (x ∷ xs) k ordered =
     omega (arith, within (is_open x) _ _ (start_within x.range k ordered.0), times_within xs k ordered.1)
 
--- ---- ends below 2^128
+-- ---- Ends below 2^128
 
 abbrev pub IsBounded : ShardState → Type 0
 IsBounded x = x.range.end < 2 ^ 128
@@ -97,11 +97,11 @@ once_by false xs k is tiled bounded =
     let far : 2 ^ 128 ≤ k = grind (arith, nat_tests) in
     omega (arith, times_within xs k tiled.ordered, beyond xs k bounded far)
 
--- at most one open shard starts at a key
+-- At most one open shard starts at a key.
 pub once : (xs : List ShardState) (k : ℕ) → IsTiled xs → AllByRecursion IsBounded xs → start_times xs k ≤ 1
 once xs k tiled bounded = once_by (nat_lt k (2 ^ 128)) xs k refl tiled bounded
 
--- ---- the starts of the open shards
+-- ---- The starts of the open shards
 
 abbrev pub open_starts : List ShardState → List ℕ
 open_starts xs = starts_among (filter is_open xs)
@@ -140,7 +140,7 @@ rising : (xs : List ShardState) → ((k : ℕ) → start_times xs k ≤ 1) → R
 rising [] few = tt
 rising (x ∷ xs) few = rising_by (is_open x) x xs refl (few x.range.start) (rising xs (λ k. omega (arith, few k)))
 
--- ---- one open shard contains a key
+-- ---- One open shard contains a key
 
 abbrev HasKey : List ShardState → ℕ → ℕ → ShardState → Type 0
 HasKey xs k sh x = (slice_get xs sh ≡ Some x) × (is_open x ≡ true) × Covers x.range k
@@ -186,7 +186,7 @@ only_one (z ∷ zs) k (suc i) zero x y few h g =
 only_one (z ∷ zs) k (suc i) (suc j) x y few h g =
     ap suc (only_one zs k i j x y (omega arith) (h.0, h.1, h.2) (g.0, g.1, g.2))
 
--- the open shard that starts at a start
+-- The shard `x` is the open shard that starts at the start `b`.
 pub record Starts (xs : List ShardState) (b sh : ℕ) (x : ShardState) : Type 0 where
   pub stands : slice_get xs sh ≡ Some x
   pub is_open_now : is_open x ≡ true
@@ -216,14 +216,14 @@ starts_there : (xs : List ShardState) (k : ℕ) → nat_lt 0 (start_times xs k) 
 starts_there [] k some = absurd cc
 starts_there (x ∷ xs) k some = starts_by (is_open x) x xs k refl some (starts_there xs k) (x.range.start == k) refl
 
--- ---- what a scaling needs of the shards of a stream
+-- ---- What a scaling needs of the shards of a stream
 
 pub record IsScalable (xs : List ShardState) : Type 0 where
   pub tiled : IsTiled xs
   pub bounded : AllByRecursion IsBounded xs
   pub numbered : AreNumbered 0 xs
 
--- the starts of its open shards rise
+-- The starts of the open shards rise.
 pub rise_open : (xs : List ShardState) → IsScalable xs → RiseFrom 0 (open_starts xs)
 rise_open xs ok = rising xs (λ k. once xs k ok.tiled ok.bounded)
 
@@ -233,7 +233,7 @@ bounded-at [] sh x is h = absurd cc
 bounded-at (y ∷ ys) zero x is h = let e : y ≡ x = cc in omega (arith, h.0, ap (λ (z : ShardState). z.range.end) e)
 bounded-at (y ∷ ys) (suc sh) x is h = bounded-at ys sh x is h.1
 
--- the home of a key
+-- The shard `x` is the home of the key `k`.
 pub record IsHomeOf (xs : List ShardState) (k : ℕ) (x : ShardState) : Type 0 where
   pub stands : slice_get xs (home_among (filter is_open xs) k) ≡ Some x
   pub is_open_now : is_open x ≡ true
@@ -251,14 +251,14 @@ home_of xs k ok below =
       },
     )
 
--- what stands at one number is one shard
+-- Equal numbers are those of one shard.
 same_shard : (xs : List ShardState) (i j : ℕ) (x y : ShardState) → slice_get xs i ≡ Some x → slice_get xs j ≡ Some y
     → i ≡ j → x ≡ y
 same_shard xs i j x y h g e = same_some x y (sym h ∙ ap (slice_get xs) e ∙ g)
 
--- ---- a merge at a start
+-- ---- A merge at a start
 
--- the shard that ends before the start, and the one that begins at it
+-- The shards `low` and `high` are the shard that ends before the start `b`, and the shard that begins at `b`.
 pub record Joins (xs : List ShardState) (b : ℕ) : Type 0 where
   pub low : ShardState
   pub high : ShardState
@@ -319,7 +319,7 @@ follow_so a b h = grind (arith, nat_tests)
 adjacent_so : (a b : Span) → a.end + 1 ≡ b.start → are_adjacent a b ≡ true
 adjacent_so a b h = ap (λ (r : Bool). r || follows b a) (follow_so a b h)
 
--- the two shards touch
+-- The two shards of a merge are adjacent.
 pub joins_touch : (xs : List ShardState) (b : ℕ) (j : Joins xs b) → are_adjacent j.low.range j.high.range ≡ true
 joins_touch xs b j = adjacent_so j.low.range j.high.range j.touch
 
@@ -337,7 +337,7 @@ joins_differ xs b some j e =
     let from : j.low.range.start ≤ b - 1 = j.low_home.contains.0 in
     omega (arith, from, ap (λ (z : ShardState). z.range.start) same, j.at, some)
 
--- the shards after the merge
+-- The shards `xs` after the merge at the start `b`.
 abbrev pub after_join : List ShardState → ℕ → Closing → ℕ → List ShardState
 after_join xs b closing start =
     merged_shards (home_among (filter is_open xs) (b - 1)) (home_among (filter is_open xs) b) closing start xs
@@ -371,7 +371,7 @@ left_by false h b k a t is sum at few =
     let z : a ≡ t = grind (arith, nat_tests) in
     ap (nat_lt 0) z ∙ ap (λ (r : Bool). not r && nat_lt 0 t) (sym is)
 
--- its starts are those without the one
+-- After the merge, the starts of the open shards are those before without `b`.
 pub starts_joined : (xs : List ShardState) (b : ℕ) (closing : Closing) (start : ℕ) → IsScalable xs → 0 < b → Joins xs b
     → open_starts (after_join xs b closing start) ≡ without b (open_starts xs)
 starts_joined xs b closing start ok some j =
@@ -410,7 +410,7 @@ pub range_bounded : (xs : List ShardState) (sh : ℕ) (o : Option ShardState) �
 range_bounded xs sh None is h = omega arith
 range_bounded xs sh (Some x) is h = bounded-at xs sh x is h
 
--- ends below 2^128 stay so
+-- If all ranges end below 2 ^ 128, they do so after a merge.
 pub bounded_merged : (xs : List ShardState) (sh other : ℕ) (closing : Closing) (start : ℕ) → AllByRecursion IsBounded xs
     → AllByRecursion IsBounded (merged_shards sh other closing start xs)
 bounded_merged xs sh other closing start h =
@@ -436,7 +436,7 @@ bounded_new (suc n) start low high =
     let f = width_fits n (2 ^ 128 / suc n) (2 ^ 128 % suc n) (omega arith) (omega arith) high in
     bounded_uniform (2 ^ 128 / suc n) 0 n 0 start f.0 (omega (arith, f.1))
 
--- the starts of the uniform ranges lie below 2^128
+-- The starts of the uniform ranges lie below 2 ^ 128.
 below_uniform : (w a n : ℕ) → a + n * w < 2 ^ 128
     → AllByRecursion (λ b. b < 2 ^ 128) (starts_of (uniform_from w a (suc n)))
 below_uniform w a zero fits = (omega arith, tt)
@@ -505,7 +505,7 @@ scalable_joined xs b closing start ok j =
       numbered = numbered_merged xs sh other closing start ok.numbered;
     }
 
--- ---- a split at a key that is no start
+-- ---- A split at a key that is no start
 
 pub record Cuts (xs : List ShardState) (b : ℕ) : Type 0 where
   pub shard : ShardState
@@ -563,7 +563,7 @@ few_by false b k a t is sum few gone = grind (arith, nat_tests)
 no_times : (n : ℕ) → nat_lt 0 n ≡ false → n ≡ 0
 no_times n h = grind (arith, nat_tests)
 
--- its starts are those with one more
+-- After the split, the starts of the open shards are those before with `b` added.
 pub starts_cut : (xs : List ShardState) (b : ℕ) (closing : Closing) (start : ℕ) → IsScalable xs
     → is_start (open_starts xs) b ≡ false → Cuts xs b
     → open_starts (after_cut xs b closing start) ≡ with_start b (open_starts xs)

@@ -1,4 +1,4 @@
--- What was read and written where a connection ends.
+-- What was read and written when a connection ends.
 use Rattle.std.proofs.Common.{◌≡◌, ◌≢◌, ℕ, List, [], ◌∷◌, ◌++◌, sym, ap, ◌∙◌, subst, refl, inl, inr, Option, Some, None}
 use Rattle.std.proofs.Common.{Result}
 use Rattle.std.specs.Option.{IfSome}
@@ -22,9 +22,9 @@ use Rattle.kds_server.specs.Texts.{Written, WrittenPart, Tells, IsAnswerStatus, 
 use Rattle.kds_server.specs.Serving.{AsksAtMostOnce}
 use Rattle.kds_server.specs.Steps.{Reads, IsReadStop}
 
--- ---- reading
+-- ---- Reading
 
--- what the session had to send was written
+-- What the session had to send was written.
 pub flushed : (all left : Option (List ℕ)) (s new : SessionState) (start held now : Option (List ℕ))
     (given : List Command) (told : Answers) → Reads all left s start held given told
     → Passes s new (sent_more s.output) → Appends held now s.output
@@ -37,7 +37,7 @@ flushed all left s new start held now given told r stands o = record {
   written = Appends-trans start held now r.sent s.output r.written o;
 }
 
--- ---- the whole text, where the session is quiet and has nothing to send
+-- ---- The whole text, where the session is quiet and has nothing to send
 
 written_by : WholeText
     → (s : SessionState) (fed : List ℕ) (given : List Command) (told : Answers) (sent : List ℕ)
@@ -59,7 +59,7 @@ tells_at bytes left given told start now closed w = inr w
 tells_at bytes left given told start now inside w = w
 tells_at bytes left given told start now (refused status) w = (status, w)
 
--- the input has ended
+-- The input has ended.
 tells_end : WholeText
     → (all left : Option (List ℕ)) (s : SessionState) (given : List Command) (told : Answers)
     (start now : Option (List ℕ)) → Reads all left s start now given told → IsQuiet s → s.output ≡ []
@@ -83,7 +83,7 @@ tells_status whole status all left s flushed_to asked given told start now r qui
     (tells_end whole all left s given told start now r (subst (λ (z : SessionState). IsQuiet z) (sym (e ∙ same)) quiet)
     (ap (λ (z : SessionState). z.output) (e ∙ same)) ends)
 
--- the connection has ended before
+-- The connection has ended before.
 pub tells_over : WholeText → NothingFollows
     → (status : Status) (all left : Option (List ℕ)) (s asked : SessionState) (given : List Command) (told : Answers)
     (start now : Option (List ℕ)) → Reads all left s start now given told
@@ -100,7 +100,7 @@ tells_over whole follows status (Some bytes) (Some rest) s asked given told star
     (written_by whole s bytes given told r.sent start now st quiet_now (ap (λ (z : SessionState). z.output) same)
     r.written))
 
--- the source failed
+-- The source failed.
 tells_read : WholeText
     → (all left after : Option (List ℕ)) (s : SessionState) (given : List Command) (told : Answers)
     (start now : Option (List ℕ)) → Reads all left s start now given told → IsQuiet s → s.output ≡ []
@@ -117,7 +117,7 @@ tells_read whole (Some bytes) (Some rest) (Some same) s given told start now r q
   written_by whole s r.fed given told r.sent start now r.stands quiet none r.written,
 )
 
--- ---- a front of the text
+-- ---- A front of the text
 
 part_by : FirstPart → (s : SessionState) (fed more : List ℕ) (given : List Command) (told : Answers) (sent : List ℕ)
     (start now : Option (List ℕ)) → StandsFor s (traffic fed given told sent)
@@ -130,7 +130,7 @@ part_by first s fed more given told sent start now st front = record {
       subst (λ (z : List ℕ). AppendsFront start now z) (sym r.1) (front_longer start now (sent ++ s.output) r.0 front);
 }
 
--- a front of the output was written
+-- A prefix of the output was written.
 pub tells_part : FirstPart
     → (all left : Option (List ℕ)) (s : SessionState) (given : List Command) (told : Answers)
     (start held now : Option (List ℕ)) → Reads all left s start held given told
@@ -145,7 +145,7 @@ tells_part first (Some bytes) (Some rest) s given told start held now r o =
 pub front_none : (held : Option (List ℕ)) (text : List ℕ) → AppendsFront held held text
 front_none held text = ([], text, refl, Appends-nil held)
 
--- where memory ran out
+-- What was written so far, if memory ran out.
 pub tells_so_far : FirstPart
     → (all left : Option (List ℕ)) (s : SessionState) (given : List Command) (told : Answers)
     (start held : Option (List ℕ)) → Reads all left s start held given told
@@ -153,7 +153,7 @@ pub tells_so_far : FirstPart
 tells_so_far first all left s given told start held r =
     tells_part first all left s given told start held held r (front_none held s.output)
 
--- reading stopped
+-- Reading stopped.
 pub tells_stop : WholeText → FirstPart → (status : Status) → IsReadStop status
     → (all left after : Option (List ℕ)) (s asked : SessionState) (given : List Command) (told : Answers)
     (start now : Option (List ℕ)) → Reads all left s start now given told
@@ -166,7 +166,7 @@ tells_stop whole first Memory k all left after s asked given told start now r qu
     tells_so_far first all left s given told start now r
 tells_stop whole first other k all left after s asked given told start now r quiet same keeps = absurd k
 
--- a command waits whose turn wasn't made
+-- A command waits whose turn wasn't made.
 part_asked : (bytes : List ℕ) (given : List Command) (told : Answers) (what : Command) (start now : Option (List ℕ))
     → WrittenPart bytes (given ++ what ∷ []) told start now → WrittenPart bytes given told start now
 part_asked bytes given told what start now p = record {
@@ -180,7 +180,7 @@ pub tells_asked : (all : Option (List ℕ)) (given : List Command) (told : Answe
 tells_asked None given told what start held p = tt
 tells_asked (Some bytes) given told what start held p = part_asked bytes given told what start held p
 
--- a turn was made, and its answer wasn't written
+-- A turn was made, and its answer wasn't written.
 part_told : (bytes : List ℕ) (given : List Command) (told : Answers) (a : Result Reply Refusal)
     (start now : Option (List ℕ)) → WrittenPart bytes given told start now
     → WrittenPart bytes given (told ++ a ∷ []) start now
@@ -197,7 +197,7 @@ pub tells_told : (all : Option (List ℕ)) (given : List Command) (told : Answer
 tells_told None given told a start held p = tt
 tells_told (Some bytes) given told a start held p = part_told bytes given told a start held p
 
--- ---- how a connection ends of which no more is read
+-- ---- How a connection ends of which no more is read
 
 pub kind_at : (e : Ending) → IsAnswerStatus (status_at e)
 kind_at boundary = tt
@@ -214,7 +214,7 @@ end_not_write _ h = cc
 pub some_none : (s : Status) → Some s ≡ None → ⊥
 some_none s e = cc
 
--- ---- what is said of a status
+-- ---- What is said of a status
 
 pub if_some : (o : Option Status) (P Q : Status → Type 0) → ((s : Status) → P s → Q s) → IfSome o P → IfSome o Q
 if_some None P Q f p = tt

@@ -6,7 +6,7 @@ use Rattle.kds_stream.specs.Value.{StreamValue, settled}
 use Rattle.kds_service.specs.Clocks.{advanced, retreated, settled_in}
 use Rattle.kds_service.specs.Shown.{AreAt, AreShown, IsRising, ServiceValue, ShowsAll, is_among, numbers_of, service}
 
--- ---- where the streams stand
+-- ---- Where the streams stand
 
 pub advanced_at : (clock : ℕ) (vs : List StreamValue) → AreAt clock (map (advanced clock) vs)
 advanced_at clock [] = tt
@@ -17,22 +17,22 @@ settled_at c i [] at = tt
 settled_at c zero (v ∷ vs) at = at
 settled_at c (suc i) (v ∷ vs) at = (at.0, settled_at c i vs at.1)
 
--- a reading that settling keeps is that of all
+-- A reading that settling keeps for each stream is kept for all of them.
 pub kept_in : {Y : Type 0} (g : StreamValue → Y) → ((v : StreamValue) → g (settled v) ≡ g v)
     → (i : ℕ) (vs : List StreamValue) → map g (settled_in i vs) ≡ map g vs
 kept_in g same i [] = refl
 kept_in g same zero (v ∷ vs) = ap (λ y. y ∷ map g vs) (same v)
 kept_in g same (suc i) (v ∷ vs) = ap (λ ys. g v ∷ ys) (kept_in g same i vs)
 
--- ---- the service
+-- ---- The service
 
--- with the same streams, and the same turn
+-- Services with the same streams, and the same turn, are the same.
 pub same_service : (c b n t u : ℕ) (vs us : List StreamValue) → vs ≡ us → t ≡ u
     → record (service c b n vs) { turn = t } ≡ record (service c b n us) { turn = u }
 same_service c b n t u vs us are is = ap (λ xs. record (service c b n xs) { turn = t }) are
     ∙ ap (λ k. record (service c b n us) { turn = k }) is
 
--- ---- the stream at a place
+-- ---- The stream at a place
 
 pub settled_here : (i : ℕ) (vs : List StreamValue) (x v : StreamValue) → slice_get vs i ≡ Some x → v ≡ settled x
     → slice_set vs i v ≡ settled_in i vs
@@ -51,15 +51,15 @@ pub back_at : (c clock : ℕ) (vs : List StreamValue) → AreAt c vs → AreAt c
 back_at c clock [] at = tt
 back_at c clock (v ∷ vs) at = (at.0, back_at c clock vs at.1)
 
--- a reading that each keeps is that of all
+-- A reading that is kept for each stream is kept for all of them.
 pub kept_of : {Y : Type 0} (g : StreamValue → Y) (f : StreamValue → StreamValue) → ((v : StreamValue) → g (f v) ≡ g v)
     → (vs : List StreamValue) → map g (map f vs) ≡ map g vs
 kept_of g f same [] = refl
 kept_of g f same (v ∷ vs) = ap (λ y. y ∷ map g (map f vs)) (same v) ∙ ap (λ ys. g v ∷ ys) (kept_of g f same vs)
 
--- ---- what they show
+-- ---- What they show
 
--- streams of the same numbers, at another clock, that show what the others showed
+-- Streams of the same numbers, at another clock, show what the others showed.
 pub shows_along : (w u : ServiceValue) (log : Journal) → u.made ≡ w.made → numbers_of u.streams ≡ numbers_of w.streams
     → AreAt u.clock u.streams → AreShown log u.streams → ShowsAll w log → ShowsAll u log
 shows_along w u log made numbers at shown all = record {
@@ -71,7 +71,7 @@ shows_along w u log made numbers at shown all = record {
   unmade = λ s later. all.unmade s (subst (λ n. n < s) made later);
 }
 
--- each shows the same with the clock that it had, whatever it remembers
+-- Each stream shows the same with the clock that it had, whatever it remembers.
 pub back_shown : (clock : ℕ) (vs : List StreamValue) (log : Journal) → AreShown log vs
     → AreShown log (map retreated (map (advanced clock) vs))
 back_shown clock [] log shown = tt

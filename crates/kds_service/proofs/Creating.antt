@@ -20,7 +20,7 @@ use Rattle.kds_service.proofs.Readings.{live_count, open_are, some_named}
 use Rattle.kds_service.specs.Places.{is_full, place_of}
 use Rattle.kds_service.specs.Shown.{Leads, ServiceValue, ShowsAll, StaysShownWith, service}
 
--- the limits are those of the service
+-- The limits are those of the service.
 full : (w : ServiceValue) (log : Journal) (count : ℕ) → ShowsAll w log
     → (nat_le LIVE_STREAMS (length (live_streams log)) || nat_lt OPEN_SHARDS (open_count log + count))
     ≡ is_full w.streams count
@@ -28,7 +28,7 @@ full w log count all =
     ap (λ n. nat_le LIVE_STREAMS n || nat_lt OPEN_SHARDS (open_count log + count)) (live_count w log all)
     ∙ ap (λ n. nat_le LIVE_STREAMS (length w.streams) || nat_lt OPEN_SHARDS (n + count)) (open_are w log all)
 
--- what `others` ensures of a stream that is added
+-- What `others` ensures of a stream that is added.
 abbrev pub Adds : Type 0
 Adds = (c b n by count : ℕ) (name : List ℕ) (vs : List StreamValue) (v : StreamValue) (log : Journal)
     → ShowsAll (service c b n vs) log

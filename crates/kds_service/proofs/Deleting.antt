@@ -15,7 +15,7 @@ use Rattle.kds_service.proofs.Readings.{named_at, none_named}
 use Rattle.kds_service.specs.Places.{place_of}
 use Rattle.kds_service.specs.Shown.{LeadsTo, ShowsAll, service}
 
--- what `others` ensures of a stream that is taken out
+-- What `others` ensures of a stream that is taken out.
 abbrev pub Removes : Type 0
 Removes = (c b n by i : ℕ) (vs : List StreamValue) (x : StreamValue) (log : Journal) → ShowsAll (service c b n vs) log
     → slice_get vs i ≡ Some x → ShowsAll (service c b n (remove vs i)) (plain_line c by (entry.Gone x.no) ∷ log)

@@ -24,7 +24,7 @@ module _ {K X : Type 0} where
   keys_set (e ∷ es) zero w = refl
   keys_set (e ∷ es) (suc i) w = ap (λ ys. e.0 ∷ ys) (keys_set es i w)
 
-  -- a new key goes last
+  -- A new key goes last.
   pub insert_last : (eq : K → K → Bool) (n : ℕ) (es : List (K × X)) (k : K) (v : X)
       → position_from (eq k) n (keys_of es) ≡ None → insert_entry eq es k v ≡ es ++ ((k, v) ∷ [])
   insert_last eq n [] k v none = refl
@@ -42,7 +42,7 @@ map_take_out f [] (suc i) = refl
 map_take_out f (x ∷ xs) zero = refl
 map_take_out f (x ∷ xs) (suc i) = ap (λ ys. f x ∷ ys) (map_take_out f xs i)
 
--- ---- the streams stand where they did
+-- ---- The streams stand where they did
 
 pub placed_set : (c i : ℕ) (es : List (List ℕ × StreamValue)) (x v : StreamValue) → ArePlaced c es
     → slice_get (values_of es) i ≡ Some x → v.name ≡ x.name → v.clock ≡ c → ArePlaced c (set_value_at es i v)
@@ -52,7 +52,7 @@ placed_set c i es x v placed here name clock = record {
   at = subst (AreAt c) (sym (values_set es i v)) (all_set (λ u. u.clock ≡ c) i (values_of es) v placed.at clock);
 }
 
--- after an error nothing has changed
+-- After an error nothing has changed.
 pub kept_set : {A E : Type 0} (r : Result A E) (i : ℕ) (es : List (List ℕ × StreamValue)) (x v : StreamValue)
     → slice_get (values_of es) i ≡ Some x → OnErr r (v ≡ x) → OnErr r (values_of (set_value_at es i v) ≡ values_of es)
 kept_set (Ok a) i es x v here same = tt
@@ -86,7 +86,7 @@ placed_remove c i es fs placed taken = record {
       (all_remove (λ u. u.clock ≡ c) i (values_of es) placed.at);
 }
 
--- the same keys over streams of the same names
+-- Entries with the same keys over streams of the same names are placed.
 pub placed_along : (c : ℕ) (es fs : List (List ℕ × StreamValue)) → keys_of es ≡ names_of (values_of es)
     → keys_of fs ≡ keys_of es → names_of (values_of fs) ≡ names_of (values_of es) → AreAt c (values_of fs)
     → ArePlaced c fs

@@ -22,7 +22,7 @@ use Rattle.kds_service.specs.Keyed.{is_listed_in, is_listed_of, listed_keys, liv
 use Rattle.kds_service.specs.Places.{place_at}
 use Rattle.kds_service.specs.Shown.{AreAt, AreShown, ServiceValue, ShowsAll, is_among, numbers_of, service}
 
--- ---- the stream of a number
+-- ---- The stream of a number
 
 here_or_later : (v : StreamValue) (vs : List StreamValue) (s : ℕ) (b : Bool) → (v.no == s) ≡ b
     → stream_at (v ∷ vs) s ≡ (if b then Some v else stream_at vs s)
@@ -51,7 +51,7 @@ none_from n s (v ∷ vs) none =
 pub none_found : (s : ℕ) (vs : List StreamValue) → None ≡ place_at vs s → None ≡ stream_at vs s
 none_found s vs none = sym (none_from 0 s vs (sym none))
 
--- it has the number, stands at the clock, and shows the journal
+-- The stream `x` has the number `s`, stands at the clock `c`, and shows the journal `log`.
 pub record IsOf (log : Journal) (c s : ℕ) (x : StreamValue) : Type 0 where
   pub no : x.no ≡ s
   pub clock : x.clock ≡ c
@@ -80,7 +80,7 @@ away : (s : ℕ) (vs : List StreamValue) → stream_at vs s ≡ None → is_amon
 away s [] is = refl
 away s (v ∷ vs) is = away_here v vs s (v.no == s) refl is (away s vs)
 
--- ---- a shard of it
+-- ---- A shard of it
 
 listed_by : (log : Journal) (c s floor : ℕ) (o : Option ShardState) → is_live log s ≡ true → trim_floor log c s ≡ floor
     → is_listed_at floor o ≡ is_listed_state log c s o
@@ -130,14 +130,15 @@ module _ (w : ServiceValue) (log : Journal) (all : ShowsAll w log) (key : ShardR
   pub state_is : state_in w.streams key ≡ live_shard log key
   state_is = state_by (stream_at w.streams key.stream) refl
 
--- what holds of the stream's own clock and number holds of the service's clock and of the number it was found by
+-- What is true of the stream's own clock and number is true of the service's clock and of the number by which the
+-- stream was found.
 pub at_key : (P : ℕ → ℕ → Type 0) (log : Journal) (c b n s : ℕ) (vs : List StreamValue) (x : StreamValue)
     → ShowsAll (service c b n vs) log → Some x ≡ stream_at vs s → (Shows x log → P x.clock x.no) → P c s
 at_key P log c b n s vs x all found answered =
     let of = is_of log c s vs x all.at all.shown (sym found) in
     subst (λ t. P c t) of.no (subst (λ m. P m x.no) of.clock (answered of.shown))
 
--- ---- all listed shards
+-- ---- All listed shards
 
 keys_by : (log : Journal) (c : ℕ) (vs : List StreamValue) → AreAt c vs → AreShown log vs
     → listed_keys vs ≡ listed_in log c (numbers_of vs)
@@ -156,7 +157,7 @@ pub keys_are : (w : ServiceValue) (log : Journal) → ShowsAll w log
 keys_are w log all = keys_by log w.clock w.streams all.at all.shown
     ∙ ap (listed_in log w.clock) (sym (live_are w log all))
 
--- one stream more is done
+-- The keys of a further stream are added.
 pub keys_step : (vs : List StreamValue) (i : ℕ) (x : StreamValue) (keys new : List ShardRef) → slice_get vs i ≡ Some x
     → new ≡ keys ++ refs_of x.no (listed_among (floor_of x.cut) x.tree)
     → new ++ listed_keys (drop (i + 1) vs) ≡ keys ++ listed_keys (drop i vs)

@@ -19,19 +19,19 @@ use Rattle.kds_service.specs.Lines.{AreOf}
 use Rattle.kds_service.specs.Places.{open_beside, place_for}
 use Rattle.kds_service.specs.Shown.{AreAt, Leads, LeadsTo, ServiceValue, ShowsAll, service}
 
--- a refusal leaves all as it was
+-- A refusal leaves all as it was.
 pub refused_leads : (w : ServiceValue) (what : Command) (r : Refusal)
     → ((log : Journal) (by : ℕ) → ShowsAll w log → decide log w.clock by what ≡ Refused r) → Leads w w what (Err r)
 refused_leads w what r is =
     λ log by all. after_refused (decide log w.clock by what) r log (ShowsAll w) (is log by all) all
 
--- what `others` ensures of one stream that changes
+-- What `others` ensures of one stream that changes.
 abbrev pub Changes : Type 0
 Changes = (c b n i : ℕ) (vs : List StreamValue) (x v : StreamValue) (log : Journal) (lines : List Line)
     → ShowsAll (service c b n vs) log → slice_get vs i ≡ Some x → v.no ≡ x.no → v.clock ≡ c → AreOf x.no c lines
     → Shows v (with_lines lines log) → ShowsAll (service c b n (slice_set vs i v)) (with_lines lines log)
 
--- the stream that the command is for is at a place; now it is v, and it answers what it decides
+-- The stream that the command is for is at a place. It becomes `v`, and answers what it decides.
 pub stream_leads : {E : Type 0} (c i : ℕ) (vs ws : List StreamValue) (x v : StreamValue) (what : Command) (room : ℕ)
     (r : Result (Result Reply Refusal) E)
     → Changes → AreAt c vs → slice_get vs i ≡ Some x → place_for vs what ≡ Some i → ws ≡ slice_set vs i v
@@ -52,7 +52,7 @@ stream_leads c i vs ws x v what room (Ok gives) change at here found set own ask
           (change c b n i vs x v log lines all here no_is (clock_is ∙ now) of led.1),
     )
 
--- the same of the whole service
+-- The same command leads from the whole service to the whole service.
 pub serve_leads : {E : Type 0} (r : Result (Result Reply Refusal) E) (c b n : ℕ) (vs ws : List StreamValue)
     (what what' : Command) → IfOk r (LeadsTo c vs ws what') → what ≡ what'
     → IfOk r (Leads (service c b n vs) (service c b n ws) what)

@@ -12,12 +12,12 @@ use Rattle.kds_stream.specs.Showing.{Shows}
 use Rattle.kds_stream.specs.Value.{StreamValue}
 use Rattle.kds_service.specs.Shown.{AreAt, AreShown, IsRising, is_among, numbers_of}
 
--- by cases of a test
+-- A proof by the two cases of a test.
 pub either_way : {P : Type 0} (b : Bool) → (b ≡ true → P) → (b ≡ false → P) → P
 either_way true holds fails = holds refl
 either_way false holds fails = fails refl
 
--- ---- what holds of each
+-- ---- What holds of each
 
 module _ {X : Type 0} (P : X → Type 0) where
   pub all_get : (i : ℕ) (xs : List X) (x : X) → AllByRecursion P xs → slice_get xs i ≡ Some x → P x
@@ -36,15 +36,15 @@ module _ {X : Type 0} (P : X → Type 0) where
   all_remove zero (y ∷ ys) all = all.1
   all_remove (suc i) (y ∷ ys) all = (all.0, all_remove i ys all.1)
 
--- ---- at a place
+-- ---- At a place
 
--- below the length there is one
+-- A place below the length has a stream.
 pub there_is : (i : ℕ) (vs : List StreamValue) → i < length vs → (x : StreamValue) × (slice_get vs i ≡ Some x)
 there_is i [] below = absurd (omega arith)
 there_is zero (v ∷ vs) below = (v, refl)
 there_is (suc i) (v ∷ vs) below = there_is i vs (omega arith)
 
--- numbers that rise are above the lowest
+-- Numbers that rise are above the lowest.
 pub above : (low i : ℕ) (vs : List StreamValue) (x : StreamValue) → IsRising low (numbers_of vs)
     → slice_get vs i ≡ Some x → low < x.no
 above low i [] x rising here = absurd (none-some x here)
@@ -55,31 +55,31 @@ pub rising_from : (low high : ℕ) (ns : List ℕ) → low ≤ high → IsRising
 rising_from low high [] below rising = tt
 rising_from low high (n ∷ ns) below rising = (omega (arith, rising.0), rising.1)
 
--- ---- among numbers
+-- ---- Among numbers
 
--- a number at or below the lowest isn't among numbers that rise
+-- A number at or below the lowest isn't among numbers that rise.
 pub not_below : (low s : ℕ) (ns : List ℕ) → s ≤ low → IsRising low ns → is_among ns s ≡ false
 not_below low s [] below rising = refl
 not_below low s (n ∷ ns) below rising =
     or_from (n == s) (is_among ns s) (is_other n s (λ e. absurd (omega (arith, below, rising.0, e))))
     (not_below n s ns (omega (arith, rising.0)) rising.1)
 
--- ---- one is replaced
+-- ---- One is replaced
 
--- by itself
+-- A stream that is replaced by itself leaves the list as it was.
 pub set_same : (i : ℕ) (vs : List StreamValue) (x : StreamValue) → slice_get vs i ≡ Some x → slice_set vs i x ≡ vs
 set_same i [] x here = refl
 set_same zero (u ∷ us) x here = ap (λ y. y ∷ us) (sym (same_some u x here))
 set_same (suc i) (u ∷ us) x here = ap (λ ys. u ∷ ys) (set_same i us x here)
 
--- what is the same of both is the same of the lists
+-- A reading that is the same for both streams is the same for both lists.
 pub map_same : {Y : Type 0} (f : StreamValue → Y) (i : ℕ) (vs : List StreamValue) (x v : StreamValue)
     → slice_get vs i ≡ Some x → f v ≡ f x → map f (slice_set vs i v) ≡ map f vs
 map_same f i [] x v here same = refl
 map_same f zero (u ∷ us) x v here same = ap (λ y. y ∷ map f us) (same ∙ ap f (sym (same_some u x here)))
 map_same f (suc i) (u ∷ us) x v here same = ap (λ ys. f u ∷ ys) (map_same f i us x v here same)
 
--- those above a number show the new journal too, where all of other numbers do
+-- The streams above a number show the new journal too, if all streams of other numbers do.
 shown_rest : (log log' : Journal) (c k : ℕ) (vs : List StreamValue) → IsRising k (numbers_of vs) → AreAt c vs
     → AreShown log vs → ((u : StreamValue) → Shows u log → u.clock ≡ c → u.no ≢ k → Shows u log') → AreShown log' vs
 shown_rest log log' c k [] rising at shown others = tt
@@ -104,9 +104,9 @@ shown_set log log' c low (suc i) (u ∷ us) x v rising at shown here new others 
   shown_set log log' c u.no i us x v rising.1 at.1 shown.1 here new others,
 )
 
--- ---- one is added
+-- ---- One is added
 
--- they are at most this number
+-- The numbers of the streams `vs` are at most `n`.
 abbrev pub AreUpTo : ℕ → List StreamValue → Type 0
 AreUpTo n vs = AllByRecursion (λ v. v.no ≤ n) vs
 
@@ -131,7 +131,7 @@ shown_push log log' c n [] v below at shown new others = (new, tt)
 shown_push log log' c n (u ∷ us) v below at shown new others =
     (others u shown.0 at.0 below.0, shown_push log log' c n us v below.1 at.1 shown.1 new others)
 
--- ---- one is taken out
+-- ---- One is taken out
 
 pub rising_remove : (low i : ℕ) (vs : List StreamValue) → IsRising low (numbers_of vs)
     → IsRising low (numbers_of (remove vs i))
@@ -152,7 +152,7 @@ shown_remove log log' c low (suc i) (u ∷ us) x rising at shown here others = (
   shown_remove log log' c u.no i us x rising.1 at.1 shown.1 here others,
 )
 
--- a number that isn't among those that are left is that of the one that was taken out, or wasn't there before
+-- A number that isn't among those that are left is that of the stream that was taken out, or wasn't there before.
 pub among_remove : (i s : ℕ) (vs : List StreamValue) (x : StreamValue) → slice_get vs i ≡ Some x
     → is_among (numbers_of (remove vs i)) s ≡ false → (x.no == s) ≡ false → is_among (numbers_of vs) s ≡ false
 among_remove i s [] x here out differ = refl
@@ -163,9 +163,9 @@ among_remove (suc i) s (v ∷ vs) x here out differ =
     let parts = or_parts (v.no == s) (is_among (numbers_of (remove vs i)) s) out in
     or_from (v.no == s) (is_among (numbers_of vs) s) parts.0 (among_remove i s vs x here parts.1 differ)
 
--- ---- each is replaced, one after another
+-- ---- Each is replaced, one after another
 
--- the one at a place that isn't reached yet is the one that stood there
+-- The stream at a place that isn't reached yet is the one that stood there.
 pub get_rest : (f : StreamValue → StreamValue) (xs : List StreamValue) (i : ℕ)
     → slice_get (map f (take i xs) ++ drop i xs) i ≡ slice_get xs i
 get_rest f [] zero = refl
@@ -173,7 +173,7 @@ get_rest f [] (suc i) = refl
 get_rest f (x ∷ xs) zero = refl
 get_rest f (x ∷ xs) (suc i) = get_rest f xs i
 
--- one more is replaced
+-- A further stream is replaced.
 set_next : (f : StreamValue → StreamValue) (xs : List StreamValue) (i : ℕ) (x : StreamValue) → slice_get xs i ≡ Some x
     → slice_set (map f (take i xs) ++ drop i xs) i (f x) ≡ map f (take (suc i) xs) ++ drop (suc i) xs
 set_next f [] i x here = absurd (none-some x here)
@@ -187,7 +187,7 @@ set_rest f xs i x here =
     let one : suc i ≡ i + 1 = omega arith in
     set_next f xs i x here ∙ ap (λ j. map f (take j xs) ++ drop j xs) one
 
--- those from a place on begin with the one that stands there
+-- The streams from a place on begin with the one that stands there.
 pub drop_get : {X : Type 0} (xs : List X) (i : ℕ) (x : X) → slice_get xs i ≡ Some x → drop i xs ≡ x ∷ drop (i + 1) xs
 drop_get xs i x here =
     drop_more xs i x (slice_get_within xs i x here)

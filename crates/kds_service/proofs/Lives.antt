@@ -30,13 +30,13 @@ use Rattle.kds_service.proofs.Readings.{up_to}
 use Rattle.kds_service.specs.Lines.{AreOf, IsLineOf, is_within_life}
 use Rattle.kds_service.specs.Shown.{AreAt, AreShown, IsRising, ServiceValue, ShowsAll, is_among, numbers_of, service}
 
--- ---- the law of a stream, as `other_lines` ensures it
+-- ---- The law of a stream, as `other_lines` ensures it
 
 abbrev pub LinesOfOthers : Type 0
 LinesOfOthers = (v : StreamValue) (log : Journal) (line : Line) → Shows v log → line.clock ≡ v.clock
     → stream_of line.what ≢ Some v.no → Shows v (line ∷ log)
 
--- ---- several lines
+-- ---- Several lines
 
 shows_more : (v : StreamValue) (c s : ℕ) (lines : List Line) (log : Journal) → LinesOfOthers → v.clock ≡ c → s ≢ v.no
     → AreOf s c lines → Shows v log
@@ -74,11 +74,11 @@ live_more s t c [] log of = refl
 live_more s t c (line ∷ lines) log of =
     live_more s t c lines (line ∷ log) of.1 ∙ live_same line.what t (is_live log t) of.0.2
 
--- a number above all others is none of theirs
+-- A number above all others is none of theirs.
 beyond : (n s t : ℕ) → s ≤ n → n < t → t ≡ s → ⊥
 beyond n s t a b e = absurd (omega arith)
 
--- a stream goes on to show the journal with its lines, and the service with it
+-- A stream goes on to show the journal with its lines, and so does the service.
 pub shows_after : (c b n i : ℕ) (vs : List StreamValue) (x v : StreamValue) (log : Journal) (lines : List Line)
     → LinesOfOthers
     → ShowsAll (service c b n vs) log → slice_get vs i ≡ Some x → v.no ≡ x.no → v.clock ≡ c → AreOf x.no c lines
@@ -101,7 +101,7 @@ shows_after c b n i vs x v log lines law all here numbered clock of shown =
           (all.unmade s later);
     }
 
--- ---- a new stream
+-- ---- A new stream
 
 pub shows_added : (c b n by count : ℕ) (name : List ℕ) (vs : List StreamValue) (v : StreamValue) (log : Journal)
     → LinesOfOthers
@@ -133,7 +133,7 @@ shows_added c b n by count name vs v log law all numbered clock shown =
     apart : (n s : ℕ) → n + 1 < s → n + 1 ≡ s → ⊥
     apart n s a e = absurd (omega arith)
 
--- ---- the end of a stream
+-- ---- The end of a stream
 
 pub shows_removed : (c b n by i : ℕ) (vs : List StreamValue) (x : StreamValue) (log : Journal) → LinesOfOthers
     → ShowsAll (service c b n vs) log
@@ -156,7 +156,7 @@ shows_removed c b n by i vs x log law all here =
           (λ same. beyond n x.no s (all_get (λ u. u.no ≤ n) i vs x up here) later (sym (same_Some _ _ same)));
     }
 
--- ---- a line of a lease
+-- ---- A line of a lease
 
 shown_along : (c : ℕ) (vs : List StreamValue) (line : Line) (log : Journal) → LinesOfOthers → AreAt c vs
     → line.clock ≡ c → stream_of line.what ≡ None
@@ -179,7 +179,7 @@ shows_lease w line log law all clock none = record {
   unmade = λ s later. fresh_other log line s (all.unmade s later) (of_no_stream line.what s none);
 }
 
--- ---- no stream
+-- ---- No stream
 
 pub shows_none : (c b : ℕ) → ShowsAll (service c b 0 []) []
 shows_none c b = record {
@@ -191,7 +191,7 @@ shows_none c b = record {
   unmade = λ s later. fresh_empty s;
 }
 
--- ---- the lines of a command that is for one stream
+-- ---- The lines of a command that is for one stream
 
 module _ (log : Journal) (c by s : ℕ) where
   of_one : (what : Command) (line : Line) (r : Reply) → Tells log c by what line r → is_of_stream what ≡ true

@@ -1,4 +1,4 @@
--- Which stream a command is for: how it is refused where there is none, and what the stream is told where there is one.
+-- Which stream a command is for: how it is refused if there is none, and what the stream is told if there is one.
 use Rattle.std.proofs.Common.{◌≡◌, ℕ, ◌+◌, Bool, true, false, List, slice_get, Option, Some, None, length, refl, sym}
 use Rattle.std.proofs.Common.{ap, ◌∙◌}
 use Rattle.std.specs.Prelude.{◌-◌, not, if◌then◌else◌}
@@ -28,7 +28,7 @@ use Rattle.kds_service.proofs.Readings.{open_are, own_and_beside}
 use Rattle.kds_service.specs.Places.{expiry, open_beside, place_at, place_by, place_for, place_of}
 use Rattle.kds_service.specs.Shown.{ServiceValue, ShowsAll, numbers_of}
 
--- a command of the service that makes no stream, ends none and lists none is for one stream
+-- A command of the service that makes no stream, deletes none and lists none is for one stream.
 pub rest_of : (what : Command) → is_service what ≡ true
     → ((name : List ℕ) (count : ℕ) → what ≡ command.Create name count → ⊥)
     → ((name : List ℕ) → what ≡ command.Delete name → ⊥)
@@ -39,7 +39,7 @@ rest_of (command.Delete name) own makes ends lists = absurd (ends name refl)
 rest_of (command.Streams after limit) own makes ends lists = absurd (lists after limit refl)
 rest_of _ own makes ends lists = own
 
--- ---- the place that is found
+-- ---- The place that is found
 
 pub token_place : (vs : List StreamValue) (what : Command) (s : ℕ) → token_of what ≡ Some s
     → place_for vs what ≡ place_at vs s
@@ -51,12 +51,12 @@ name_place vs (command.Records iter limit) name is = absurd cc
 name_place vs (command.More page limit) name is = absurd cc
 name_place vs _ name is = ap (place_by vs None) is
 
--- the stream at the place of a number has the number
+-- The stream at the place of a number has the number.
 pub numbered : (i s : ℕ) (vs : List StreamValue) (x : StreamValue) → place_at vs s ≡ Some i → slice_get vs i ≡ Some x
     → s ≡ x.no
 numbered i s vs x found here = number_at 0 i s vs x (found ∙ ap Some (from_zero i)) here
 
--- ---- refusals
+-- ---- Refusals
 
 old_so : (r r' : Refusal) (b : Bool) (d : Decision) → (if b then Some r else None) ≡ Some r'
     → (refuse r if b else d) ≡ Refused r'
@@ -68,7 +68,7 @@ young_so : (r : Refusal) (b : Bool) → (if b then Some r else None) ≡ None �
 young_so r true is = absurd cc
 young_so r false is = refl
 
--- a token that is too old
+-- A command whose token is too old is refused.
 pub expired_so : (log : Journal) (c by : ℕ) (what : Command) (r : Refusal) → expiry c what ≡ Some r
     → decide log c by what ≡ Refused r
 expired_so log c by (command.Records iter limit) r is = old_so refusal.Expired r (is_old c iter.issued) _ is
@@ -79,7 +79,7 @@ gone : (w : ServiceValue) (s : ℕ) (log : Journal) → place_at w.streams s ≡
     → not (is_live log s) ≡ true
 gone w s log none all = not_from_false (is_live log s) (all.others s (not_among 0 s (numbers_of w.streams) none))
 
--- a token of no live stream, and a name that none has. What isn't for one stream comes first
+-- A token of no live stream, and a name that no stream has, are refused. What isn't for one stream comes first.
 pub gone_so : (w : ServiceValue) (log : Journal) (by : ℕ) (what : Command) → ShowsAll w log → is_of_stream what ≡ true
     → expiry w.clock what ≡ None
     → place_for w.streams what ≡ None → decide log w.clock by what ≡ Refused refusal.NoStream
@@ -104,7 +104,7 @@ gone_so w log by (command.More page limit) all own young none =
     ∙ refused_if _ _ _ (gone w page.stream log none all)
 gone_so w log by _ all own young none = with_none _ _ _ (none_named w log _ all none)
 
--- ---- what the stream at the place is told
+-- ---- What the stream at the place is told
 
 pub told_so : (w : ServiceValue) (log : Journal) (i : ℕ) (x : StreamValue) (what : Command) (room : ℕ) → ShowsAll w log
     → slice_get w.streams i ≡ Some x

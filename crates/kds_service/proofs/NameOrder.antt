@@ -17,14 +17,14 @@ use Rattle.kds_stream.specs.Value.{StreamValue}
 use Rattle.kds_service.proofs.Lists.{drop_get}
 use Rattle.kds_service.specs.Shown.{names_of}
 
--- ---- the order of two names
+-- ---- The order of two names
 
 pub less : (o : Ordering) → is_lt o ≡ is_less o
 less Less = refl
 less Equal = refl
 less Greater = refl
 
--- the order of the names that references show
+-- The order of the names that references show.
 abbrev pub shown_before : Bor (List ℕ) → Bor (List ℕ) → Bool
 shown_before a b = name_before a.now b.now
 
@@ -36,22 +36,22 @@ before_orders name = subst (λ (test : Ordering → Bool).
 order : IsStrictWeakOrder name_before
 order = before_orders (λ name. name)
 
--- none comes before itself
+-- No name comes before itself.
 not_itself : (name : List ℕ) → name_before name name ≡ false
 not_itself name = ap is_less (tied_itself nat_list_cmp_total name)
 
--- names that the order doesn't tell apart are one
+-- Names that the order doesn't tell apart are one name.
 one_name : (a b : List ℕ) → slice_cmp nat_cmp a b ≡ Equal → a ≡ b
 one_name a b tied = (bytes_decides a b).0 (texts_ties a b ∙ ap is_eq tied)
 
--- ---- names that rise
+-- ---- Names that rise
 
--- none of the names comes before this one
+-- None of a list of names comes before `name`.
 abbrev NotBefore : List ℕ → List (List ℕ) → Type 0
 NotBefore name [] = Unit {0}
 NotBefore name (n ∷ ns) = (name_before n name ≡ false) × NotBefore name ns
 
--- none comes before an earlier one
+-- No name of a list comes before an earlier one.
 abbrev AreRising : List (List ℕ) → Type 0
 AreRising [] = Unit {0}
 AreRising (n ∷ ns) = NotBefore n ns × AreRising ns
@@ -66,7 +66,7 @@ not_before_with low name (n ∷ ns) h rest = by (name_before name n) (not_before
     by true more = (h, rest)
     by false more = (rest.0, more)
 
--- those that aren't before a name aren't before one that isn't after it
+-- Names that aren't before a name aren't before one that isn't after it.
 not_before_lower : (low name : List ℕ) (ns : List (List ℕ)) → name_before name low ≡ false → NotBefore name ns
     → NotBefore low ns
 not_before_lower low name [] h rest = tt
@@ -87,7 +87,7 @@ in_order_rise : (ns : List (List ℕ)) → AreRising (names_in_order ns)
 in_order_rise [] = tt
 in_order_rise (n ∷ ns) = rising_with n (names_in_order ns) (in_order_rise ns)
 
--- ---- sums over names
+-- ---- Sums over names
 
 sum_with : (f : List ℕ → ℕ) (name : List ℕ) (ns : List (List ℕ)) → sum_by f (with_name name ns) ≡ f name + sum_by f ns
 sum_with f name [] = sum_by-cons f name []
@@ -102,7 +102,7 @@ sum_in_order : (f : List ℕ → ℕ) (ns : List (List ℕ)) → sum_by f (names
 sum_in_order f [] = refl
 sum_in_order f (n ∷ ns) = omega (arith, sum_with f n (names_in_order ns), sum_in_order f ns, sum_by-cons f n ns)
 
--- counts the names before this one
+-- The number 1 if the name `n` comes before `name`, or else 0.
 abbrev before : List ℕ → List ℕ → ℕ
 before name n = if name_before n name then 1 else 0
 
@@ -112,9 +112,9 @@ none_before name (n ∷ ns) rest =
     let here : before name n ≡ 0 = ap (λ b. if b then 1 else 0) rest.0 in
     omega (arith, sum_by-cons (before name) n ns, here, none_before name ns rest.1)
 
--- ---- names that rise, with the same sums, are the same
+-- ---- Names that rise, with the same sums, are the same
 
--- so the first isn't before the other's first
+-- The first name of a list isn't before the first one of the other.
 first_not_before : (x y : List ℕ) (xs ys : List (List ℕ)) → NotBefore y ys
     → sum_by (before y) (x ∷ xs) ≡ sum_by (before y) (y ∷ ys) → name_before x y ≡ true → ⊥
 first_not_before x y xs ys rest same h =
@@ -145,7 +145,7 @@ same_names (x ∷ xs) (y ∷ ys) up up' same =
         (first_not_before y x ys xs up.0 (sym (same (before x)))
         (ap is_less (nat_list_cmp_total.antisymm y x ∙ ap ordering_reverse h)))
 
--- ---- names that references show
+-- ---- Names that references show
 
 shown_not_before : (x : Bor (List ℕ)) (xs : List (Bor (List ℕ)))
     → ((k : ℕ) → k < length xs → shown_before (get_or xs k x) x ≡ false) → NotBefore x.now (map (λ n. n.now) xs)
@@ -161,7 +161,7 @@ shown_rise (x ∷ xs) h = (
   shown_rise xs (λ i j d up below. h (suc i) (suc j) d (omega arith) (omega arith)),
 )
 
--- what a sort leaves of references to names
+-- What a sort leaves of references to names.
 pub sorted_names : (xs ys : List (Bor (List ℕ))) → IsPermutation xs ys → IsSortedBy shown_before ys
     → map (λ n. n.now) ys ≡ names_in_order (map (λ n. n.now) xs)
 sorted_names xs ys moved sorted =
@@ -172,7 +172,7 @@ sorted_names xs ys moved sorted =
     (λ f. sum_by-IsPermutation f names (map (λ n. n.now) ys)
     (IsPermutation-map (λ (n : Bor (List ℕ)). n.now) xs ys moved) ∙ sym (sum_in_order f names))
 
--- the name of the stream at a place goes to the end of the names so far
+-- The name of the stream at a place goes to the end of the names so far.
 pub names_step : (vs : List StreamValue) (i : ℕ) (x : StreamValue) (name : Bor (List ℕ))
     (so_far more : List (Bor (List ℕ))) → slice_get vs i ≡ Some x → name.now ≡ x.name → more ≡ so_far ++ name ∷ []
     → map (λ n. n.now) more ++ names_of (drop (i + 1) vs) ≡ map (λ n. n.now) so_far ++ names_of (drop i vs)

@@ -15,7 +15,7 @@ named log [] shown = refl
 named log (v ∷ vs) shown = ap (λ n. n ∷ map (name_of log) (numbers_of vs)) shown.0.stored.named
     ∙ ap (λ ns. v.name ∷ ns) (named log vs shown.1)
 
--- the names of the live streams are those of the service
+-- The names of the live streams are those of the service.
 after_are : (w : ServiceValue) (log : Journal) (after : Option (List ℕ)) → ShowsAll w log
     → names_after log after ≡ filter (is_after_name after) (names_in_order (names_of w.streams))
 after_are w log after all =

@@ -24,9 +24,9 @@ not_chosen : {A : Type 0} (b : Bool) (x y : A) → b ≡ false → (if b then x 
 not_chosen true x y h = absurd cc
 not_chosen false x y h = refl
 
--- ---- the live streams
+-- ---- The live streams
 
--- no live stream has a number above that of the last one that was made
+-- No live stream has a number above that of the last stream that was made.
 pub up_to : (n : ℕ) (vs : List StreamValue) (log : Journal) → AreShown log vs → ((s : ℕ) → n < s → IsFresh log s)
     → AreUpTo n vs
 up_to n [] log shown unmade = tt
@@ -45,7 +45,7 @@ none_live log low (suc count) dead =
     (dead (low + 1) (omega arith))
     ∙ none_live log (low + 1) count (λ s above. dead s (omega arith))
 
--- of the numbers above the lowest those of these streams are live, and no others
+-- Of the numbers above the lowest, those of these streams are live, and no others.
 live_above : (log : Journal) (low count : ℕ) (vs : List StreamValue) → IsRising low (numbers_of vs)
     → AreUpTo (low + count) vs → AreShown log vs
     → ((s : ℕ) → low < s → is_among (numbers_of vs) s ≡ false → is_live log s ≡ false)
@@ -87,7 +87,7 @@ live_above log low (suc count) (v ∷ vs) rising below shown others =
 pub from_zero : (n : ℕ) → n ≡ 0 + n
 from_zero n = omega arith
 
--- the live streams of the journal are those of the service
+-- The live streams of the journal are those of the service.
 pub live_are : (w : ServiceValue) (log : Journal) → ShowsAll w log → live_streams log ≡ numbers_of w.streams
 live_are w log all =
     ap (λ n. filter (is_live log) (numbers_from 1 n)) all.made
@@ -98,7 +98,7 @@ live_are w log all =
 pub live_count : (w : ServiceValue) (log : Journal) → ShowsAll w log → length (live_streams log) ≡ length w.streams
 live_count w log all = ap length (live_are w log all) ∙ length-map w.streams (λ v. v.no)
 
--- ---- how many shards are open
+-- ---- How many shards are open
 
 opens : (log : Journal) (vs : List StreamValue) → AreShown log vs → open_in log (numbers_of vs) ≡ open_total vs
 opens log [] shown = refl
@@ -108,9 +108,9 @@ opens log (v ∷ vs) shown =
 pub open_are : (w : ServiceValue) (log : Journal) → ShowsAll w log → open_count log ≡ open_total w.streams
 open_are w log all = ap (open_in log) (live_are w log all) ∙ opens log w.streams all.shown
 
--- ---- the stream of a name
+-- ---- The stream of a name
 
--- where the first passes the search is over, and else it goes on
+-- If the first element passes, the search is over, and otherwise it goes on.
 pub hit : {X : Type 0} (p : X → Bool) (n : ℕ) (x : X) (xs : List X) → p x ≡ true → position_from p n (x ∷ xs) ≡ Some n
 hit p n x xs e = ap (λ b. cond b (Some n) (position_from p (n + 1) xs)) e
 
@@ -118,14 +118,14 @@ pub missed : {X : Type 0} (p : X → Bool) (n : ℕ) (x : X) (xs : List X) → p
     → position_from p n (x ∷ xs) ≡ position_from p (n + 1) xs
 missed p n x xs e = ap (λ b. cond b (Some n) (position_from p (n + 1) xs)) e
 
--- a search from n on answers n or more
+-- A search from `n` on finds a place at or above `n`.
 from_on : {X : Type 0} (p : X → Bool) (n j : ℕ) (xs : List X) → position_from p n xs ≡ Some j → n ≤ j
 from_on p n j [] is = absurd (none-some j is)
 from_on p n j (x ∷ xs) is =
     either_way (p x) (λ e. let same : n ≡ j = same_some n j (sym (hit p n x xs e) ∙ is) in omega arith)
     (λ e. let rest = from_on p (n + 1) j xs (sym (missed p n x xs e) ∙ is) in omega arith)
 
--- the first place is found exactly where the first passes
+-- The first place is found exactly if the first element passes.
 pub first_passes : {X : Type 0} (p : X → Bool) (n : ℕ) (x : X) (xs : List X) → position_from p n (x ∷ xs) ≡ Some (n + 0)
     → p x ≡ true
 first_passes p n x xs is =
@@ -145,7 +145,7 @@ later_fails p n i x xs is =
     past : (n i : ℕ) → n ≡ n + suc i → ⊥
     past n i h = absurd (omega arith)
 
--- what is found passes
+-- What is found passes.
 pub found_passes : {X Y : Type 0} (f : X → Y) (p : Y → Bool) (n i : ℕ) (xs : List X) (x : X)
     → position_from p n (map f xs) ≡ Some (n + i)
     → slice_get xs i ≡ Some x → p (f x) ≡ true
@@ -203,7 +203,7 @@ pub none_named : (w : ServiceValue) (log : Journal) (name : List ℕ) → ShowsA
 none_named w log name all none = ap (find (λ s. same_name (name_of log s) name)) (live_are w log all)
     ∙ none_named_from log name 0 w.streams all.shown none
 
--- a place that was found is that of a stream
+-- A place that was found is that of a stream.
 at_place : (n i : ℕ) (vs : List StreamValue) (name : List ℕ) → position_from (same_name name) n (names_of vs)
     ≡ Some (n + i)
     → (x : StreamValue) × (slice_get vs i ≡ Some x)
@@ -223,7 +223,7 @@ some_named w log name all = by (place_of w.streams name) refl
         let x = at_place 0 i w.streams name (e ∙ ap Some (from_zero i)) in
         ap is_some (named_at w log name i x.0 all e x.1) ∙ ap is_some (sym e)
 
--- ---- the stream of a number
+-- ---- The stream of a number
 
 pub number_at : (n i s : ℕ) (vs : List StreamValue) (x : StreamValue)
     → position_from (λ m. m == s) n (numbers_of vs) ≡ Some (n + i) → slice_get vs i ≡ Some x
@@ -236,7 +236,7 @@ not_among n s (m ∷ ns) none =
     let rest = none_passes (λ k. k == s) n m ns none in
     or_from (m == s) (is_among ns s) rest.0 (not_among (n + 1) s ns rest.1)
 
--- ---- how many shards the other streams have open
+-- ---- How many shards the other streams have open
 
 beside : (log : Journal) (s : ℕ) (vs : List StreamValue) → AreShown log vs
     → open_in log (filter (λ t. not (t == s)) (numbers_of vs)) ≡ open_beside vs s
@@ -255,7 +255,7 @@ pub beside_is : (w : ServiceValue) (log : Journal) (s : ℕ) → ShowsAll w log
 beside_is w log s all = ap (λ ns. open_in log (filter (λ t. not (t == s)) ns)) (live_are w log all)
     ∙ beside log s w.streams all.shown
 
--- those and its own are all
+-- The shards open beside a stream and its own are all open shards.
 all_beside : (s : ℕ) (vs : List StreamValue) → IsRising s (numbers_of vs) → open_beside vs s ≡ open_total vs
 all_beside s [] rising = refl
 all_beside s (v ∷ vs) rising =
@@ -281,7 +281,7 @@ own_and_beside (suc i) low (v ∷ vs) x rising here =
     not_chosen (v.no == x.no) 0 _ (is_other v.no x.no (λ e. absurd (omega arith))) in
     omega (arith, all, own_and_beside i v.no vs x rising.1 here)
 
--- ---- the stream of a name has just this name
+-- ---- The stream of a name has just this name
 
 pub has_name : (name : List ℕ) (i : ℕ) (vs : List StreamValue) (x : StreamValue) → place_of vs name ≡ Some i
     → slice_get vs i ≡ Some x → name ≡ x.name

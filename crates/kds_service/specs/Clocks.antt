@@ -4,7 +4,7 @@ use Rattle.kds_base.specs.Circle.{next_of}
 use Rattle.kds_stream.specs.Value.{StreamValue, cut_at, later_cut, settled}
 use Rattle.kds_service.specs.Shown.{AreAt, ServiceValue}
 
--- the stream at a later clock, which remembers the earlier one
+-- The stream `v` at the later clock `c`, which remembers the earlier clock.
 abbrev pub advanced : ℕ → StreamValue → StreamValue
 advanced c v = record v {
   clock = c;
@@ -13,33 +13,34 @@ advanced c v = record v {
   cut_before = v.cut;
 }
 
--- the stream at the clock that it remembers
+-- The stream `v` at the clock that it remembers.
 abbrev pub retreated : StreamValue → StreamValue
 retreated v = record v { clock = v.clock_before; cut = v.cut_before }
 
--- the streams where the one at a place is settled
+-- A list of streams in which the one at the index `n` is settled: one of its logs has lost its trimmed records.
 abbrev pub settled_in : ℕ → List StreamValue → List StreamValue
 settled_in n [] = []
 settled_in zero (v ∷ vs) = settled v ∷ vs
 settled_in (suc n) (v ∷ vs) = v ∷ settled_in n vs
 
--- the service at the clock that it remembers
+-- The service `w` at the clock that it remembers.
 abbrev pub gone_back : ServiceValue → ServiceValue
 gone_back w = record w { clock = w.clock_before; streams = map retreated w.streams }
 
--- every stream remembers the service's earlier clock: so it is after an advance, until something is changed
+-- Every stream of the service `w` remembers the service's earlier clock. This is so after an advance, until something
+-- is changed.
 abbrev pub CanGoBack : ServiceValue → Type 0
 CanGoBack w = AreAt w.clock_before (map retreated w.streams)
 
--- the place whose turn it is among so many: this one, where there is one, and else the first
+-- The place whose turn it is among `count` places: `n` if there is such a place, and otherwise the first.
 abbrev pub in_turn : ℕ → ℕ → ℕ
 in_turn count n = if nat_lt n count then n else 0
 
--- and then the one after it, in a circle
+-- The place after the one whose turn it is, in a circle of `count` places.
 abbrev pub turn_after : ℕ → ℕ → ℕ
 turn_after count n = next_of count (in_turn count n)
 
--- the service where the stream whose turn it is is settled; it remembers no earlier clock
+-- The service `w` after the stream whose turn it is was settled. The service then remembers no earlier clock.
 abbrev pub settled_in_turn : ServiceValue → ServiceValue
 settled_in_turn w =
     let count = length w.streams in

@@ -1,4 +1,4 @@
--- The lines that a command to one stream may write.
+-- The lines that a command for one stream may write.
 use Rattle.std.specs.Prelude.{ℕ, ◌≡◌, Bool, true, false, List, Some}
 use Rattle.std.specs.List.{AllByRecursion}
 use Rattle.kds_defs.specs.declared.entry.Entry.{Entry}
@@ -6,16 +6,16 @@ use Rattle.kds_defs.specs.declared.entry.Entry.TheVariants as entry
 use Rattle.kds_defs.specs.Journal.{Line}
 use Rattle.kds_defs.specs.Subjects.{stream_of}
 
--- the entry neither makes a stream nor ends one
+-- Whether an entry neither makes a stream nor deletes one.
 abbrev pub is_within_life : Entry → Bool
 is_within_life (entry.Made s name count) = false
 is_within_life (entry.Gone s) = false
 is_within_life _ = true
 
--- the line speaks of this stream, which lives before and after it, and is written at this clock
+-- The line `line` is about stream `s`, which lives before and after it, and is written at the clock `c`.
 abbrev pub IsLineOf : ℕ → ℕ → Line → Type 0
 IsLineOf s c line = (stream_of line.what ≡ Some s) × (line.clock ≡ c) × (is_within_life line.what ≡ true)
 
--- each of the lines does
+-- Each of `lines` is about stream `s`, which lives before and after it, and is written at the clock `c`.
 abbrev pub AreOf : ℕ → ℕ → List Line → Type 0
 AreOf s c lines = AllByRecursion (IsLineOf s c) lines

@@ -1,4 +1,4 @@
--- Where a stream stands among those of the service, and how much they are together.
+-- The place of a stream among those of the service, and how many shards the streams have open together.
 use Rattle.std.specs.Prelude.{ℕ, ◌≡◌, ◌+◌, ◌==◌, Bool, ◌||◌, nat_le, nat_lt, if◌then◌else◌, List, [], ◌∷◌, length}
 use Rattle.std.specs.Prelude.{Option, Some, None}
 use Rattle.std.specs.List.{filter, position_from}
@@ -16,15 +16,15 @@ use Rattle.kds_stream.specs.Serving.{token_of}
 use Rattle.kds_stream.specs.Value.{StreamValue}
 use Rattle.kds_service.specs.Shown.{AreAt, names_of, numbers_of}
 
--- the place of the first stream of a name
+-- The place of the first of the streams `vs` that has the name `name`.
 abbrev pub place_of : List StreamValue → List ℕ → Option ℕ
 place_of vs name = position_from (same_name name) 0 (names_of vs)
 
--- the place of the first stream of a number
+-- The place of the first of the streams `vs` that has the number `s`.
 abbrev pub place_at : List StreamValue → ℕ → Option ℕ
 place_at vs s = position_from (λ n. n == s) 0 (numbers_of vs)
 
--- the place of the stream that a command is for: by its token, and else by its name
+-- The place of the stream that a command is for: by the command's token, or else by its name.
 abbrev pub place_by : List StreamValue → Option ℕ → Option (List ℕ) → Option ℕ
 place_by vs (Some s) name = place_at vs s
 place_by vs None (Some name) = place_of vs name
@@ -33,18 +33,19 @@ place_by vs None None = None
 abbrev pub place_for : List StreamValue → Command → Option ℕ
 place_for vs what = place_by vs (token_of what) (name_of_command what)
 
--- why the command's token is refused, if it is too old
+-- Why the command's token is refused at the clock `c`, if it is too old.
 abbrev pub expiry : ℕ → Command → Option Refusal
 expiry c (command.Records iter limit) = if is_old c iter.issued then Some refusal.Expired else None
 expiry c (command.More page limit) = if is_old c page.issued then Some refusal.PageExpired else None
 expiry c _ = None
 
--- how many shards are open in all of them
+-- The number of shards that are open in a list of streams.
 abbrev pub open_total : List StreamValue → ℕ
 open_total [] = 0
 open_total (v ∷ vs) = length (filter is_open v.tree) + open_total vs
 
--- how many are open in all but the stream of a number
+-- The number of open shards of the stream `v`, or 0 if it has the number `s`. In all streams of a list but stream `s`,
+-- `open_beside` shards are open.
 abbrev pub open_unless : StreamValue → ℕ → ℕ
 open_unless v s = if v.no == s then 0 else length (filter is_open v.tree)
 
@@ -52,11 +53,11 @@ abbrev pub open_beside : List StreamValue → ℕ → ℕ
 open_beside [] s = 0
 open_beside (v ∷ vs) s = open_unless v s + open_beside vs s
 
--- no stream of so many shards may be added
+-- Whether no stream of `count` shards may be added to the streams `vs`.
 abbrev pub is_full : List StreamValue → ℕ → Bool
 is_full vs count = nat_le LIVE_STREAMS (length vs) || nat_lt OPEN_SHARDS (open_total vs + count)
 
--- each stream stands under its name, and at the clock
+-- Each of the streams `es` stands under its own name and is at the clock `c`.
 pub record ArePlaced (c : ℕ) (es : List (List ℕ × StreamValue)) : Type 0 where
   pub named : keys_of es ≡ names_of (values_of es)
   pub at : AreAt c (values_of es)

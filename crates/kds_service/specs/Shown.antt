@@ -14,8 +14,8 @@ use Rattle.kds_stream.specs.Showing.{Shows}
 use Rattle.kds_stream.specs.Value.{StreamValue}
 use Rattle.kds_service.specs.Lines.{AreOf}
 
--- what contracts see of a service: its clock, what that was before the last advance, how many streams were made,
--- the live streams in the order of their numbers, and the place of the one that is settled next
+-- What contracts see of a service: its clock, what the clock was before the last advance, how many streams were made,
+-- the live streams in the order of their numbers, and the place of the stream that is settled next.
 pub record ServiceValue : Type 0 where
   pub clock : ℕ
   pub clock_before : ℕ
@@ -23,7 +23,7 @@ pub record ServiceValue : Type 0 where
   pub streams : List StreamValue
   pub turn : ℕ
 
--- the first stream is settled next
+-- The service with these fields, in which the first stream is settled next.
 abbrev pub service : ℕ → ℕ → ℕ → List StreamValue → ServiceValue
 service c b n vs = record { clock = c; clock_before = b; made = n; streams = vs; turn = 0 }
 
@@ -33,25 +33,25 @@ names_of vs = map (λ v. v.name) vs
 abbrev pub numbers_of : List StreamValue → List ℕ
 numbers_of vs = map (λ v. v.no) vs
 
--- all stand at the clock
+-- All of the streams `vs` are at the clock `c`.
 abbrev pub AreAt : ℕ → List StreamValue → Type 0
 AreAt c vs = AllByRecursion (λ v. v.clock ≡ c) vs
 
--- each number is above the one before it, and all are above the lowest
+-- Each number of a list is above the one before it, and all of them are above `low`.
 abbrev pub IsRising : ℕ → List ℕ → Type 0
 IsRising low [] = Unit {0}
 IsRising low (n ∷ ns) = (low < n) × IsRising n ns
 
--- the number is one of these
+-- Whether the number `s` is in a list.
 abbrev pub is_among : List ℕ → ℕ → Bool
 is_among [] s = false
 is_among (n ∷ ns) s = (n == s) || is_among ns s
 
--- each shows the journal
+-- Each of the streams `vs` shows the journal `log`.
 abbrev pub AreShown : Journal → List StreamValue → Type 0
 AreShown log vs = AllByRecursion (λ v. Shows v log) vs
 
--- the live streams of the journal are those of the service, and as many were made
+-- The live streams of the journal `log` are those of the service `w`, and as many streams were made in `log` as in `w`.
 pub record ShowsStreams (w : ServiceValue) (log : Journal) : Type 0 where
   pub made : made_count log ≡ w.made
   pub at : AreAt w.clock w.streams
@@ -60,40 +60,43 @@ pub record ShowsStreams (w : ServiceValue) (log : Journal) : Type 0 where
   pub others : (s : ℕ) → is_among (numbers_of w.streams) s ≡ false → is_live log s ≡ false
   pub unmade : (s : ℕ) → w.made < s → IsFresh log s
 
--- ... so that whosever turn it is, the service shows the same
+-- The service `w` shows the journal `log`, whichever of its streams is settled next.
 abbrev pub ShowsAll : ServiceValue → Journal → Type 0
 ShowsAll w = ShowsStreams (record w { turn = 0 })
 
--- it holds at whatever clock, of every journal that the streams show at it
+-- The statement `holds` is true at every clock, of every journal that the streams `vs` show at it.
 abbrev pub InJournalsOf : List StreamValue → (Journal → ℕ → Type 0) → Type 0
 InJournalsOf vs holds = (c b n : ℕ) (log : Journal) → ShowsAll (service c b n vs) log → holds log c
 
--- ---- what the lines of one stream leave of the others
+-- ---- What the lines of one stream leave of the others
 
 module _ (c b n : ℕ) (vs : List StreamValue) (log : Journal) where
-  -- with these lines of the stream at this place, once it shows them
+  -- The service shows the journal with the lines `lines` of the stream `x` at the place `i`, once the stream `v` at
+  -- this place shows them.
   abbrev pub StaysShown : ℕ → StreamValue → StreamValue → List Line → Type 0
   StaysShown i x v lines =
       slice_get vs i ≡ Some x → v.no ≡ x.no → v.clock ≡ c → AreOf x.no c lines → Shows v (with_lines lines log)
       → ShowsAll (service c b n (slice_set vs i v)) (with_lines lines log)
 
-  -- with the line of a new stream, once that stream stands last
+  -- The service shows the journal with the line of the new stream `v`, once this stream stands last.
   abbrev pub StaysShownWith : StreamValue → ℕ → List ℕ → ℕ → Type 0
   StaysShownWith v by name count =
       let made : Line = plain_line c by (entry.Made (n + 1) name count) in
       v.no ≡ n + 1 → v.clock ≡ c → Shows v (made ∷ log) → ShowsAll (service c b (n + 1) (vs ++ v ∷ [])) (made ∷ log)
 
-  -- with the line of the end of the stream at this place, once that stream is away
+  -- The service shows the journal with the line that deletes the stream `x` at the place `i`, once this stream is
+  -- removed.
   abbrev pub StaysShownWithout : ℕ → StreamValue → ℕ → Type 0
   StaysShownWithout i x by = slice_get vs i ≡ Some x
       → ShowsAll (service c b n (remove vs i)) (plain_line c by (entry.Gone x.no) ∷ log)
 
--- the command, at the service's clock, is answered so and leads from one to the other
+-- The command `what`, at the service's clock, is answered with `gives` and leads from the service `old` to `new`.
 abbrev pub Leads : ServiceValue → ServiceValue → Command → Result Reply Refusal → Type 0
 Leads old new what gives = (log : Journal) (by : ℕ) → ShowsAll old log
     → (gives ≡ answer_of (decide log old.clock by what))
     × ShowsAll new (with_lines (lines_of (decide log old.clock by what)) log)
 
--- the same of the streams alone, of a command that makes none
+-- The command `what`, which makes no stream, is answered with `gives` and leads from the streams `vs` to `ws` at the
+-- clock `c`.
 abbrev pub LeadsTo : ℕ → List StreamValue → List StreamValue → Command → Result Reply Refusal → Type 0
 LeadsTo c vs ws what gives = (b n : ℕ) → Leads (service c b n vs) (service c b n ws) what gives

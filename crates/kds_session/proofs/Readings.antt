@@ -17,18 +17,18 @@ use Rattle.kds_session.specs.declared.limits.TheConstants.{UNREAD_BYTES}
 use Rattle.kds_session.specs.Standing.{GoesOn, going, end_in}
 use Rattle.kds_session.specs.Steps.{IsKept}
 
--- what is decided of a head stays so
+-- What is decided of a head stays decided when more bytes come.
 abbrev pub HeadStays : Type 0
 HeadStays = (bytes more : List ℕ) (found : Found) → IsFound bytes found → found ≢ Need → IsFound (bytes ++ more) found
 
--- the laws of heads on which the readings rest
+-- The laws of heads on which the readings rest.
 pub record HeadLaws : Type 0 where
   pub one : (bytes : List ℕ) (found other : Found) → IsFound bytes found → IsFound bytes other → found ≡ other
   pub stays : HeadStays
   pub limits : (bytes : List ℕ) (found : Found) → IsFound bytes found → IsWithinLimits bytes found
   pub none : IsFound [] Need
 
--- ---- one way
+-- ---- One way
 
 same_head : (h k : Head) → Whole h ≡ Whole k → h ≡ k
 same_head h k e = cc
@@ -52,7 +52,7 @@ same_message laws bytes m n a b =
 some_size : HeadLaws → (bytes : List ℕ) (m : Message) → Begins bytes m → 0 < size m.head
 some_size laws bytes m b = let within = laws.limits bytes (Whole m.head) b.0.found in omega (arith, within.some)
 
--- Where no message is whole, none begins.
+-- If no message is whole, none begins.
 unfinished_begins : HeadLaws → (bytes : List ℕ) (m : Message) → IsUnfinished bytes → Begins bytes m → ⊥
 unfinished_begins laws bytes m (inl need) b = need_whole m.head (laws.one bytes _ _ need b.0.found)
 unfinished_begins laws bytes m (inr short) b =
@@ -115,9 +115,9 @@ one_way laws before bytes (m ∷ ms) (n ∷ ns) e f a b =
     by_close true ms ns e f P Q go a b = (a.0 ∙ sym b.0, a.1 ∙ sym b.1)
     by_close false ms ns e f P Q go a b = go a b
 
--- ---- more bytes
+-- ---- More bytes
 
--- a whole message stands at the front
+-- A whole message stands at the front.
 pub begins_at : (bytes : List ℕ) (head : Head) → IsWhole bytes head → Begins bytes (message_at bytes head)
 begins_at bytes head whole = (whole, refl)
 
@@ -142,7 +142,7 @@ begins_more laws bytes more m b = (
 rest_more : (bytes more : List ℕ) (m : Message) → Begins bytes m → rest_of (bytes ++ more) m ≡ rest_of bytes m ++ more
 rest_more bytes more m b = drop-append-le (size m.head) bytes more b.0.whole
 
--- the test that the code makes
+-- The test for the last message, as the code makes it.
 pub last_is : (done left : ℕ) → done + left ≡ REQUESTS → 0 < left → (done + 1 == REQUESTS) ≡ nat_le left 1
 last_is done left e some = grind (arith, nat_tests)
 
@@ -156,9 +156,9 @@ of_false : (b : Bool) (P Q : Type 0) → b ≡ false → MatchBool b P Q → Q
 of_false true P Q e q = absurd (cc e)
 of_false false P Q e q = q
 
--- ---- a connection that goes on
+-- ---- A connection that goes on
 
--- more bytes are fed
+-- More bytes are fed.
 pub goes_fed : (fed : List ℕ) (done : List Message) (left : ℕ) (unread bytes : List ℕ) → GoesOn fed done left unread
     → GoesOn (fed ++ bytes) done left (unread ++ bytes)
 goes_fed fed done left unread bytes g = record {
@@ -196,7 +196,7 @@ past laws n unread more m (k ∷ ms) e b close f =
           (of_false (closes (n + 1) m.head) _ _ close after),
     )
 
--- one more message is done
+-- A further message is done.
 pub goes_past : HeadLaws → (fed : List ℕ) (done : List Message) (left : ℕ) (unread : List ℕ) (m : Message)
     → GoesOn fed done left unread → Begins unread m
     → closes (length done + 1) m.head ≡ false → GoesOn fed (done ++ m ∷ []) (left - 1) (rest_of unread m)
@@ -224,7 +224,7 @@ goes_past laws fed done left unread m g b more_come =
           );
     }
 
--- the last message is done
+-- The last message is done.
 pub goes_last : HeadLaws → (fed : List ℕ) (done : List Message) (left : ℕ) (unread : List ℕ) (m : Message)
     → GoesOn fed done left unread → Begins unread m
     → closes (length done + 1) m.head ≡ true → (more : List ℕ) → Falls 0 (fed ++ more) (done ++ m ∷ []) closed
@@ -234,7 +234,7 @@ goes_last laws fed done left unread m g b close more =
       match_true (closes (length done + 1) m.head) _ _ close (refl, refl),
     )
 
--- the connection is refused
+-- The connection is refused.
 pub goes_refused : HeadStays → (fed : List ℕ) (done : List Message) (left : ℕ) (unread : List ℕ) (s : ℕ)
     → GoesOn fed done left unread → IsFound unread (Refused s)
     → (more : List ℕ) → Falls 0 (fed ++ more) done (refused s)
@@ -249,13 +249,13 @@ at_end fed done left unread e g f =
     (subst (λ (z : List Message). Falls 0 (fed ++ []) z e) (append-nil done)
     (g.onward [] [] e (subst (λ (z : List ℕ). Ends z e) (sym (append-nil unread)) f)))
 
--- the bytes end here
+-- The bytes end here.
 pub goes_ending : (fed : List ℕ) (done : List Message) (left : ℕ) (unread : List ℕ) → GoesOn fed done left unread
     → IsUnfinished unread → Falls 0 fed done (end_in going unread)
 goes_ending fed done left [] g u = at_end fed done left [] boundary g refl
 goes_ending fed done left (x ∷ xs) g u = at_end fed done left (x ∷ xs) inside g (omega arith, u)
 
--- ---- the test of a body
+-- ---- The test of a body
 
 pub whole_by : (bytes : List ℕ) (head : Head) → IsFound bytes (Whole head) → nat_le (size head) (length bytes) ≡ true
     → IsWhole bytes head
@@ -265,7 +265,7 @@ pub short_by : (bytes : List ℕ) (head : Head) → IsFound bytes (Whole head) �
     → IsShort bytes head
 short_by bytes head f e = record { found = f; short = above_so _ _ e }
 
--- ---- the bytes of an unfinished message
+-- ---- The bytes of an unfinished message
 
 few_bytes : (n size length body : ℕ) → n < size → size ≡ length + body → length ≤ HEAD_BYTES → body ≤ BODY_BYTES
     → n < HEAD_BYTES + BODY_BYTES
@@ -278,7 +278,7 @@ unfinished_short limits bytes (inr short) =
     let within = limits bytes (Whole short.0) short.1.found in
     few_bytes (length bytes) (size short.0) short.0.length short.0.body short.1.short refl within.head within.body
 
--- ---- a head that is kept
+-- ---- A head that is kept
 
 pub kept_more : HeadStays → (bytes more new : List ℕ) (kept : Option Head) → new ≡ bytes ++ more → IsKept bytes kept
     → IsKept new kept

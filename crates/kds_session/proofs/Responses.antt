@@ -1,4 +1,4 @@
--- The responses to one more message.
+-- The responses to a further message.
 use Rattle.std.proofs.Common.{◌≡◌, ℕ, ◌+◌, List, [], ◌∷◌, ◌++◌, length, sym, ap, ◌∙◌, arith, refl, Bool, Result, Ok}
 use Rattle.std.proofs.Common.{Err}
 use Rattle.std.proofs.lemmas.List.{append_assoc, append-nil}
@@ -14,7 +14,7 @@ commands-push [] m = append-nil (command_of (asked_by m))
 commands-push (d ∷ done) m = ap (λ z. command_of (asked_by d) ++ z) (commands-push done m)
     ∙ sym (append_assoc (command_of (asked_by d)) (commands done) (command_of (asked_by m)))
 
--- what a message adds, where these answers are left
+-- What a message adds to the text, if the answers `left` are left.
 abbrev pub adds : Result Command Fault → Bool → Answers → List ℕ
 adds r close left = respond r close left (λ answers. [])
 
@@ -46,7 +46,7 @@ responses-push before (d ∷ done) m told left len =
     ∙ ap (λ n. responses (before + 1) done answers ++ adds (asked_by m) (closes (n + 1) m.head) left)
     (let e2 : before + 1 + length done ≡ before + length (d ∷ done) = omega arith in e2)) len
 
--- ---- more messages and more answers
+-- ---- More messages and more answers
 
 respond_front : (r : Result Command Fault) (close : Bool) (told later : Answers) (some all : Answers → List ℕ)
     → ((answers : Answers) → (rest : List ℕ) × (all (answers ++ later) ≡ some answers ++ rest))
@@ -65,7 +65,7 @@ respond_front (Ok what) close (a ∷ told) later some all go =
           ∙ sym (append_assoc (answered (reply_of a) close) (some told) g.0),
     )
 
--- what is written is a front of what is written later
+-- What is written is a prefix of what is written later.
 pub responses-front : (before : ℕ) (done ms : List Message) (told later : Answers) → (rest : List ℕ)
     × (responses before (done ++ ms) (told ++ later) ≡ responses before done told ++ rest)
 responses-front before [] ms told later = (responses before ms (told ++ later), refl)
@@ -82,7 +82,7 @@ respond_enough (Ok what) close [] later rest some go len = absurd (omega arith)
 respond_enough (Ok what) close (a ∷ told) later rest some go len =
     ap (λ z. answered (reply_of a) close ++ z) (go told (omega arith))
 
--- where each command has its answer, further ones change nothing
+-- If each command has its answer, further answers change nothing.
 pub responses-enough : (before : ℕ) (done : List Message) (told later : Answers) → length told ≡ length (commands done)
     → responses before done (told ++ later) ≡ responses before done told
 responses-enough before [] told later len = refl

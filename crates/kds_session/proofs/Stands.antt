@@ -34,7 +34,7 @@ use Rattle.kds_session.proofs.Readings.{HeadLaws, HeadStays, begins_at, last_is,
 use Rattle.kds_session.proofs.Readings.{goes_refused, unfinished_short}
 use Rattle.kds_session.proofs.Responses.{commands-push, responses-push, adds}
 
--- ---- a session that is live, and of which no command waits
+-- ---- A session that is live, and of which no command waits
 
 pub record Runs (s : SessionState) (past : Traffic) : Type 0 where
   pub done : List Message
@@ -56,7 +56,7 @@ runs_of s past st free =
       written = st.written ∙ ap (λ z. responses 0 st.done past.told ++ stage_text z) stage ∙ append-nil _;
     }
 
--- ---- bytes are fed
+-- ---- Bytes are fed
 
 leads_fed : (stage : Stage) (fed : List ℕ) (done : List Message) (left : ℕ) (unread bytes : List ℕ)
     → Leads stage fed done left unread → Leads stage (fed ++ bytes) done left (unread ++ bytes)
@@ -75,7 +75,7 @@ feeds s past bytes st new e = subst (λ (n : SessionState). StandsFor n (fed_mor
   written = st.written;
 })
 
--- ---- the connection is refused
+-- ---- The connection is refused
 
 pub refused_now : HeadStays → (s : SessionState) (status : ℕ) (past : Traffic) → StandsFor s past → IsFree s
     → IsFound s.unread (RefusedHead status) → (new : SessionState)
@@ -96,14 +96,14 @@ refused_now stays s status past st free found new e =
       (λ h. absurd (cc h), free.free),
     )
 
--- ---- one more message
+-- ---- One more message
 
--- what the code tests is what is meant
+-- What the code tests is what the definition says.
 close_is : (close : Bool) (done left : ℕ) (head : Head) → done + left ≡ REQUESTS → 0 < left
     → close ≡ (head.close || nat_le left 1) → closes (done + 1) head ≡ close
 close_is close done left head e some c = ap (λ b. head.close || b) (last_is done left e some) ∙ sym c
 
--- one more message, and what it adds
+-- A further message, and what it adds.
 record OneMore (s : SessionState) (past : Traffic) (head : Head) (close : Bool) : Type 0 where
   pub was : Runs s past
   pub close_is : closes (length was.done + 1) head ≡ close
@@ -129,7 +129,7 @@ one_more s past head close st free c =
           ∙ ap (λ t. t ++ adds (asked_by m) close left) (sym f.written);
     }
 
--- ---- a request that has a fault is answered
+-- ---- A request that has a fault is answered
 
 fault_text_is : (s : SessionState) (past : Traffic) (head : Head) (close : Bool) (f : Fault)
     → (o : OneMore s past head close)
@@ -148,7 +148,7 @@ fault_commands : (s : SessionState) (past : Traffic) (head : Head) (close : Bool
 fault_commands s past head close f o asks =
     sym (append-nil past.given) ∙ ap (λ r. past.given ++ command_of r) (sym asks) ∙ o.commands_are
 
--- and the connection goes on
+-- A fault is answered, and the connection goes on.
 pub fault_goes : HeadLaws → (s : SessionState) (past : Traffic) (head : Head) (close : Bool) (f : Fault)
     → StandsFor s past → IsFree s
     → close ≡ (head.close || nat_le s.left 1) → close ≡ false → IsWhole s.unread head
@@ -178,7 +178,7 @@ fault_goes laws s past head close f st free c goes_on whole asks new e =
           ∙ ap (λ z. responses 0 done past.told ++ stage_text z) (sym stage);
     })
 
--- and the connection closes
+-- A fault is answered, and the connection closes.
 pub fault_closes : HeadLaws → (s : SessionState) (past : Traffic) (head : Head) (close : Bool) (f : Fault)
     → StandsFor s past → IsFree s
     → close ≡ (head.close || nat_le s.left 1) → close ≡ true → IsWhole s.unread head
@@ -209,7 +209,7 @@ fault_closes laws s past head close f st free c ends_now whole asks new e =
       (λ h. absurd (cc h), free.free),
     )
 
--- ---- a command is given
+-- ---- A command is given
 
 command_parts : (s : SessionState) (past : Traffic) (head : Head) (close : Bool) (what : Command)
     → (o : OneMore s past head close)
@@ -287,9 +287,9 @@ command_given laws s past head close what st free c whole asks new e =
           ∙ ap (λ a. responses 0 (o.was.done ++ m ∷ []) past.told ++ stage_text (stage_of a Answer)) (sym free.live);
     }
 
--- ---- a reading is begun, goes on and is taken over
+-- ---- A reading is begun, goes on and is taken over
 
--- the reading has gone past a message of n bytes
+-- The reading has gone past a message of `n` bytes.
 pub past_state : (bytes : List ℕ) (r new : Reading) (n : ℕ) → new.read ≡ r.read + n
     → read_state bytes new ≡ record {
       unread = drop n (drop r.read bytes);
@@ -361,7 +361,7 @@ pub refused_state : (bytes : List ℕ) (r p : Reading) (status : ℕ)
     }
 refused_state bytes r p status e = ap (λ (x : Reading). read_state bytes x) e
 
--- what the session had written before counts as sent
+-- What the session had written before counts as sent.
 pub reading_begins : (s : SessionState) (past : Traffic) → StandsFor s past → IsFree s
     → (start : Reading) → start ≡ record { read = 0; left = s.left; answers = []; standing = Live; waiting = Nothing }
     → StandsFor (read_state s.unread start) (sent_more s.output past)
@@ -395,7 +395,7 @@ taken_over s r None past n new e =
 taken_over s r (Some what) past n new e =
     subst (λ (x : SessionState). IsNext (Some what) x past) (sym e) (stands_then s r (given_one what past) n.0, n.1)
 
--- what the reading comes to, the session comes to
+-- What the reading comes to, the session comes to.
 pub next_by : (s v : SessionState) (bytes : List ℕ) (start r : Reading) (o : Option Command) → v ≡ s → bytes ≡ v.unread
     → start ≡ record { read = 0; left = v.left; answers = []; standing = Live; waiting = Nothing } → IsFree s
     → ((past : Traffic) → StandsFor (read_state bytes start) past → IsNext o (read_state bytes r) past)
@@ -416,7 +416,7 @@ next_by s v bytes start r o ev eb es free go new e past st =
     (go (sent_more s.output past) begun) in
     taken_over s r o past next new e
 
--- ---- an answer is told
+-- ---- An answer is told
 
 pub awaited_text : (close : Bool) (done : List Message) (told : Answers) (a : Result Reply Refusal)
     → IsAwaited close done told
@@ -488,7 +488,7 @@ answer_told s past a st waits new e =
     by_waiting Answer _ n v w l t = absurd (cc v)
     by_waiting LastAnswer _ n v w l t = absurd (cc v)
 
--- the session is written to at the end
+-- The session is written to at the end.
 pub told_state : (s : SessionState) (out : List ℕ) (close : Bool) (d : Standing) (r : ℕ × List ℕ)
     → out ≡ s.output ++ answered r close → close ≡ is_last s.waiting → d ≡ standing_after close s.standing
     → (let new : SessionState = record s { output = out; waiting = Nothing; standing = d } in new)
@@ -506,16 +506,16 @@ told_state s out close d r eo ec ed =
       standing = z;
     } in y) (ed ∙ ap (λ b. standing_after b s.standing) ec)
 
--- ---- less is to come
+-- ---- Less is to come
 
--- a session that goes on has its requests and its end before it
+-- A session that goes on has its requests and its end before it.
 all_to_come : (s : SessionState) → IsFree s → to_come s ≡ s.left + 1
 all_to_come s free = ap (λ (z : Stage). still z s.left) (stage_live s.standing s.waiting free.live free.free)
 
 pub refused_not_live : (status : ℕ) → Refused status ≡ Live → ⊥
 refused_not_live status e = cc
 
--- the connection has ended
+-- Less is to come if the connection has ended.
 pub less_ended : (s new : SessionState) → IsFree s → to_come new ≡ 0 → to_come new < to_come s
 less_ended s new free e = let all = all_to_come s free in omega arith
 
@@ -523,7 +523,7 @@ some_left_by : (h close : Bool) (left : ℕ) → close ≡ (h || nat_le left 1) 
 some_left_by true close left e f = absurd (cc (sym e ∙ f))
 some_left_by false close left e f = let g : nat_le left 1 ≡ false = sym e ∙ f in grind (arith, nat_tests)
 
--- a command was read
+-- Less is to come if a command was read.
 pub less_asked : (s : SessionState) (head : Head) (close : Bool) (unread : List ℕ) → IsFree s
     → close ≡ (head.close || nat_le s.left 1)
     → (new : SessionState) → new ≡ record s { unread = unread; left = s.left - 1; waiting = waiting_for close }
@@ -548,7 +548,7 @@ pub nearer_less : (a b c : SessionState) → IsNearer a b → to_come c < to_com
 nearer_less a b c (inl h) k = omega arith
 nearer_less a b c (inr h) k = omega (arith, h.1, k)
 
--- the answer to a command is told
+-- If the answer to a command is told, as much is still to come as before.
 pub told_still : (left : ℕ) (d new : Standing) (w : Waiting) (close : Bool) → close ≡ is_last w → w ≢ Nothing
     → new ≡ standing_after close d → still (stage_of new Nothing) left ≡ still (stage_of d w) left
 told_still left d new w close c waits e =
@@ -562,7 +562,7 @@ told_still left d new w close c waits e =
     by_waiting LastAnswer Live n = refl
     by_waiting LastAnswer _ n = refl
 
--- ---- what the reading comes to, of the session
+-- ---- What the reading comes to, of the session
 
 abbrev pub Limits : Type 0
 Limits = (bytes : List ℕ) (found : Found) → IsFound bytes found → IsWithinLimits bytes found

@@ -19,9 +19,9 @@ use Rattle.kds_session.specs.Next.{IsNext}
 use Rattle.kds_session.proofs.Readings.{goes_ending}
 use Rattle.kds_session.proofs.Responses.{responses-front, responses-enough, commands-append}
 
--- ---- all that was fed, where the session is quiet
+-- ---- All that was fed, where the session is quiet
 
--- how the bytes that were fed end
+-- How the bytes that were fed end.
 ending_of : (stage : Stage) (fed : List ℕ) (done : List Message) (left : ℕ) (unread : List ℕ)
     → Leads stage fed done left unread → (stage ≡ going → IsUnfinished unread)
     → (stage_text stage ≡ end_text (end_in stage unread)) × Falls 0 fed done (end_in stage unread)
@@ -51,7 +51,7 @@ quiet_text s past st quiet =
       refl,
     )
 
--- ---- bytes that follow the end
+-- ---- Bytes that follow the end
 
 over_more : (stage : Stage) (fed : List ℕ) (done : List Message) (left : ℕ) (unread more : List ℕ) → (stage ≡ going → ⊥)
     → Leads stage fed done left unread → Leads stage (fed ++ more) done left unread
@@ -71,9 +71,9 @@ nothing_more s past st ended more = record {
   written = st.written;
 }
 
--- ---- all that is fed, at any moment
+-- ---- All that is fed, at any moment
 
--- the messages that are done are the first of all
+-- The messages that are done are the first of all messages.
 done_first : OneReading
     → (stage : Stage) (fed : List ℕ) (done : List Message) (left : ℕ) (unread more : List ℕ) (all : List Message)
     (ending : Ending) → Leads stage fed done left unread → Falls 0 (fed ++ more) all ending
@@ -82,7 +82,7 @@ done_first one going fed done left unread more all ending g f = let b = g.back m
 done_first one (over e) fed done left unread more all ending g f = let same =
     one 0 (fed ++ more) all done ending e f (g more) in ([], same.0 ∙ sym (append-nil done))
 
--- the commands that were given are the first of all
+-- The commands that were given are the first of all commands.
 first_commands : OneReading → (s : SessionState) (past : Traffic) → StandsFor s past
     → (more : List ℕ) (all : List Message) (ending : Ending) → Falls 0 (past.fed ++ more) all ending
     → (coming : List Command) × (commands all ≡ past.given ++ coming)
@@ -91,7 +91,7 @@ first_commands one s past st more all ending f =
     f in
     (commands d.0, ap commands d.1 ∙ commands-append st.done d.0 ∙ ap (λ z. z ++ commands d.0) (sym st.given_is))
 
--- the responses so far are a front of all
+-- The responses so far are a prefix of the text of all messages.
 front_more : (done ms all : List Message) (ending : Ending) (told later : Answers) → all ≡ done ++ ms
     → (rest : List ℕ) × (responses 0 all (told ++ later) ++ end_text ending ≡ (responses 0 done told ++ []) ++ rest)
 front_more done ms all ending told later e =
@@ -144,7 +144,7 @@ first_parts one s past st more all ending f = record {
       (t.0, t.1 ∙ ap (λ z. z ++ t.0) (sym st.written));
 }
 
--- ---- the next command
+-- ---- The next command
 
 get_seam : (xs : List Command) (y : Command) (ys : List Command) → slice_get ((xs ++ y ∷ []) ++ ys) (length xs) ≡ Some y
 get_seam [] y ys = refl

@@ -11,49 +11,51 @@ use Rattle.kds_session.specs.States.{SessionState}
 use Rattle.kds_session.specs.Messages.{Message, Ending, Falls}
 use Rattle.kds_session.specs.Standing.{Traffic, given_one, StandsFor, IsQuiet, to_come}
 
--- the next command, or none where no whole request with a command is left
+-- The session `new` after the next command was given, or after no command was given because no whole request with a
+-- command is left.
 abbrev pub IsNext : Option Command → SessionState → Traffic → Type 0
 IsNext None new past = StandsFor new past × IsQuiet new
 IsNext (Some what) new past = StandsFor new (given_one what past) × (new.waiting ≢ Nothing)
 
--- whatever had passed through the session, this is the next command
+-- Whatever had passed through the session `old`, `next` is the next command, and `new` is the session after it.
 abbrev pub GivesNext : SessionState → SessionState → Option Command → Type 0
 GivesNext old new next = (past : Traffic) → StandsFor old past → IsNext next new past
 
--- Of the commands of all bytes that were fed it is the one that follows those given, and none where there is none.
+-- The command `next` is the one that follows the given ones among the commands of all bytes that were fed, or `None` if
+-- there is no such command.
 abbrev pub FollowsThose : SessionState → Option Command → Type 0
 FollowsThose old next = (past : Traffic) → StandsFor old past → (ms : List Message) (ending : Ending)
     → Falls 0 past.fed ms ending
     → next ≡ slice_get (commands ms) (length past.given)
 
--- a command waits exactly where one was given
+-- A command waits exactly if a command was given.
 abbrev pub IsWaiting : Waiting → Option Command → Type 0
 IsWaiting new None = new ≡ Nothing
 IsWaiting new (Some what) = new ≢ Nothing
 
--- less is to come, or nothing was read
+-- Less is to come in the session `new` than in `old`, or nothing was read.
 abbrev pub IsNearer : SessionState → SessionState → Type 0
 IsNearer old new = (to_come new < to_come old) ⊎ ((new.unread ≡ old.unread) × (to_come new ≡ to_come old))
 
--- less is to come after a command
+-- Less is to come in `new` than in `old` if a command was given, and otherwise `IsNearer` holds.
 abbrev pub IsFewer : Option Command → SessionState → SessionState → Type 0
 IsFewer None old new = IsNearer old new
 IsFewer (Some what) old new = to_come new < to_come old
 
--- the bytes of an unfinished message are fewer than a head and a body may have
+-- The unread bytes of a live session are fewer than a head and a body may have together.
 abbrev pub IsShort : SessionState → Type 0
 IsShort s = s.standing ≡ Live → length s.unread < HEAD_BYTES + BODY_BYTES
 
--- where no command is given nothing is left to read
+-- If no command is given, nothing is left to read.
 abbrev pub IsReadOut : Option Command → SessionState → Type 0
 IsReadOut None new = IsQuiet new × IsShort new
 IsReadOut (Some what) new = Unit {0}
 
--- how many bytes may be fed now
+-- The number of bytes that the session `s` may be fed now.
 abbrev pub room_of : SessionState → ℕ
 room_of s = UNREAD_BYTES - length s.unread
 
--- where no command is given on a live session, a whole piece may be fed
+-- If no command is given on a live session, a whole piece may be fed.
 abbrev pub HasRoom : Option Command → SessionState → Type 0
 HasRoom None new = new.standing ≡ Live → PIECE_BYTES ≤ room_of new
 HasRoom (Some what) new = Unit {0}

@@ -12,12 +12,13 @@ use Rattle.kds_session.specs.Messages.{Message, IsUnfinished, Ending, boundary, 
 use Rattle.kds_session.specs.Text.{Answers, asked_by, commands, responses, end_text}
 use Rattle.kds_session.specs.States.{SessionState}
 
--- How far a connection is: it goes on, or it has ended so, whatever follows.
+-- How far a connection is: it goes on, or it has ended with an ending, whatever follows.
 pub data Stage : Type 0 where
   going : Stage
   over : Ending → Stage
 
--- after the command whose answer is the last one there are no messages
+-- The stage of a connection, by how its session stands and what waits. After the command whose answer is the last one,
+-- there are no messages.
 abbrev pub stage_of : Standing → Waiting → Stage
 stage_of Live Nothing = going
 stage_of Live Answer = going
@@ -25,7 +26,7 @@ stage_of Live LastAnswer = over closed
 stage_of Closed waiting = over closed
 stage_of (Refused status) waiting = over (refused status)
 
--- The last of these messages is a command that has no answer yet, and this says whether the connection closes
+-- The last of the messages `done` is a command that has no answer yet, and `close` says whether the connection closes
 -- after it.
 pub record IsAwaited (close : Bool) (done : List Message) (told : Answers) : Type 0 where
   pub before : List Message
@@ -36,14 +37,14 @@ pub record IsAwaited (close : Bool) (done : List Message) (told : Answers) : Typ
   pub told_before : length told ≡ length (commands before)
   pub close_is : closes (length before + 1) last.head ≡ close
 
--- which of the commands have their answers
+-- Which of the commands of the messages `done` have their answers: all, or all but the last one, which waits.
 abbrev pub Awaits : Waiting → List Message → Answers → Type 0
 Awaits Nothing done told = length told ≡ length (commands done)
 Awaits Answer done told = IsAwaited false done told
 Awaits LastAnswer done told = IsAwaited true done told
 
--- These bytes were fed, and their first messages are done. Whatever follows, the messages of all bytes are those that
--- are done, and then those of the unread bytes and what follows.
+-- The bytes `fed` were fed, and the messages `done` at their front are done. Whatever follows, the messages of all
+-- bytes are `done`, and then those of the bytes `unread` and what follows.
 pub record GoesOn (fed : List ℕ) (done : List Message) (left : ℕ) (unread : List ℕ) : Type 0 where
   pub count : length done + left ≡ REQUESTS
   pub some_left : 0 < left
@@ -52,12 +53,12 @@ pub record GoesOn (fed : List ℕ) (done : List Message) (left : ℕ) (unread : 
   pub back : (more : List ℕ) (all : List Message) (ending : Ending) → Falls 0 (fed ++ more) all ending
       → (ms : List Message) × (all ≡ done ++ ms) × Falls (length done) (unread ++ more) ms ending
 
--- how the bytes fall into messages
+-- How the bytes `fed` fall into messages, by the stage of the connection.
 abbrev pub Leads : Stage → List ℕ → List Message → ℕ → List ℕ → Type 0
 Leads going fed done left unread = GoesOn fed done left unread
 Leads (over ending) fed done left unread = (more : List ℕ) → Falls 0 (fed ++ more) done ending
 
--- what was written at the end
+-- What was written at the end of a connection, by its stage.
 abbrev pub stage_text : Stage → List ℕ
 stage_text going = []
 stage_text (over ending) = end_text ending
@@ -73,11 +74,11 @@ pub record Traffic : Type 0 where
 abbrev pub traffic : List ℕ → List Command → Answers → List ℕ → Traffic
 traffic fed given told sent = record { fed = fed; given = given; told = told; sent = sent }
 
--- at first, nothing
+-- What passed through a session at first: nothing.
 abbrev pub no_traffic : Traffic
 no_traffic = traffic [] [] [] []
 
--- A session through which this has passed.
+-- The session `s` is one through which `past` has passed.
 pub record StandsFor (s : SessionState) (past : Traffic) : Type 0 where
   pub done : List Message
   pub given_is : past.given ≡ commands done
@@ -86,7 +87,8 @@ pub record StandsFor (s : SessionState) (past : Traffic) : Type 0 where
   pub leads : Leads (stage_of s.standing s.waiting) past.fed done s.left s.unread
   pub written : past.sent ++ s.output ≡ responses 0 done past.told ++ stage_text (stage_of s.standing s.waiting)
 
--- more passed through it
+-- The traffic `past` after `bytes` were fed. The next three are `past` after a command was given, after an answer was
+-- told, and after bytes were sent.
 abbrev pub fed_more : List ℕ → Traffic → Traffic
 fed_more bytes past = record past { fed = past.fed ++ bytes }
 
@@ -99,25 +101,25 @@ told_one answer past = record past { told = past.told ++ answer ∷ [] }
 abbrev pub sent_more : List ℕ → Traffic → Traffic
 sent_more bytes past = record past { sent = past.sent ++ bytes }
 
--- Whatever had passed through the first, it and this change has passed through the second.
+-- Whatever traffic `past` had passed through the session `old`, it and the change `change` have passed through `new`.
 abbrev pub Passes : SessionState → SessionState → (Traffic → Traffic) → Type 0
 Passes old new change = (past : Traffic) → StandsFor old past → StandsFor new (change past)
 
--- no command waits, and no whole message stands in the unread bytes, or the session isn't live
+-- No command waits in the session `s`. If it is live, no whole message stands in its unread bytes.
 abbrev pub IsQuiet : SessionState → Type 0
 IsQuiet s = (s.standing ≡ Live → IsUnfinished s.unread) × (s.waiting ≡ Nothing)
 
--- No bytes of an unfinished message are left: none at all, or no message comes any more.
+-- No bytes of an unfinished message are left: there are no unread bytes, or no message comes any more.
 abbrev pub HasNoneLeft : Stage → List ℕ → Type 0
 HasNoneLeft going unread = unread ≡ []
 HasNoneLeft (over ending) unread = Unit {0}
 
--- the session is at the boundary of two messages, or past the last one
+-- The session `s` is at the boundary of two messages, or past the last one.
 abbrev pub IsAtBoundary : SessionState → Type 0
 IsAtBoundary s = HasNoneLeft (stage_of s.standing s.waiting) s.unread
 
--- How all bytes that were fed end, where the session is quiet: at a boundary or inside a message, or as the
--- connection ended before.
+-- How all bytes that were fed end, if the session is quiet: at a boundary or inside a message, or as the connection
+-- ended before.
 abbrev pub end_in : Stage → List ℕ → Ending
 end_in going [] = boundary
 end_in going (b ∷ bs) = inside
@@ -126,7 +128,7 @@ end_in (over ending) unread = ending
 abbrev pub end_of : SessionState → Ending
 end_of s = end_in (stage_of s.standing s.waiting) s.unread
 
--- what is still to come on a connection: its requests and its end, or nothing once it has ended
+-- What is still to come on a connection: its requests and its end, or nothing once it has ended.
 abbrev pub still : Stage → ℕ → ℕ
 still going left = left + 1
 still (over ending) left = 0

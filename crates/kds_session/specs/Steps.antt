@@ -17,9 +17,9 @@ use Rattle.kds_session.specs.States.{SessionState}
 use Rattle.kds_session.specs.Standing.{Traffic, given_one, StandsFor, IsQuiet, to_come}
 use Rattle.kds_session.specs.Next.{IsNearer}
 
--- ---- what stands at the front of the unread bytes
+-- ---- What stands at the front of the unread bytes
 
--- a head that was kept is that of the unread bytes
+-- The head `kept`, if one was kept, is the head of the unread bytes `bytes`.
 abbrev pub IsKept : List ℕ → Option Head → Type 0
 IsKept bytes kept = IfSome kept (λ head. IsFound bytes (WholeHead head))
 
@@ -29,16 +29,16 @@ IsFront bytes (front.Begun head) = IsShort bytes head
 IsFront bytes (front.Refused status) = IsFound bytes (RefusedHead status)
 IsFront bytes (front.Whole head) = IsWhole bytes head
 
--- a refusal has a status of the table
+-- A refusal at the front has a status that refuses a connection.
 abbrev pub IsKnown : Front → Type 0
 IsKnown front.Unfinished = Unit {0}
 IsKnown (front.Begun head) = Unit {0}
 IsKnown (front.Refused status) = is_refusal status ≡ true
 IsKnown (front.Whole head) = Unit {0}
 
--- ---- how `next` reads on
+-- ---- How `next` reads on
 
--- what a reading of these unread bytes comes to: a session with its responses as output
+-- What the reading `r` of the unread bytes `bytes` comes to: a session with its responses as output.
 abbrev pub read_state : List ℕ → Reading → SessionState
 read_state bytes r = record {
   unread = drop r.read bytes;
@@ -48,7 +48,7 @@ read_state bytes r = record {
   waiting = r.waiting;
 }
 
--- a session after what it has read on
+-- The session `s` after the reading `r` of its unread bytes.
 abbrev pub with_reading : SessionState → Reading → SessionState
 with_reading s r = record {
   unread = drop r.read s.unread;
@@ -58,23 +58,23 @@ with_reading s r = record {
   waiting = r.waiting;
 }
 
--- the session is live, and no command waits
+-- The session `s` is live, and no command waits.
 pub record IsFree (s : SessionState) : Type 0 where
   pub live : s.standing ≡ Live
   pub free : s.waiting ≡ Nothing
 
--- one step later
+-- The session `new` is one step later, where `past` had passed before the step.
 abbrev pub IsAfter : Step → SessionState → Traffic → Type 0
 IsAfter step.Stop new past = StandsFor new past × IsQuiet new
 IsAfter step.Answered new past = StandsFor new past
 IsAfter (step.Command what) new past = StandsFor new (given_one what past) × (new.waiting ≢ Nothing)
 
--- whatever had passed through the session before the step
+-- Whatever had passed through the session `old`, the session `new` is one step later.
 abbrev pub Steps : SessionState → SessionState → Step → Type 0
 Steps old new step = (past : Traffic) → StandsFor old past → IsAfter step new past
 
--- Something is known without the bytes that were fed: after an answered fault the session is free and fewer requests
--- may still come, and a command may be asked and waits.
+-- What is known without the bytes that were fed: after an answered fault, the session is free and fewer requests may
+-- still come. A command is one that may be asked for, and it waits.
 abbrev pub IsPlainly : Step → (old new : SessionState) → Type 0
 IsPlainly step.Stop old new = IsQuiet new × IsNearer old new
 IsPlainly step.Answered old new = IsFree new × (new.left < old.left)

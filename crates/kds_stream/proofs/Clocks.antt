@@ -15,7 +15,7 @@ use Rattle.kds_stream.proofs.LogLemmas.{all-settled, arrived_later, length-settl
 use Rattle.kds_stream_logs.specs.Logs.{HasArrived, IsBelow, settled_at}
 use Rattle.kds_stream.specs.Value.{IsStream, StreamValue, cut_at, later_cut}
 
--- ---- what is kept at a floor is kept at a higher one
+-- ---- What is kept at a floor is kept at a higher one
 
 pub kept_higher : (floor higher : ℕ) (log : Journal) (s n : ℕ) (ls : List LogValue) → floor ≤ higher
     → AreKept floor log s n ls → AreKept higher log s n ls
@@ -66,7 +66,7 @@ stream_advanced v clock cut later_is later is = record {
   fits = is.fits;
 }
 
--- ---- what is left of what is left
+-- ---- What is left of what is left
 
 left_twice_by : (b c : Bool) (r : Logged) (rs : List Logged) (f p g : ℕ) → is_left g 0 r ≡ b → is_left f p r ≡ c → g ≤ f
     → left_among f p (left_among g 0 rs) ≡ left_among f p rs
@@ -82,13 +82,13 @@ left_twice_by false true r rs f p g isb isc le h = absurd (late r.arrival r.seq 
     late arrival seq f p g isb isc le = grind (arith, nat_tests)
 left_twice_by false false r rs f p g isb isc le h = h
 
--- records that are trimmed at a lower floor first
+-- Records that are trimmed at a lower floor first are trimmed as at the higher floor alone.
 pub left_twice : (f p g : ℕ) (rs : List Logged) → g ≤ f → left_among f p (left_among g 0 rs) ≡ left_among f p rs
 left_twice f p g [] le = refl
 left_twice f p g (r ∷ rs) le =
     left_twice_by (is_left g 0 r) (is_left f p r) r rs f p g refl refl le (left_twice f p g rs le)
 
--- ---- a settled stream
+-- ---- A settled stream
 
 kept_settled : (floor : ℕ) (log : Journal) (s n i : ℕ) (ls : List LogValue) → AreKept floor log s n ls
     → AreKept floor log s n (settled_at floor i ls)
@@ -99,7 +99,7 @@ kept_settled floor log s n zero (l ∷ ls) h =
     (record { from = floor; early = omega arith; rest = same }, h.1)
 kept_settled floor log s n (suc i) (l ∷ ls) h = (h.0, kept_settled floor log s (n + 1) i ls h.1)
 
--- the stream where the log at a place is settled, whatever clock it remembers and whose turn it is
+-- The stream `v` after the log at the place `i` is settled, whatever clock it remembers and whose turn it is.
 abbrev pub settled_place : StreamValue → ℕ → ℕ → Option ℕ → ℕ → StreamValue
 settled_place v i clock cut turn =
     record v { logs = settled_at (floor_of v.cut) i v.logs; clock_before = clock; cut_before = cut; turn = turn }

@@ -10,7 +10,7 @@ use Rattle.kds_defs.specs.Streams.{was_made}
 use Rattle.kds_defs.specs.Lawful.{IsRetention}
 use Rattle.kds_stream.specs.Value.{cut_at, later_cut}
 
--- ---- what a line adds to the floor of a stream
+-- ---- What a line adds to the floor of a stream
 
 pub added : Bool → Bool → ℕ → ℕ → ℕ
 added made before floor floor_before = if made then max floor (if before then floor_before else 0) else 0
@@ -22,7 +22,7 @@ floor_added : (log : Journal) (line : Line) (s : ℕ)
 unfolding added
 floor_added log line s = refl
 
--- ---- the first line of a stream
+-- ---- The first line of a stream
 
 max_first : (made before : Bool) (a b n : ℕ) → made ≡ true → before ≡ false → n ≡ 0
     → max a (max (added made before a b) n) ≡ a
@@ -41,7 +41,7 @@ first_floor log line s made unmade none =
     (floor_at line.clock (retention log s))
     (floor_of_lines log s) made unmade none
 
--- ---- a line that changes the retention: both count
+-- ---- A line that changes the retention: both count
 
 max_changed : (made before : Bool) (a b n : ℕ) → made ≡ true → before ≡ true
     → max a (max (added made before a b) n) ≡ max (max b n) a
@@ -60,7 +60,7 @@ changed_floor log line s made before =
     (floor_at line.clock (retention log s))
     (floor_of_lines log s) made before
 
--- ---- a later clock
+-- ---- A later clock
 
 cut_floor_by : (clock r : ℕ) (b : Bool) → nat_lt clock r ≡ b → floor_of (if b then None else Some (clock - r))
     ≡ clock + 1 - r
@@ -88,7 +88,7 @@ advanced_floor log c d s h cut later lasts is =
     ∙ ap (λ n. max (floor_of cut) n) (sym (cut_floor d h))
     ∙ sym (later_floor cut (cut_at d h))
 
--- the floor of a cut stays at or below the clock
+-- The floor of a cut stays at or below the clock.
 pub trims_at : (d hours : ℕ) → IsRetention hours → floor_of (cut_at d hours) ≤ d
 trims_at d hours lasting = omega (arith, cut_floor d hours, lasting.0)
 

@@ -14,7 +14,7 @@ use Rattle.kds_stream.proofs.Others.{kept_along}
 use Rattle.kds_stream.specs.Showing.{Shows}
 use Rattle.kds_stream.specs.Value.{StreamValue}
 
--- the line of a change
+-- The line of a change of the limits.
 abbrev pub limits_line : StreamValue → ℕ → Bool → Line
 limits_line v by on = plain_line v.clock by (entry.Enforced v.no on)
 

@@ -31,13 +31,13 @@ use Rattle.kds_stream_logs.specs.Reading.{batch_among, behind_by, position_from}
 use Rattle.kds_stream.specs.Showing.{Shows}
 use Rattle.kds_stream.specs.Value.{IsStream, StreamValue, is_listed_at, listed_at}
 
--- ---- an answer, of one of two equal values
+-- ---- An answer, of one of two equal values
 
 pub answer_along : (decided : StreamValue → Decision) (u w : StreamValue) (a : Result Reply Refusal) → u ≡ w
     → a ≡ answer_of (decided u) → a ≡ answer_of (decided w)
 answer_along decided u w a is h = h ∙ ap (λ x. answer_of (decided x)) is
 
--- ---- listed shards
+-- ---- Listed shards
 
 pub unlisted : (floor : ℕ) (o : Option ShardState) → None ≡ option_map shown (listed_at floor o)
     → is_listed_at floor o ≡ false
@@ -49,7 +49,7 @@ unlisted floor (Some x) h = by (is_closed_below floor x) refl h
     by true e h = ap not e
     by false e h = absurd cc
 
--- a shard that is listed
+-- The shard is there, and `y` is this shard as replies show it.
 pub record HasState (floor : ℕ) (o : Option ShardState) (y : Shard) : Type 0 where
   pub state : ShardState
   pub at : o ≡ Some state
@@ -75,7 +75,7 @@ is_listed_some floor (Some x) = by (is_closed_below floor x)
     by true = refl
     by false = refl
 
--- a listed shard has a log
+-- A listed shard has a log.
 pub made_within : (v : StreamValue) (sh : ℕ) → IsStream v → is_listed_at (floor_of v.cut) (slice_get v.tree sh) ≡ true
     → sh < length v.logs
 made_within v sh is h = by (slice_get v.tree sh) refl h
@@ -88,7 +88,7 @@ pub listed_within : (v : StreamValue) (sh : ℕ) (y : Shard) → IsStream v
     → Some y ≡ option_map shown (listed_at (floor_of v.cut) (slice_get v.tree sh)) → sh < length v.logs
 listed_within v sh y is h = made_within v sh is (has_state (floor_of v.cut) (slice_get v.tree sh) y h).listed
 
--- a test that something is none
+-- A test that an option isn't `None` is the opposite of a test that it is.
 pub none_of : {A : Type 0} (o : Option A) (r : Bool) → is_some o ≡ not r → r ≡ is_none o
 none_of o true h = sym (ap not h)
 none_of o false h = sym (ap not h)
@@ -106,7 +106,7 @@ module _ (v : StreamValue) (log : Journal) (show : Shows v log) where
   pub listed_is : (sh : ℕ) → is_listed log v.clock v.no sh ≡ is_listed_at (floor_of v.cut) (slice_get v.tree sh)
   listed_is sh = ap (is_listed_state log v.clock v.no) (shard_is sh) ∙ listed_by (slice_get v.tree sh)
 
-  -- ---- iterators
+  -- ---- Iterators
 
   pub iterator_unlisted : (sh : ℕ) (from : Start)
       → None ≡ option_map shown (listed_at (floor_of v.cut) (slice_get v.tree sh))
@@ -176,7 +176,7 @@ module _ (v : StreamValue) (log : Journal) (show : Shows v log) where
       (chosen_none (is_good_start from v.next has.state)
       (position_from v.next (left_among (floor_of v.cut) 0 l.kept) from) (good has.state has.is_shown)))
 
-  -- ---- the end of a shard
+  -- ---- The end of a shard
 
   closed_by : (o : Option Closing) → is_some (ending o) ≡ not (is_none o)
   closed_by None = refl
@@ -193,7 +193,7 @@ module _ (v : StreamValue) (log : Journal) (show : Shows v log) where
       ∙ ap (λ rs. is_some y.end && are_none rs) (left_is v log show sh l below is place)
       ∙ ap (λ b. is_some y.end && b) (are_none_by (left_among (floor_of v.cut) place l.kept) ∙ ap is_none (sym first))
 
-  -- ---- a read
+  -- ---- A read
 
   module _ (sh position limit place : ℕ) (l : LogValue) (left : Option ℕ) (below : sh < length v.logs)
       (at : l ≡ get_or v.logs sh l)
@@ -230,7 +230,7 @@ module _ (v : StreamValue) (log : Journal) (show : Shows v log) where
             && are_none (left_from log v.clock v.no sh
             (place_after position (numbers_of (batch log v.clock v.no sh position limit))))) (shard_is sh ∙ e))
 
-  -- ---- records
+  -- ---- Records
 
   pub records_expired : (iter : Iter) (limit : ℕ) → true ≡ is_old v.clock iter.issued
       → Err refusal.Expired ≡ answer_of (get_records log v.clock iter limit)
@@ -260,7 +260,7 @@ module _ (v : StreamValue) (log : Journal) (show : Shows v log) where
       ∙ passed_if _ _ _ (ap not show.stored.live)
       ∙ refused_if _ _ _ (ap not (listed_is iter.shard ∙ unlisted (floor_of v.cut) (slice_get v.tree iter.shard) h))))
 
-  -- the reply, by whether the shard ends
+  -- The reply, by whether the shard ends.
   reply_by : (b : Bool) (sh place : ℕ) (rs : List Logged) → ends_at log v.clock v.no sh place ≡ b
       → records_reply log v.clock v.no sh rs place
       ≡ Accepted [] (if b then reply.Records (map stored rs) None

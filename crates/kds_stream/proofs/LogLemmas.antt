@@ -1,4 +1,4 @@
--- The logs of a stream: one record more, and the trim.
+-- The logs of a stream: a record is appended, and records are trimmed.
 use Rattle.std.proofs.Common.{◌≡◌, ℕ, zero, suc, ◌≤◌, List, [], ◌∷◌, ◌++◌, length, get_or, map, take, drop, Option}
 use Rattle.std.proofs.Common.{Some, None, refl, ap, ◌∙◌, arith}
 use Rattle.std.specs.List.{AllByRecursion}
@@ -8,9 +8,9 @@ use Rattle.kds_defs.specs.Records.{Logged}
 use Rattle.kds_log.specs.Log.{LogValue, LogWithRoom, log_of}
 use Rattle.kds_stream_logs.specs.Logs.{HasArrived, IsBelow, IsUnder, empty_log, settled_at, settled_log, with_appended}
 
--- ---- facts of each
+-- ---- Facts of each
 
--- what arrived at or before a moment arrived at or before a later one
+-- What arrived at or before a moment arrived at or before a later one.
 pub arrived_later : (moment later : ℕ) (ls : List LogValue) → moment ≤ later → AllByRecursion (HasArrived moment) ls
     → AllByRecursion (HasArrived later) ls
 arrived_later moment later ls le h =
@@ -18,7 +18,7 @@ arrived_later moment later ls le h =
     (λ l a. all_weaker (λ (r : Logged). r.arrival ≤ moment) (λ (r : Logged). r.arrival ≤ later)
     (λ r early. omega arith) l.kept a) ls h
 
--- numbers below one are below a greater one
+-- Numbers below a number are below a greater one.
 pub below_higher : (next higher : ℕ) (ls : List LogValue) → next ≤ higher → AllByRecursion (IsBelow next) ls
     → AllByRecursion (IsBelow higher) ls
 below_higher next higher ls le h = all_weaker (IsBelow next) (IsBelow higher) (λ l a. under l.last a) ls h
@@ -27,14 +27,14 @@ below_higher next higher ls le h = all_weaker (IsBelow next) (IsBelow higher) (�
     under None a = tt
     under (Some n) a = omega arith
 
--- a list that is written over the whole of another
+-- A list that is written over the whole of another is itself.
 pub written_back : {A : Type 0} (n : ℕ) (new old : List A) → length new ≡ n
     → take n (new ++ drop (length new) old) ≡ new
 written_back n new old h = take_at new (drop (length new) old) n h
 
--- ---- one record more in the log at a place
+-- ---- One record more in the log at a place
 
--- the log at a place
+-- The log at a place is the one at this place among the logs without their reserved memory.
 pub log_at : (ls : List LogWithRoom) (i : ℕ) (l : LogWithRoom) → l ≡ get_or ls i l
     → log_of l ≡ get_or (map log_of ls) i (log_of l)
 log_at [] i l is = refl
@@ -46,8 +46,8 @@ length-appended i r [] = refl
 length-appended zero r (l ∷ ls) = refl
 length-appended (suc i) r (l ∷ ls) = ap suc (length-appended i r ls)
 
--- the logs with a record more in the one at a place, and without what is trimmed there, where they were lent to the
--- call that puts it there
+-- The logs with a record added to the one at a place, and without what is trimmed there, if they were lent to the call
+-- that puts the record there.
 pub put_back : (n sh i floor : ℕ) (r : Logged) (new items lent : List LogWithRoom) → length new ≡ n
     → map log_of new ≡ settled_at floor i (with_appended i r (map log_of lent)) → lent ≡ items → i ≡ sh
     → map log_of (take n (new ++ drop (length new) items)) ≡ settled_at floor sh (with_appended sh r (map log_of items))
@@ -57,7 +57,7 @@ put_back n sh i floor r new items lent len is same at =
     ∙ ap (λ (ls : List LogWithRoom). settled_at floor i (with_appended i r (map log_of ls))) same
     ∙ ap (λ j. settled_at floor j (with_appended j r (map log_of items))) at
 
--- ---- further logs, in memory that was reserved
+-- ---- Further logs, in memory that was reserved
 
 pub one_more_log : (new reserved : List LogWithRoom) (before : List LogValue) (l : LogWithRoom)
     → new ≡ reserved ++ l ∷ [] → map log_of reserved ≡ before → log_of l ≡ empty_log
@@ -73,7 +73,7 @@ two_more new one reserved before l m second first same is other =
     one_more_log new one (before ++ (empty_log ∷ [])) m second (one_more_log one reserved before l first same is) other
     ∙ append_assoc before (empty_log ∷ []) (empty_log ∷ [])
 
--- what holds of each log holds after, if it holds of the one with the record more
+-- What is true of each log is true after a record is added, if it is true of the log that has this record.
 pub all-appended : (P Q : LogValue → Type 0) (i : ℕ) (r : Logged) → ((l : LogValue) → P l → Q l)
     → ((l : LogValue) → P l → Q (record { kept = l.kept ++ r ∷ []; last = Some r.seq })) → (ls : List LogValue)
     → AllByRecursion P ls → AllByRecursion Q (with_appended i r ls)
@@ -81,14 +81,14 @@ all-appended P Q i r others here [] h = tt
 all-appended P Q zero r others here (l ∷ ls) h = (here l h.0, all_weaker P Q others ls h.1)
 all-appended P Q (suc i) r others here (l ∷ ls) h = (others l h.0, all-appended P Q i r others here ls h.1)
 
--- ---- the trim
+-- ---- The trim
 
 pub length-settled : (floor n : ℕ) (ls : List LogValue) → length (settled_at floor n ls) ≡ length ls
 length-settled floor n [] = refl
 length-settled floor zero (l ∷ ls) = refl
 length-settled floor (suc n) (l ∷ ls) = ap suc (length-settled floor n ls)
 
--- what holds of each log, whatever is trimmed, holds after
+-- What is true of each log, whatever is trimmed, is true after a log is settled.
 pub all-settled : (P : LogValue → Type 0) (floor n : ℕ) → ((l : LogValue) → P l → P (settled_log floor l))
     → (ls : List LogValue) → AllByRecursion P ls → AllByRecursion P (settled_at floor n ls)
 all-settled P floor n f [] h = tt

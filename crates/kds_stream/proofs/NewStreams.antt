@@ -26,7 +26,7 @@ use Rattle.kds_stream.specs.Showing.{AreKept, Shows}
 use Rattle.kds_stream_logs.specs.Logs.{HasArrived, IsBelow, empty_log}
 use Rattle.kds_stream.specs.Value.{EndsUnder, IsStream, StreamValue, cut_at}
 
--- ---- so many shards, and so many logs
+-- ---- So many shards, and so many logs
 
 length-made : (count start : ℕ) → length (made_shards count start) ≡ count
 length-made count start = length_first 0 start (uniform count) ∙ length_uniform (2 ^ 128 / count) 0 count
@@ -47,7 +47,7 @@ kept_none floor log s n (suc count) none = (
   kept_none floor log s (n + 1) count none,
 )
 
--- ---- the stream
+-- ---- The stream
 
 trims_new : (made : ℕ) (cut : Option ℕ) → cut ≡ cut_at made FIRST_HOURS → floor_of cut ≤ made
 trims_new made cut is = omega (arith, ap floor_of is, trims_at made FIRST_HOURS (omega arith, omega arith))
@@ -59,7 +59,7 @@ open_first n start (r ∷ rs) = ap suc (open_first (n + 1) start rs)
 few_made : (count : ℕ) → IsShardCount count → length (filter is_open (made_shards count 1)) ≤ OPEN_SHARDS
 few_made count h = omega (arith, h.1, open_first 0 1 (uniform count), length_uniform (2 ^ 128 / count) 0 count)
 
--- a stream as it is made
+-- A stream as it is made.
 abbrev pub new_value : ℕ → ℕ → List ℕ → List ShardState → List LogValue → List WindowValue → Option ℕ → Option ℕ
     → StreamValue
 new_value s made name tree logs windows cut cut_before = record {

@@ -13,11 +13,11 @@ use Rattle.kds_defs.specs.Shards.{with_closed}
 use Rattle.kds_defs.specs.StreamCommands.{is_open_at}
 use Rattle.kds_tree.specs.Tree.{merge_refusal, split_refusal}
 
--- how many of them are open
+-- How many of the shards `xs` are open.
 abbrev pub open_among : List ShardState → ℕ
 open_among xs = length (filter is_open xs)
 
--- one more where it is open
+-- There is one more open shard if the added one is open.
 one_more : (b : Bool) (x : ShardState) (xs : List ShardState) → b ≡ true → length (cond b (x ∷ xs) xs) ≡ suc (length xs)
 one_more true x xs h = refl
 one_more false x xs h = absurd cc
@@ -31,7 +31,7 @@ no_less : (b : Bool) (x : ShardState) (xs : List ShardState) → length xs ≤ l
 no_less true x xs = omega arith
 no_less false x xs = omega arith
 
--- closing one leaves no more open
+-- Closing a shard leaves no more shards open.
 open_closed : (sh : ℕ) (closing : Closing) (xs : List ShardState)
     → open_among (with_closed sh closing xs) ≤ open_among xs
 open_closed sh closing [] = omega arith
@@ -44,7 +44,7 @@ both_more : (b : Bool) (x : ShardState) (xs ys : List ShardState) → suc (lengt
 both_more true x xs ys h = ap suc h
 both_more false x xs ys h = h
 
--- and one less where it was open
+-- Closing an open shard leaves one shard less open.
 open_fewer : (sh : ℕ) (closing : Closing) (xs : List ShardState) → is_open_at (slice_get xs sh) ≡ true
     → suc (open_among (with_closed sh closing xs)) ≡ open_among xs
 open_fewer sh closing [] h = absurd cc
@@ -56,7 +56,7 @@ open_fewer (suc sh) closing (x ∷ xs) h =
 open-append : (xs ys : List ShardState) → open_among (xs ++ ys) ≡ open_among xs + open_among ys
 open-append xs ys = ap length (filter-append is_open xs ys) ∙ length-append (filter is_open xs) (filter is_open ys)
 
--- ---- what no refusal says
+-- ---- What no refusal says
 
 passed : (b : Bool) (r : Refusal) (o : Option Refusal) → (if not b then Some r else o) ≡ None → (b ≡ true) × (o ≡ None)
 passed true r o h = (refl, h)
@@ -69,7 +69,7 @@ merges_open : (xs : List ShardState) (sh other : ℕ) → merge_refusal xs sh ot
     → is_open_at (slice_get xs sh) ≡ true
 merges_open xs sh other passes = both_left _ _ (passed _ _ _ (passed _ _ _ passes).1).0
 
--- ---- the limit
+-- ---- The limit
 
 pub few_split : (xs : List ShardState) (sh at start : ℕ) (closing : Closing) → open_among xs < OPEN_SHARDS
     → split_refusal xs sh at ≡ None → open_among (split_shards sh at closing start xs) ≤ OPEN_SHARDS

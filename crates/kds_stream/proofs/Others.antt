@@ -11,7 +11,7 @@ use Rattle.kds_stream_logs.proofs.Rates.{stand_along}
 use Rattle.kds_stream.specs.Showing.{AreKept, IsKept, Shows}
 use Rattle.kds_stream.specs.Value.{StreamValue}
 
--- ---- logs that keep the records of one journal keep those of another with the same records
+-- ---- Logs that keep the records of one journal keep those of another with the same records
 
 pub kept_along : (floor : ℕ) (log log' : Journal) (s n : ℕ) (ls : List LogValue)
     → ((sh : ℕ) → records log' s sh ≡ records log s sh)

@@ -34,13 +34,13 @@ use Rattle.kds_stream.specs.Showing.{AreKept, IsKept, Shows, ShowsStored}
 use Rattle.kds_stream_logs.specs.Logs.{HasArrived, IsBelow, IsUnder, with_appended}
 use Rattle.kds_stream.specs.Value.{EndsUnder, IsClosedUnder, IsStream, StreamValue}
 
--- ---- the next number after a line that draws one
+-- ---- The next number after a line that draws one
 
 pub one_more : (b : Bool) (n m : ℕ) → b ≡ true → n ≡ m → (if b then 1 else 0) + n ≡ m + 1
 one_more true n m h e = omega arith
 one_more false n m h e = absurd cc
 
--- ---- what a call owes, of one of two equal values
+-- ---- What a call owes, of one of two equal values
 
 pub led_along : (decided : StreamValue → Decision) (u u' w : StreamValue) (log : Journal) (a : Result Reply Refusal)
     → u ≡ u' → (a ≡ answer_of (decided u)) × Shows w (with_lines (lines_of (decided u)) log)
@@ -48,7 +48,7 @@ pub led_along : (decided : StreamValue → Decision) (u u' w : StreamValue) (log
 led_along decided u u' w log a is h =
     (h.0 ∙ ap (λ x. answer_of (decided x)) is, subst (λ x. Shows w (with_lines (lines_of (decided x)) log)) is h.1)
 
--- ---- the record that a put stores
+-- ---- The record that a put stores
 
 abbrev pub put_record : StreamValue → NewItem → Logged
 put_record v item = record {
@@ -59,7 +59,7 @@ put_record v item = record {
   payload = item.payload;
 }
 
--- a record that arrived at the floor or later is kept with the others
+-- A record that arrived at the floor or later is kept with the others.
 left_one : (from : ℕ) (rs : List Logged) (r : Logged) → from ≤ r.arrival
     → left_among from 0 (rs ++ r ∷ []) ≡ left_among from 0 rs ++ r ∷ []
 left_one from rs r le =
@@ -69,7 +69,7 @@ left_one from rs r le =
     late : (from arrival seq : ℕ) → from ≤ arrival → (not (nat_lt arrival from) && nat_le 0 seq) ≡ true
     late from arrival seq h = grind (arith, nat_tests)
 
--- the logs with the record keep the records of a journal that has it too
+-- The logs with the record keep the records of a journal that has the record too.
 kept_put : (floor : ℕ) (log log' : Journal) (s n i at : ℕ) (r : Logged) (ls : List LogValue) → floor ≤ r.arrival
     → at ≡ n + i → records log' s at ≡ records log s at ++ r ∷ []
     → ((sh : ℕ) → at ≢ sh → records log' s sh ≡ records log s sh)
@@ -102,9 +102,9 @@ kept_put floor log log' s n (suc i) at r (l ∷ ls) late is here others h = (
     apart : (at n i : ℕ) → at ≡ n + suc i → at ≡ n → ⊥
     apart at n i is e = omega arith
 
--- ---- the throughput
+-- ---- The throughput
 
--- a put of an item, as its shard counts it
+-- A put of the item `item`, as its shard counts it.
 abbrev pub put_of : StreamValue → NewItem → SizedPut
 put_of v item = record { clock = v.clock; bytes = item_bytes item }
 
@@ -112,7 +112,7 @@ module _ (v : StreamValue) (log : Journal) (by n : ℕ) (item : NewItem) (same :
   pub home_so : home log v.no item.hash ≡ home_among (filter is_open v.tree) item.hash
   home_so = ap (λ xs. home_among (filter is_open xs) item.hash) same
 
-  -- the puts of a shard after its line
+  -- The puts of a shard after the line of a put.
   pub puts_more : (sh : ℕ) → puts (put_line log v.clock by v.no n item ∷ log) v.no sh
       ≡ with_put (home_among (filter is_open v.tree) item.hash) (put_of v item) (puts log v.no) sh
   puts_more sh =
@@ -135,7 +135,7 @@ module _ (v : StreamValue) (log : Journal) (by n : ℕ) (item : NewItem) (same :
         ∙ rates.none_beyond sh beyond;
   }
 
--- the test of the decision, where the limits and the puts of the item's home are known
+-- The test of the decision, if the limits and the puts of the item's home are known.
 pub held_is : (log : Journal) (c s : ℕ) (xs : List ShardState) (item : NewItem) (on : Bool) (sh bytes : ℕ)
     (ps : List SizedPut) → shards log s ≡ xs → is_enforced log s ≡ on → sh ≡ home_among (filter is_open xs) item.hash
     → bytes ≡ item_bytes item → ps ≡ puts log s sh
@@ -147,7 +147,7 @@ held_is log c s xs item on sh bytes ps same enforces at counted are =
     ∙ ap (λ qs. on && is_throttled qs c (item_bytes item)) (sym are)
     ∙ ap (λ n. on && is_throttled ps c n) (sym counted)
 
--- ---- the decision
+-- ---- The decision
 
 module _ (v : StreamValue) (log : Journal) (by : ℕ) (item : NewItem) (shown : Shows v log) where
   pub put_throttled : (sh : ℕ) → sh ≡ home_among (filter is_open v.tree) item.hash
@@ -187,7 +187,7 @@ module _ (v : StreamValue) (log : Journal) (by : ℕ) (item : NewItem) (shown : 
     payload = item.payload;
   } in r) shown.next_is
 
-  -- the records of a shard after the line
+  -- The records of a shard after the line of a put.
   records_by : (a b : Bool) (sh : ℕ) → (v.no == v.no) ≡ a → (home log v.no item.hash == sh) ≡ b
       → records (put_line log v.clock by v.no (next_number log v.no) item ∷ log) v.no sh
       ≡ (if a && b then records log v.no sh ++ record {
@@ -325,7 +325,7 @@ module _ (v : StreamValue) (log : Journal) (by : ℕ) (item : NewItem) (shown : 
       (put_shows sh next logs windows drawn at within trims are rates stand) in
       (ap (λ (p : Place). Ok (reply.Put p)) (place_is sh at) ∙ both.0, both.1)
 
--- ---- a stream still
+-- ---- A stream still
 
 pub ends_later : (next higher : ℕ) (xs : List ShardState) → next ≤ higher → AllByRecursion (EndsUnder next) xs
     → AllByRecursion (EndsUnder higher) xs

@@ -8,7 +8,7 @@ use Rattle.kds_rate.specs.Windows.{StandsFor, WindowValue}
 use Rattle.kds_stream_logs.specs.Rating.{IsCounted, IsUnused, StandFor}
 use Rattle.kds_stream.specs.Rating.{AreRated}
 
--- ---- windows of no puts
+-- ---- Windows of no puts
 
 pub stand_unused : (f : ℕ → List SizedPut) (n : ℕ) (ws : List WindowValue) → AllByRecursion IsUnused ws
     → ((sh : ℕ) → n ≤ sh → f sh ≡ []) → StandFor f n ws
@@ -38,7 +38,7 @@ two_windows new one reserved before a b more first same =
     more ∙ ap (λ (us : List WindowValue). us ++ b ∷ []) (one_window one reserved before a first same)
     ∙ append_assoc before (a ∷ []) (b ∷ [])
 
--- ---- a stream's windows
+-- ---- A stream's windows
 
 pub counted_later : (moment later : ℕ) (ws : List WindowValue) → moment ≤ later → AllByRecursion (IsCounted moment) ws
     → AllByRecursion (IsCounted later) ws

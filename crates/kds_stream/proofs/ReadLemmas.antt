@@ -15,9 +15,9 @@ use Rattle.kds_stream.specs.Showing.{AreKept, IsKept, Shows}
 use Rattle.kds_stream_logs.specs.Logs.{IsBelow, IsUnder}
 use Rattle.kds_stream.specs.Value.{IsStream, StreamValue}
 
--- ---- the numbers of a batch
+-- ---- The numbers of a batch
 
--- a log of a stream, and its numbers
+-- The numbers of each log of a stream are below the greatest.
 pub below_last : (v : StreamValue) (i : ℕ) (l : LogValue) → IsStream v → i < length v.logs → l ≡ get_or v.logs i l
     → IsBelow (2 ^ 64 - 1) l
 below_last v i l is below at = by l.last (all_at (IsBelow v.next) v.logs i l below at is.numbers)
@@ -26,7 +26,7 @@ below_last v i l is below at = by l.last (all_at (IsBelow v.next) v.logs i l bel
     by None h = tt
     by (Some n) h = omega (arith, is.fits)
 
--- ---- what is left of a shard's records
+-- ---- What is left of a shard's records
 
 pub are_none_by : (rs : List Logged) → are_none rs ≡ is_none (first_arrival rs)
 are_none_by [] = refl

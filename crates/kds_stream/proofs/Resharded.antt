@@ -32,7 +32,7 @@ use Rattle.kds_stream_logs.specs.Logs.{HasArrived, IsBelow, empty_log}
 use Rattle.kds_stream.specs.Value.{EndsUnder, IsStream, StreamValue}
 use Rattle.kds_tree.specs.Tree.{merge_refusal, split_refusal}
 
--- ---- the shards after it
+-- ---- The shards after it
 
 ends_closed : (next sh : ℕ) (closing : Closing) (xs : List ShardState) → closing.number < next
     → AllByRecursion (EndsUnder next) xs → AllByRecursion (EndsUnder next) (with_closed sh closing xs)
@@ -54,7 +54,7 @@ ends_merged next sh other start closing xs below h =
       tt,
     )
 
--- ---- the logs after it
+-- ---- The logs after it
 
 kept_empty : (floor : ℕ) (log : Journal) (s n : ℕ) (new : List LogValue) → AllByRecursion (λ l. l ≡ empty_log) new
     → ((sh : ℕ) → n ≤ sh → records log s sh ≡ []) → AreKept floor log s n new
@@ -80,7 +80,7 @@ all_empty : (P : LogValue → Type 0) (new : List LogValue) → P empty_log → 
     → AllByRecursion P new
 all_empty P new p h = all_weaker (λ l. l ≡ empty_log) P (λ l is. subst P (sym is) p) new h
 
--- ---- the stream after it
+-- ---- The stream after it
 
 pub stream_grown : (v : StreamValue) (tree : List ShardState) (new : List LogValue) (ws : List WindowValue) (next : ℕ)
     → v.next ≤ next → next < 2 ^ 64
@@ -113,7 +113,7 @@ stream_grown v tree new ws next more within empty unused beside grown few ends i
   fits = within;
 }
 
--- ... of a journal with one line more, which adds no record
+-- The stream shows a journal with a further line, which adds no record.
 shows_grown : (v : StreamValue) (log : Journal) (line : Line) (tree : List ShardState) (new : List LogValue)
     (ws : List WindowValue) (next : ℕ) → line.clock ≡ v.clock → is_live (line ∷ log) v.no ≡ is_live log v.no
     → was_made (line ∷ log) v.no ≡ was_made log v.no → name_of (line ∷ log) v.no ≡ name_of log v.no
@@ -337,7 +337,7 @@ stream_merged v sh other next tree logs windows ws drawn free passes tree_is log
     (ends_merged next sh other (v.next + 1) how v.tree (omega arith)
     (ends_later v.next next v.tree (omega arith) is.endings))) is))
 
--- ---- what the calls owe
+-- ---- What the calls owe
 
 pub split_done : (u v w : StreamValue) (full : Bool) (log : Journal) (by sh at : ℕ) → v ≡ u
     → split_where full log u.clock by u.no sh at ≡ Accepted (split_line log u.clock by u.no sh at ∷ []) reply.Done

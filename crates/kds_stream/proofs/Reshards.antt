@@ -21,7 +21,7 @@ use Rattle.kds_stream.specs.Showing.{Shows, merge_line, split_line}
 use Rattle.kds_stream.specs.Value.{StreamValue, is_listed_at}
 use Rattle.kds_tree.specs.Tree.{merge_refusal, split_refusal}
 
--- ---- the tests of the tree
+-- ---- The tests of the tree
 
 split_tests : (s a b : Bool) (r : Refusal) (rest : Decision) → s ≡ true
     → Some r ≡ (if not s then Some refusal.NoShard else if not a then Some refusal.ShardClosed else if not b then Some
@@ -67,14 +67,14 @@ there : (floor : ℕ) (o : Option ShardState) → is_listed_at floor o ≡ true 
 there floor None h = absurd cc
 there floor (Some x) h = refl
 
--- a list that is short enough
+-- A list that is short enough has a number left.
 few : (n : ℕ) → n < 2 ^ 63 → nat_lt last_number (n + 1) ≡ false
 few n h = grind (arith, nat_tests)
 
 few_one : (n : ℕ) → n < 2 ^ 63 → nat_lt last_number n ≡ false
 few_one n h = grind (arith, nat_tests)
 
--- ---- the decisions
+-- ---- The decisions
 
 module _ (v : StreamValue) (log : Journal) (by : ℕ) (show : Shows v log) where
   spent_next : (a : Bool) → v.next ≡ last_number → (a || next_number log v.no == last_number) ≡ true
@@ -90,7 +90,7 @@ module _ (v : StreamValue) (log : Journal) (by : ℕ) (show : Shows v log) where
   few_shards h = subst (λ (xs : List ShardState). length xs < 2 ^ 63) (sym show.stored.shards_are) h
 
   module _ (full : Bool) (sh at : ℕ) where
-    -- what follows a listed shard
+    -- What is decided of a split once the shard is listed.
     split_rest : Decision
     split_rest =
         refuse refusal.Full if full else

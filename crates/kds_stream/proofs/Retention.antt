@@ -21,12 +21,12 @@ use Rattle.kds_stream.proofs.Rates.{rated_later}
 use Rattle.kds_stream.specs.Showing.{Shows}
 use Rattle.kds_stream.specs.Value.{IsStream, StreamValue, cut_at, later_cut}
 
--- the line of a change
+-- The line of a change of the retention.
 abbrev pub kept_line : StreamValue → ℕ → ℕ → Line
 kept_line v by wanted = plain_line v.clock by (entry.Kept v.no wanted)
 
 module _ (v : StreamValue) (log : Journal) (by wanted : ℕ) (raise : Bool) (shown : Shows v log) where
-  -- the test as the code makes it
+  -- The test of the decision, as the code makes it.
   tested : (b : Bool) → b ≡ (if raise then nat_lt wanted v.hours else nat_lt v.hours wanted)
       → (if raise then nat_lt wanted (hours log v.no) else nat_lt (hours log v.no) wanted) ≡ b
   tested b is = ap (λ n. if raise then nat_lt wanted n else nat_lt n wanted) shown.stored.hours_are ∙ sym is

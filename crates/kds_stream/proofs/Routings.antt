@@ -40,9 +40,9 @@ use Rattle.kds_stream_logs.specs.Logs.{IsBelow, settled_at, with_appended}
 use Rattle.kds_stream.specs.Value.{EndsUnder, IsStream, StreamValue}
 use Rattle.kds_stream_logs.proofs.Routings.{IsFrom, all_from, apart, turns}
 
--- ---- the records of items
+-- ---- The records of items
 
--- what is made of an item more, by whether it is held back
+-- What is made of a further item, by whether it is held back.
 taken_at : (xs : List ShardState) (c : ℕ) (on : Bool) (f : ℕ → List SizedPut) (item : NewItem) (items : List NewItem)
     (b : Bool) → is_held xs c on f item ≡ b
     → taken xs c on f (item ∷ items)
@@ -64,7 +64,7 @@ outcomes_at : (xs : List ShardState) (c : ℕ) (on : Bool) (f : ℕ → List Siz
 outcomes_at xs c on f n item items b is =
     ap (λ d. outcome_of xs n item d ∷ outcomes xs c on (after_item xs c f item d) (after_number n d) items) is
 
--- a stream's logs can take them, and they are in turn
+-- The logs of a stream can take the records, and the records are in turn.
 pub can_take : (v : StreamValue) (items : List NewItem) (rs : List Routed) → IsStream v
     → rs ≡ routed_items v.tree v.clock v.next items → AllByRecursion (IsWithin (length v.tree)) rs
     → AllByRecursion (CanTake v.logs) rs
@@ -82,9 +82,9 @@ pub in_turn : (v : StreamValue) (items : List NewItem) (rs : List Routed)
     → rs ≡ routed_items v.tree v.clock v.next items → AreInTurn rs
 in_turn v items rs are = subst AreInTurn (sym are) (turns v.tree v.clock v.next items)
 
--- ---- what the stream shows after them
+-- ---- What the stream shows after them
 
--- the stream with these logs and windows and this next number, which remembers no earlier clock
+-- The stream `v` with these logs and windows and this next number. It remembers no earlier clock.
 abbrev pub with_logs : StreamValue → List LogValue → List WindowValue → ℕ → StreamValue
 with_logs v ls ws next = record v { logs = ls; windows = ws; next = next; clock_before = v.clock; cut_before = v.cut }
 
@@ -93,7 +93,7 @@ shows_none : (v : StreamValue) (next : ℕ) (log : Journal) → next ≡ v.next 
 shows_none v next log is shown =
     subst (λ n. ShowsStored (record v { next = n; clock_before = v.clock; cut_before = v.cut }) log) (sym is) shown
 
--- what one put makes of a stream, its windows aside
+-- What one put makes of the stream `v`, its windows aside.
 after_one : StreamValue → NewItem → StreamValue
 after_one v item = record v {
   logs = with_appended (home_among (filter is_open v.tree) item.hash) (put_record v item)
@@ -103,7 +103,7 @@ after_one v item = record v {
   cut_before = v.cut;
 }
 
--- the lines of a put of items more, by whether it is held back
+-- The lines of a put of several items, by whether the first is held back.
 lines_at : (log : Journal) (c by s : ℕ) (item : NewItem) (items : List NewItem) (b : Bool)
     → is_held_back log c s item ≡ b
     → put_lines log c by s (item ∷ items)
@@ -124,7 +124,7 @@ told_at log c by s item items b is =
     ∷ put_outcomes log c by s items else outcome.Stored (put_place log s (next_number log s) item)
     ∷ put_outcomes (put_line log c by s (next_number log s) item ∷ log) c by s items) is
 
--- the puts are those of the journal, and stay so
+-- The puts are those of the journal, and stay so.
 puts_stay : (v : StreamValue) (log : Journal) (by : ℕ) (item : NewItem) (f : ℕ → List SizedPut)
     → shards log v.no ≡ v.tree → ((n : ℕ) → f n ≡ puts log v.no n)
     → (n : ℕ) → after_item v.tree v.clock f item false n
@@ -141,7 +141,7 @@ judged v log item f shards_are enforces same =
     (f (home_among (filter is_open v.tree) item.hash)) shards_are enforces refl refl
     (same (home_among (filter is_open v.tree) item.hash))
 
--- there is a line for each item that is taken, and the outcomes are so
+-- There is a line for each item that is taken, and the outcomes are those of the lines.
 pub record Told (v : StreamValue) (log : Journal) (by n : ℕ) (f : ℕ → List SizedPut) (items : List NewItem) :
     Type 0 where
   pub many : length (put_lines log v.clock by v.no items) ≡ length (taken v.tree v.clock v.enforced f items)
@@ -192,7 +192,7 @@ puts_told (item ∷ items) v log by n f shards_are enforces number same =
               ∙ sym (outcomes_at v.tree v.clock v.enforced f n item items false is);
         }
 
--- what the stream shows after all of them
+-- What the stream shows after all of the items.
 pub record Stores (v : StreamValue) (log : Journal) (by : ℕ) (f : ℕ → List SizedPut) (items : List NewItem) :
     Type 0 where
   pub stored : (next : ℕ) → next ≡ v.next + length (taken v.tree v.clock v.enforced f items)
@@ -313,9 +313,9 @@ shows_puts (item ∷ items) v log by f enforces same none within trims shown =
               (λ sh any. after_at v.tree v.clock v.enforced f item items false sh is) stand));
         }
 
--- ---- a stream still
+-- ---- A stream still
 
--- with other windows, and the same next number
+-- A stream with other windows, and the same next number, is a stream still.
 pub stream_same : (v : StreamValue) (windows : List WindowValue) (next : ℕ) → next ≡ v.next
     → AreRated v.clock (length v.tree) windows → IsStream v
     → IsStream (record v { windows = windows; next = next; clock_before = v.clock; cut_before = v.cut })
@@ -355,7 +355,7 @@ stream_puts (item ∷ items) v next drawn fits is =
     (number_free v.next next (length items) drawn fits) refl refl refl
     (rated_later v.clock_before v.clock (length v.tree) v.windows is.order is.rated) is)
 
--- ---- the decision
+-- ---- The decision
 
 is_past : (n : ℕ) → 2 ^ 64 ≤ n → nat_lt last_number n ≡ true
 is_past n h = grind (arith, nat_tests, h)
@@ -407,7 +407,7 @@ module _ (v : StreamValue) (log : Journal) (by : ℕ) (items : List NewItem) (sh
       ∙ is_not_past (v.next + length ts) (omega (arith, made.next_is, fits)))) shows in
       (ap (λ (os : List Outcome). Ok (reply.PutMany os)) (made.outcomes_are ∙ sym told.so) ∙ both.0, both.1)
 
--- ---- what is trimmed at their places is dropped
+-- ---- What is trimmed at their places is dropped
 
 pub stream_each : (v : StreamValue) (ws : List WindowValue) (next : ℕ) (ps : List Place) (ls : List LogValue)
     → IsStream (with_logs v ls ws next) → IsStream (with_logs v (settled_each (floor_of v.cut) ps ls) ws next)

@@ -35,7 +35,7 @@ use Rattle.kds_stream.specs.Steps.{are_spent, scale_where}
 use Rattle.kds_stream_logs.specs.Logs.{empty_log}
 use Rattle.kds_stream.specs.Value.{EndsUnder, IsStream, StreamValue}
 
--- ---- the shards after the steps
+-- ---- The shards after the steps
 
 pub length_scaled : (steps : List ScaleStep) (n c : ℕ) (xs : List ShardState)
     → length (scaled steps n c xs) ≡ length xs + made_by steps
@@ -64,7 +64,7 @@ ends_scaled (Cut b ∷ steps) n c next xs le h =
     ends_scaled steps (n + 1) c next (stepped (Cut b) n c xs) (omega arith)
     (ends_split next (home_in xs b) b (n + 1) (record { number = n; clock = c }) xs (omega arith) h)
 
--- ---- the stream after them
+-- ---- The stream after them
 
 pub stream_scaled : (v : StreamValue) (steps : List ScaleStep) (tree : List ShardState) (logs : List LogValue)
     (windows ws : List WindowValue) (next : ℕ) → tree ≡ scaled steps v.next v.clock v.tree
@@ -110,7 +110,7 @@ stream_scaled v steps tree logs windows ws next tree_is few drawn fits logs_are 
     (all_replicate (λ l. l ≡ empty_log) (made_by steps) empty_log refl) unused (many ∙ sym as_long)
     (omega arith) few (subst (AllByRecursion (EndsUnder next)) (sym tree_is) ends) is))
 
--- ---- what it shows
+-- ---- What it shows
 
 pub record ScalesSo (v : StreamValue) (log : Journal) (by : ℕ) (steps : List ScaleStep) (ws : List WindowValue) :
     Type 0 where
@@ -292,7 +292,7 @@ scales_so (Cut b ∷ steps) v log by (w ∷ u ∷ ws) unused many as_many as_wid
           ∙ ap (λ es. entry.Split v.no sh b v.next (length v.tree) (length v.tree + 1) ∷ es) rest.entries_are;
     }
 
--- ---- the decision
+-- ---- The decision
 
 module _ (v : StreamValue) (log : Journal) (by target : ℕ) (show : Shows v log) where
   pub scale_full : (full : Bool) → full ≡ true
@@ -393,7 +393,7 @@ module _ (v : StreamValue) (log : Journal) (by target : ℕ) (show : Shows v log
       ∙ sym so.entries_are ∙ ap (map (λ line. line.what)) (sym lines_are)) in
       (ap Ok answer ∙ both.0, both.1)
 
--- ---- what the calls owe
+-- ---- What the calls owe
 
 pub is_less : (a b : ℕ) → a < b → nat_lt a b ≡ true
 is_less a b h = grind (arith, nat_tests)
@@ -401,7 +401,7 @@ is_less a b h = grind (arith, nat_tests)
 pub is_not_less : (a b : ℕ) → b ≤ a → nat_lt a b ≡ false
 is_not_less a b h = grind (arith, nat_tests)
 
--- how many starts there are
+-- There is one more start after a start is added.
 more_starts : (lt : Bool) (b x : ℕ) (xs ys : List ℕ) → length ys ≡ suc (length xs)
     → length (if lt then b ∷ x ∷ xs else x ∷ ys) ≡ suc (suc (length xs))
 more_starts true b x xs ys h = refl
@@ -434,7 +434,7 @@ fewer : (p : ℕ → Bool) (xs : List ℕ) → length (filter p xs) ≤ length x
 fewer p [] = omega arith
 fewer p (x ∷ xs) = fewer_by (p x) x (filter p xs) xs (fewer p xs)
 
--- a plan has no more steps than there are starts in both lists
+-- A plan has no more steps than there are starts in both lists.
 pub few_apart : (starts wanted : List ℕ) → apart starts wanted ≤ length starts + length wanted
 few_apart starts wanted =
     omega (arith, fewer (λ b. not (is_start wanted b)) starts, fewer (λ b. not (is_start starts b)) wanted)
@@ -454,12 +454,12 @@ few_steps xs target starts steps are few most count =
       most,
     )
 
--- so many open shards, where their starts are known
+-- The number of open shards is within the limit if their starts are known.
 pub open_so : (xs : List ShardState) (target : ℕ) → starts_in xs ≡ uniform_starts target → target ≤ 500
     → length (filter is_open xs) ≤ OPEN_SHARDS
 open_so xs target are most = omega (arith, starts_many xs, ap (length {A = ℕ}) are, uniform_many target, most)
 
--- the test as the code makes it
+-- The test of the numbers, as the code makes it.
 pub spent_so : (next a k l m : ℕ) (tree : List ShardState) (steps : List ScaleStep) → a ≡ next → k ≡ length steps
     → l ≡ length tree → m ≡ made_by steps → (nat_lt last_number (a + k) || nat_lt last_number (l + m))
     ≡ are_spent next (length tree) steps
@@ -472,7 +472,7 @@ spent_so next a k l m tree steps at ak al am =
 not_past : (n : ℕ) → nat_lt last_number n ≡ false → n < 2 ^ 64
 not_past n h = grind (arith, nat_tests)
 
--- the numbers of the steps fit
+-- The numbers of the steps fit.
 pub numbers_fit : (next count : ℕ) (steps : List ScaleStep) → are_spent next count steps ≡ false
     → next + length steps < 2 ^ 64
 numbers_fit next count steps free = not_past (next + length steps) (neither_left _ _ free)

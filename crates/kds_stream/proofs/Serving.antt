@@ -19,7 +19,7 @@ use Rattle.kds_stream.specs.Showing.{Decides, Shows, is_full}
 use Rattle.kds_stream.specs.Steps.{is_over}
 use Rattle.kds_stream.specs.Value.{StreamValue}
 
--- ---- a command that changes the stream, by the decision at the stream
+-- ---- A command that changes the stream, by the decision at the stream
 
 pub serves : {E : Type 0} (r : Result (Result Reply Refusal) E) (v w : StreamValue) (room : ℕ) (what what' : Command)
     (d : Journal → ℕ → Decision)
@@ -31,7 +31,7 @@ serves (Ok gives) v w room what what' d is same led =
     (λ log by told. subst (λ e. (gives ≡ answer_of e) × Shows w (with_lines (lines_of e) log)) (sym (same log by told))
     (led log by told.shown))
 
--- ---- a command that only reads: it writes no line
+-- ---- A command that only reads: it writes no line
 
 pub tells : {E : Type 0} (r : Result (Result Reply Refusal) E) (v : StreamValue) (room : ℕ) (what what' : Command)
     (d : Journal → Decision)
@@ -47,7 +47,7 @@ tells (Ok gives) v room what what' d is query same answered =
       subst (λ lines. Shows v (with_lines lines log)) (sym none) told.shown,
     ))
 
--- ---- what the stream is told of the others is what the decisions ask
+-- ---- What the stream is told of the others is what the decisions ask
 
 module _ (what : Command) (room : ℕ) (v : StreamValue) (log : Journal) (told : IsToldOf what room v log)
     (asks : asks_for_room what ≡ true) where

@@ -1,4 +1,4 @@
--- What contracts see of a stream, by its fields.
+-- What contracts see of a stream, made from its fields.
 use Rattle.std.specs.Prelude.{map}
 use Rattle.kds_log.specs.Log.{log_of}
 use Rattle.kds_stream.specs.declared.stream.Stream.TheInside.{Inside}

@@ -16,33 +16,34 @@ use Rattle.kds_defs.specs.Subjects.{name_of_command}
 use Rattle.kds_stream.specs.Showing.{Shows}
 use Rattle.kds_stream.specs.Value.{StreamValue}
 
--- the number of the stream that the command's token is of, if it has a token
+-- The number of the stream that the command's token is of, if the command has a token.
 abbrev pub token_of : Command → Option ℕ
 token_of (command.Records iter limit) = Some iter.stream
 token_of (command.More page limit) = Some page.stream
 token_of _ = None
 
--- the command is for one stream that must be there, and leaves it there
+-- Whether the command `what` is for one stream that must be there, and leaves it there.
 abbrev pub is_of_stream : Command → Bool
 is_of_stream (command.Delete name) = false
 is_of_stream what = is_some (name_of_command what) || is_some (token_of what)
 
--- the command may open shards
+-- Whether a command for a stream that is there may raise the number of open shards.
 abbrev pub asks_for_room : Command → Bool
 asks_for_room (command.Split name sh at) = true
 asks_for_room (command.Scale name target) = true
 asks_for_room _ = false
 
--- a journal that the stream shows: the command's name is this stream's, and so many shards may be open in the stream
--- beside those of the others, where the command asks for that
+-- The stream `v` shows the journal `log`, and the name in the command `what`, if there is one, is that of the stream.
+-- If the command may raise the number of open shards, `room` shards may be open in the stream beside those of the
+-- others.
 pub record IsToldOf (what : Command) (room : ℕ) (v : StreamValue) (log : Journal) : Type 0 where
   pub shown : Shows v log
   pub named : (name : List ℕ) → name_of_command what ≡ Some name → (name ≡ v.name) × (stream_named log name ≡ Some v.no)
   pub opened : open_count log ≡ open_elsewhere log v.no + length (filter is_open v.tree)
   pub fits : asks_for_room what ≡ true → room ≡ OPEN_SHARDS - open_elsewhere log v.no
 
--- what a stream that became another answered is what the machine decides after each such journal; and it shows the
--- journal with the decision's lines
+-- The answer `gives` is what the machine decides after each journal for which `IsToldOf` holds at the stream `old`. The
+-- stream `new` shows this journal with the decision's lines.
 abbrev pub Serves : Command → ℕ → StreamValue → StreamValue → Result Reply Refusal → Type 0
 Serves what room old new gives =
     (log : Journal) (by : ℕ) → IsToldOf what room old log

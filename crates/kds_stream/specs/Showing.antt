@@ -1,4 +1,4 @@
--- Which journals a stream shows.
+-- Which journals a stream shows (represents).
 use Rattle.std.specs.Prelude.{ℕ, ◌≡◌, ◌+◌, ◌≤◌, Bool, true, false, ◌||◌, nat_le, List, [], ◌∷◌, length, Option, Some}
 use Rattle.std.specs.Prelude.{None, Result}
 use Rattle.std.specs.List.{filter}
@@ -17,23 +17,24 @@ use Rattle.kds_log.specs.Log.{LogValue}
 use Rattle.kds_stream.specs.Rating.{ShowsRates}
 use Rattle.kds_stream.specs.Value.{StreamValue}
 
--- of these records all but some that arrived below the floor are kept
+-- The records `kept` are the records `rs` without some of those that arrived below `floor`.
 pub record IsKept (floor : ℕ) (rs kept : List Logged) : Type 0 where
   pub from : ℕ
   pub early : from ≤ floor
   pub rest : kept ≡ left_among from 0 rs
 
--- each log keeps so the records of the shard at its place, from the place n on
+-- Each log of a list keeps the records of the shard at its place, from the place `n` on, except for some that arrived
+-- below `floor`.
 abbrev pub AreKept : ℕ → Journal → ℕ → ℕ → List LogValue → Type 0
 AreKept floor log s n [] = Unit {0}
 AreKept floor log s n (l ∷ ls) = IsKept floor (records log s n) l.kept × AreKept floor log s (n + 1) ls
 
--- the stream without what it takes within a second, and without what it remembers: its earlier clock and whose turn it
--- is
+-- The stream `v` without what it accepts within a second, and without what it remembers: its earlier clock and cut, and
+-- which log is settled next.
 abbrev pub bare : StreamValue → StreamValue
 bare v = record v { windows = []; enforced = false; clock_before = 0; cut_before = None; turn = 0 }
 
--- the stream's readings of the journal at its clock are its fields, throughput aside
+-- The fields of the stream `v`, throughput aside, are what the journal `log` says of the stream at its clock.
 pub record ShowsFields (v : StreamValue) (log : Journal) : Type 0 where
   pub live : is_live log v.no ≡ true
   pub was : was_made log v.no ≡ true
@@ -46,37 +47,39 @@ pub record ShowsFields (v : StreamValue) (log : Journal) : Type 0 where
   pub kept : AreKept (floor_of v.cut) log v.no 0 v.logs
   pub none_beyond : (sh : ℕ) → length v.tree ≤ sh → records log v.no sh ≡ []
 
--- ... so that whatever a stream takes or remembers, it shows the same
+-- The stream `v` shows the journal `log`, throughput aside, whatever it accepts within a second or remembers.
 abbrev pub ShowsStored : StreamValue → Journal → Type 0
 ShowsStored v log = ShowsFields (bare v) log
 
--- with what its shards take within a second
+-- The stream `v` shows the journal `log`, with what its shards accept within a second.
 pub record Shows (v : StreamValue) (log : Journal) : Type 0 where
   pub stored : ShowsStored v log
   pub rates : ShowsRates log v.no v.enforced (length v.tree) v.windows
 
--- what a call that made one stream of another answered is the decision at it, of every journal that it showed; and it
--- shows the journal with the decision's lines
+-- The answer `gives` of a call is the decision `d` after each journal that the stream `old` showed before the call. The
+-- stream `new` shows this journal with the decision's lines.
 abbrev pub Decides : StreamValue → StreamValue → Result Reply Refusal → (Journal → ℕ → Decision) → Type 0
 Decides old new gives d = (log : Journal) (by : ℕ) → Shows old log → (gives ≡ answer_of (d log by))
     × Shows new (with_lines (lines_of (d log by)) log)
 
--- the decision is refused so, or accepted with this line alone
+-- The decision `d` is the refusal, if there is one, or else accepts the line `line` alone.
 abbrev pub IsDecidedBy : Option Refusal → Line → Decision → Type 0
 IsDecidedBy (Some r) line d = d ≡ Refused r
 IsDecidedBy None line d = d ≡ Accepted (line ∷ []) reply.Done
 
--- what a call refused, and else the line it adds, is the decision at the stream, of every journal that this shows
+-- The decision `d` at the stream `v`, after each journal that `v` shows, is the refusal `o` of a call. If there is
+-- none, it accepts the line that the call adds, alone.
 abbrev pub RefusesAs : StreamValue → Option Refusal → (Journal → ℕ → ℕ → ℕ → Line) → (Journal → ℕ → ℕ → ℕ → Decision)
     → Type 0
 RefusesAs v o line d = (log : Journal) (by : ℕ) → Shows v log
     → IsDecidedBy o (line log v.clock by v.no) (d log v.clock by v.no)
 
--- no further shard may be open in the stream, where so many may be, or since as many are open in it alone
+-- Whether no further shard may be open in the stream `v`: at least `room` shards are open in it, or as many as may be
+-- open in all streams.
 abbrev pub is_full : StreamValue → ℕ → Bool
 is_full v room = nat_le room (length (filter is_open v.tree)) || nat_le OPEN_SHARDS (length (filter is_open v.tree))
 
--- ---- the lines of a split and of a merge
+-- ---- The lines of a split and of a merge
 
 abbrev pub split_line : Journal → ℕ → ℕ → ℕ → ℕ → ℕ → Line
 split_line log c by s sh at =

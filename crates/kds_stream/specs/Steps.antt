@@ -13,21 +13,21 @@ use Rattle.kds_defs.specs.StreamCommands.{last_number}
 use Rattle.kds_stream.specs.Value.{StreamValue}
 use Rattle.kds_stream_logs.specs.Steps.{starts_in}
 
--- so many open shards are too many, where so many may be open
+-- Whether `target` open shards are too many, if `room` shards may be open.
 abbrev pub is_over : ℕ → ℕ → Bool
 is_over target room = nat_lt room target
 
--- the steps draw a number, or number a shard, above the greatest
+-- Whether the steps draw a sequence number, or give a shard a number, that is above the greatest one.
 abbrev pub are_spent : ℕ → ℕ → List ScaleStep → Bool
 are_spent next count steps = nat_lt last_number (next + length steps) || nat_lt last_number (count + made_by steps)
 
--- these are the steps of a scaling of the stream, and its numbers suffice for them
+-- The steps `steps` are those of a scaling of the stream `v` to `target` shards, and there are enough numbers for them.
 pub record IsPlan (v : StreamValue) (target : ℕ) (steps : List ScaleStep) : Type 0 where
   pub are : steps ≡ scale (starts_in v.tree) target
   pub leads : LeadTo steps (starts_in v.tree) (uniform_starts target)
   pub free : are_spent v.next (length v.tree) steps ≡ false
 
--- UpdateShardCount, where it is known whether the shards would be too many
+-- The decision on UpdateShardCount, where `full` tells whether the shards would be too many.
 abbrev pub scale_where : Bool → Journal → ℕ → ℕ → List ℕ → ℕ → ℕ → Decision
 scale_where full log c by name s target =
     refuse refusal.Full if full else

@@ -12,9 +12,10 @@ use Rattle.kds_rate.specs.Windows.{WindowValue}
 use Rattle.kds_stream.specs.Rating.{AreRated}
 use Rattle.kds_stream_logs.specs.Logs.{HasArrived, IsBelow, settled_at}
 
--- its number, its name, when it was made, its retention in hours, its shards, the log of each, the window of each,
--- whether the limits on throughput are on, its next number, its clock and its cut; what clock and cut were before the
--- last advance, if nothing has changed since; and the place of the log that is settled next
+-- A stream: its number, its name, when it was made, its retention in hours, its shards, the log of each, the window of
+-- each, whether the limits on throughput are on, its next sequence number, its clock and its cut. The last fields are
+-- what clock and cut were before the last advance, if nothing has changed since, and the place of the log that is
+-- settled next.
 pub record StreamValue : Type 0 where
   pub no : ℕ
   pub name : List ℕ
@@ -31,7 +32,7 @@ pub record StreamValue : Type 0 where
   pub cut_before : Option ℕ
   pub turn : ℕ
 
--- the number that closed the shard, if it is closed, is below this one
+-- If a shard is closed, the sequence number that closed it is below `next`.
 abbrev pub IsClosedUnder : ℕ → Option Closing → Type 0
 IsClosedUnder next None = Unit {0}
 IsClosedUnder next (Some closing) = closing.number < next
@@ -39,7 +40,7 @@ IsClosedUnder next (Some closing) = closing.number < next
 abbrev pub EndsUnder : ℕ → ShardState → Type 0
 EndsUnder next x = IsClosedUnder next x.closing
 
--- what holds of every stream
+-- What is true of every stream.
 pub record IsStream (v : StreamValue) : Type 0 where
   pub as_many : length v.logs ≡ length v.tree
   pub few : length (filter is_open v.tree) ≤ OPEN_SHARDS
@@ -54,12 +55,12 @@ pub record IsStream (v : StreamValue) : Type 0 where
   pub drawn : 1 ≤ v.next
   pub fits : v.next < 2 ^ 64
 
--- A change of a stream leaves its number, its name, its clock and whose turn it is to be settled.
+-- A change of the stream `old` to `new` keeps its number, its name, its clock, and which log is settled next.
 abbrev pub KeepsFields : StreamValue → StreamValue → Type 0
 KeepsFields new old = (new.no ≡ old.no) × (new.name ≡ old.name) × (new.clock ≡ old.clock) × (new.turn ≡ old.turn)
 
--- after a change: when it was made, its retention, and what is trimmed, are as before, and going back to before the
--- last advance leaves the present clock and cut
+-- After a change, the time at which the stream was made, its retention and its cut are as before. Going back to before
+-- the last advance leaves the present clock and cut.
 pub record IsChangedAt (old new : StreamValue) : Type 0 where
   pub made : new.made ≡ old.made
   pub hours : new.hours ≡ old.hours
@@ -67,18 +68,18 @@ pub record IsChangedAt (old new : StreamValue) : Type 0 where
   pub clock_before : new.clock_before ≡ old.clock
   pub cut_before : new.cut_before ≡ old.cut
 
--- the moment at or below which all is trimmed at a clock, by a retention of so many hours alone
+-- The cut at `clock` by a retention of `hours` hours alone. What happened at or before the cut is trimmed.
 abbrev pub cut_at : ℕ → ℕ → Option ℕ
 cut_at clock hours = if nat_lt clock (hours * HOUR) then None else Some (clock - hours * HOUR)
 
--- the later of two cuts
+-- The later of two cuts.
 abbrev pub later_cut : Option ℕ → Option ℕ → Option ℕ
 later_cut None cut = cut
 later_cut (Some a) None = Some a
 later_cut (Some a) (Some b) = Some (max a b)
 
--- after a change of the retention to so many hours: it trims by both retentions, and going back to before the last
--- advance leaves the present clock and cut
+-- After a change of the retention to `wanted` hours, the stream trims by both retentions. Going back to before the last
+-- advance leaves the present clock and cut.
 pub record IsKeptAt (wanted : ℕ) (old new : StreamValue) : Type 0 where
   pub made : new.made ≡ old.made
   pub hours : new.hours ≡ wanted
@@ -86,7 +87,8 @@ pub record IsKeptAt (wanted : ℕ) (old new : StreamValue) : Type 0 where
   pub clock_before : new.clock_before ≡ old.clock
   pub cut_before : new.cut_before ≡ new.cut
 
--- the stream where the log whose turn it is is without the records that are trimmed; it remembers no earlier clock
+-- The stream `v` after the log whose turn it is has lost its trimmed records. The stream then remembers no earlier
+-- clock.
 abbrev pub settled : StreamValue → StreamValue
 settled v =
     record v {
@@ -96,12 +98,12 @@ settled v =
       turn = next_of (length v.logs) v.turn;
     }
 
--- the shard was made, and wasn't closed below the floor
+-- Whether a shard is there and wasn't closed below `floor`.
 abbrev pub is_listed_at : ℕ → Option ShardState → Bool
 is_listed_at floor None = false
 is_listed_at floor (Some x) = not (is_closed_below floor x)
 
--- the shard, where it is listed
+-- The shard, if it is there and wasn't closed below `floor`.
 abbrev pub listed_at : ℕ → Option ShardState → Option ShardState
 listed_at floor None = None
 listed_at floor (Some x) = if is_closed_below floor x then None else Some x

@@ -1,4 +1,4 @@
--- The logs of a stream's shards: one record more, and the trim.
+-- The logs of a stream's shards: a record is appended, and records are trimmed.
 use Rattle.std.proofs.Common.{◌≡◌, ℕ, zero, suc, ◌<◌, ◌≤◌, Bool, true, false, List, [], ◌∷◌, ◌++◌, length, get_or, map}
 use Rattle.std.proofs.Common.{Option, Some, None, refl, sym, ap, subst, ◌∙◌, arith}
 use Rattle.std.specs.Prelude.{cond, not, nat_le, nat_lt, ◌&&◌, slice_set, IfSome}
@@ -8,7 +8,7 @@ use Rattle.kds_defs.specs.Records.{Logged, is_left, left_among}
 use Rattle.kds_log.specs.Log.{LogValue, LogWithRoom, log_of}
 use Rattle.kds_stream_logs.specs.Logs.{IsUnder, settled_at, settled_log, with_appended}
 
--- ---- facts of each
+-- ---- Facts of each
 
 pub all_at : {A : Type 0} (P : A → Type 0) (xs : List A) (i : ℕ) (x : A) → i < length xs → x ≡ get_or xs i x
     → AllByRecursion P xs → P x
@@ -16,7 +16,7 @@ all_at P [] i x below is h = absurd (omega arith)
 all_at P (y ∷ ys) zero x below is h = subst P (sym is) h.0
 all_at P (y ∷ ys) (suc i) x below is h = all_at P ys i x (omega arith) is h.1
 
--- ---- one record more in the log at a place
+-- ---- One record more in the log at a place
 
 pub appended_at : (ls : List LogWithRoom) (i : ℕ) (d l : LogWithRoom) (r : Logged) → i < length ls
     → log_of l ≡ record { kept = (get_or ls i d).kept ++ r ∷ []; last = Some r.seq }
@@ -26,14 +26,14 @@ appended_at (x ∷ ls) zero d l r below is = ap (λ (y : LogValue). y ∷ map lo
 appended_at (x ∷ ls) (suc i) d l r below is =
     ap (λ (ys : List LogValue). log_of x ∷ ys) (appended_at ls i d l r (omega arith) is)
 
--- the logs where the one at a place is as before
+-- If the log at a place is set to one with the same records, the logs are as before.
 pub same_at : (ls : List LogWithRoom) (i : ℕ) (d l : LogWithRoom) → i < length ls → log_of l ≡ log_of (get_or ls i d)
     → map log_of (slice_set ls i l) ≡ map log_of ls
 same_at [] i d l below is = absurd (omega arith)
 same_at (x ∷ ls) zero d l below is = ap (λ (y : LogValue). y ∷ map log_of ls) is
 same_at (x ∷ ls) (suc i) d l below is = ap (λ (ys : List LogValue). log_of x ∷ ys) (same_at ls i d l (omega arith) is)
 
--- what holds of each log holds of the one at a place
+-- What is true of each log is true of the one at a place.
 pub all_logs_at : (P : LogValue → Type 0) (ls : List LogWithRoom) (i : ℕ) (d : LogWithRoom) → i < length ls
     → AllByRecursion P (map log_of ls) → P (log_of (get_or ls i d))
 all_logs_at P [] i d below h = absurd (omega arith)
@@ -48,7 +48,7 @@ pub as_many_logs : (ls : List LogWithRoom) → length (map log_of ls) ≡ length
 as_many_logs [] = refl
 as_many_logs (l ∷ ls) = ap suc (as_many_logs ls)
 
--- ---- the trim
+-- ---- The trim
 
 all_left_by : (b : Bool) (r : Logged) (rs : List Logged) → b ≡ true → cond b (r ∷ rs) rs ≡ r ∷ rs
 all_left_by true r rs h = refl
@@ -57,7 +57,7 @@ all_left_by false r rs h = absurd cc
 late : (floor arrival seq : ℕ) → floor ≤ arrival → (not (nat_lt arrival floor) && nat_le 0 seq) ≡ true
 late floor arrival seq h = grind (arith, nat_tests)
 
--- nothing is trimmed where each record arrived at the floor or later
+-- Nothing is trimmed if each record arrived at the floor or later.
 pub all_left : (floor : ℕ) (rs : List Logged) → AllByRecursion (λ (r : Logged). floor ≤ r.arrival) rs
     → left_among floor 0 rs ≡ rs
 all_left floor [] h = refl
@@ -74,13 +74,13 @@ left_at_zero rs = all_left 0 rs (any_late rs)
 settled_same : (floor : ℕ) (l : LogValue) → left_among floor 0 l.kept ≡ l.kept → l ≡ settled_log floor l
 settled_same floor l h = ap (λ rs. let z : LogValue = record { kept = rs; last = l.last } in z) (sym h)
 
--- where there is no cut nothing is trimmed
+-- If there is no cut, nothing is trimmed.
 pub settled_at_zero : (n : ℕ) (ls : List LogValue) → ls ≡ settled_at 0 n ls
 settled_at_zero n [] = refl
 settled_at_zero zero (l ∷ ls) = ap (λ x. x ∷ ls) (settled_same 0 l (left_at_zero l.kept))
 settled_at_zero (suc n) (l ∷ ls) = ap (λ xs. l ∷ xs) (settled_at_zero n ls)
 
--- at a place that there isn't nothing is trimmed
+-- At a place without a log, nothing is trimmed.
 pub settled_beyond : (floor n : ℕ) (ls : List LogValue) → length ls ≤ n → ls ≡ settled_at floor n ls
 settled_beyond floor n [] beyond = refl
 settled_beyond floor zero (l ∷ ls) beyond = absurd (omega arith)

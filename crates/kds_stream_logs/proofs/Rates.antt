@@ -1,4 +1,4 @@
--- The windows of the shards of a stream: one put more.
+-- The windows of the shards of a stream, when a put is counted.
 use Rattle.std.proofs.Common.{◌≡◌, ℕ, zero, suc, ◌+◌, ◌<◌, ◌≤◌, false, List, [], ◌∷◌, length, get_or, sym, ap, subst}
 use Rattle.std.proofs.Common.{◌∙◌, arith}
 use Rattle.std.specs.Prelude.{◌==◌, if◌then◌else◌, slice_set}
@@ -9,7 +9,7 @@ use Rattle.kds_defs.specs.Rates.{SizedPut}
 use Rattle.kds_rate.specs.Windows.{StandsFor, WindowValue}
 use Rattle.kds_stream_logs.specs.Rating.{IsCounted, StandFor, with_put}
 
--- ---- at a place
+-- ---- At a place
 
 pub stand_at : (f : ℕ → List SizedPut) (n i : ℕ) (ws : List WindowValue) (d : WindowValue) → i < length ws
     → StandFor f n ws → StandsFor (get_or ws i d) (f (n + i))
@@ -29,7 +29,7 @@ counted_at moment i [] d below h = absurd (omega arith)
 counted_at moment zero (w ∷ ws) d below h = h.0
 counted_at moment (suc i) (w ∷ ws) d below h = counted_at moment i ws d (omega arith) h.1
 
--- ---- the same puts
+-- ---- The same puts
 
 pub stand_along : (f g : ℕ → List SizedPut) (n : ℕ) (ws : List WindowValue) → ((sh : ℕ) → n ≤ sh → f sh ≡ g sh)
     → StandFor f n ws → StandFor g n ws
@@ -39,7 +39,7 @@ stand_along f g n (w ∷ ws) same h = (
   stand_along f g (n + 1) ws (λ sh beyond. same sh (omega arith)) h.1,
 )
 
--- ---- one put more
+-- ---- One put more
 
 other_number : (n m : ℕ) → n < m → (n == m) ≡ false
 other_number n m h = grind (arith, nat_tests, h)

@@ -13,7 +13,7 @@ use Rattle.kds_log.specs.Log.{IsOrderly, IsUpTo, LogValue, first_number, since}
 use Rattle.kds_stream_logs.specs.Reading.{batch_among}
 use Rattle.kds_stream_logs.specs.Logs.{IsBelow, IsUnder}
 
--- ---- the last
+-- ---- The last
 
 one_less : (n : ℕ) → suc (suc n) - 1 ≡ suc (suc n - 1)
 one_less n = omega arith
@@ -25,7 +25,7 @@ last_shard (x ∷ []) shard is = let e : x ≡ shard = cc in ap (λ (s : Shard).
 last_shard (x ∷ y ∷ shards) shard is =
     last_shard (y ∷ shards) shard (ap (slice_get (x ∷ y ∷ shards)) (sym (one_less (length shards))) ∙ is)
 
--- ---- the numbers of a batch
+-- ---- The numbers of a batch
 
 all_beginning : (P : Logged → Type 0) (limit room : ℕ) (rs : List Logged) → AllByRecursion P rs
     → AllByRecursion P (beginning limit room rs)
@@ -55,9 +55,9 @@ batch_below n floor position limit l below orderly =
     all_stored n _ (all_beginning (λ (r : Logged). r.seq < n) limit BATCH_BYTES _
     (all_filter (λ (r : Logged). r.seq < n) (is_left floor position) l.kept kept))
 
--- ---- the first that arrived at or after a moment
+-- ---- The first that arrived at or after a moment
 
--- a number, or else the next one
+-- A number, or else the next one.
 abbrev pub or_next : Option ℕ → ℕ → ℕ
 or_next None next = next
 or_next (Some n) next = n

@@ -24,7 +24,7 @@ use Rattle.kds_stream_logs.specs.Routes.{outcomes, taken, is_place_of, is_routed
 use Rattle.kds_stream_logs.specs.Routes.{routed_items, stored_item, with_each}
 use Rattle.kds_stream_logs.specs.Logs.{HasArrived, IsBelow, with_appended}
 
--- ---- memory
+-- ---- Memory
 
 room_other : (ls : List LogWithRoom) (i j : ℕ) (l : LogWithRoom) → i ≢ j → room_at (slice_set ls i l) j ≡ room_at ls j
 room_other [] i j l apart = refl
@@ -43,7 +43,7 @@ room_is [] i d below = absurd (omega arith)
 room_is (x ∷ ls) zero d below = refl
 room_is (x ∷ ls) (suc i) d below = room_is ls i d (omega arith)
 
--- one place more has memory
+-- Memory is reserved for a further place.
 module _ (ls : List LogWithRoom) (i : ℕ) (d l : LogWithRoom) (ps : List Place) (k : ℕ) (p : Place)
     (below : i < length ls) (at : i ≡ p.shard) (grows : l.room ≡ (get_or ls i d).room + 1) (within : k < length ps)
     (is : p ≡ get_or ps k p)
@@ -79,7 +79,7 @@ module _ (ls : List LogWithRoom) (i : ℕ) (d l : LogWithRoom) (ps : List Place)
   pub reserved_more : count_by (is_place_of sh) (take (k + 1) ps) ≤ room_at (slice_set ls i l) sh
   reserved_more = reserved_by (p.shard == sh) refl
 
--- there are as many places as records of a shard
+-- There are as many places of a shard as records that go to it.
 count_routed : (rs : List Routed) (sh : ℕ) → count_by (is_place_of sh) (map place_of rs) ≡ count_by (is_routed_to sh) rs
 count_routed [] sh = refl
 count_routed (r ∷ rs) sh =
@@ -87,7 +87,7 @@ count_routed (r ∷ rs) sh =
     ∙ ap (λ n. cond (r.shard == sh) 1 0 + n) (count_routed rs sh)
     ∙ sym (sum_by-cons (λ (q : Routed). cond (is_routed_to sh q) 1 0) r rs)
 
--- ---- one record is taken
+-- ---- One record is taken
 
 length-set : (ls : List LogWithRoom) (i : ℕ) (l : LogWithRoom) → length (slice_set ls i l) ≡ length ls
 length-set [] i l = refl
@@ -100,7 +100,7 @@ all_set P [] i l p h = tt
 all_set P (x ∷ ls) zero l p h = (p, h.1)
 all_set P (x ∷ ls) (suc i) l p h = (h.0, all_set P ls i l p h.1)
 
--- the log of the first one has memory
+-- The log of the first record has memory.
 pub room_left : (ls : List LogWithRoom) (i : ℕ) (r : Routed) (rs : List Routed) → i ≡ r.shard → CanTakeAll ls (r ∷ rs)
     → 1 ≤ room_at ls i
 room_left ls i r rs at can =
@@ -162,9 +162,9 @@ module _ (ls : List LogWithRoom) (i : ℕ) (d l : LogWithRoom) (r : Routed) (rs 
   with_one = ap (with_each rs) (appended_at ls i d l (logged r.item) below is
       ∙ ap (λ n. with_appended n (logged r.item) (map log_of ls)) at)
 
--- ---- the records of items
+-- ---- The records of items
 
--- one item more is routed
+-- A further item is routed.
 module _ (xs : List ShardState) (c : ℕ) (on : Bool) (f : ℕ → List SizedPut) (n : ℕ) (whole items rest : List NewItem)
     (item : NewItem) (r q : Routes) (us ws : List WindowValue) (are : items ≡ item ∷ rest)
     (h : GoesOn xs c on f n whole items r us) (one : IsRouted xs c on h.present item r q ws) where
@@ -217,7 +217,7 @@ module _ (xs : List ShardState) (c : ℕ) (on : Bool) (f : ℕ → List SizedPut
         ∙ ap (λ ys. r.next + length (taken xs c on h.present ys)) (sym are) ∙ h.next_is;
   }
 
--- where no item is left, all are routed
+-- If no item is left, all are routed.
 pub routed_all : (xs : List ShardState) (c : ℕ) (on : Bool) (f : ℕ → List SizedPut) (n : ℕ) (whole items : List NewItem)
     (r : Routes) (ws : List WindowValue) → items ≡ [] → GoesOn xs c on f n whole items r ws
     → AreRouted xs c on f n whole r ws
@@ -243,7 +243,7 @@ routed-append xs c n (x ∷ items) item =
     ap (λ (rs : List Routed). routed_item xs c n x ∷ rs) (routed-append xs c (n + 1) items item
     ∙ ap (λ k. routed_items xs c (n + 1) items ++ routed_item xs c k item ∷ []) e)
 
--- no record has its place yet
+-- At first, no record has its place.
 pub placed_none : (xs : List ShardState) (c n : ℕ) (r : Routes) → r.routed.items ≡ [] → r.places ≡ [] → r.next ≡ n
     → n < 2 ^ 64 → ArePlaced xs c n r
 placed_none xs c n r none no_place number below = record {
@@ -266,7 +266,7 @@ placed_same xs c n r q same there number placed = record {
   places_are = there ∙ placed.places_are ∙ ap (map place_of) (sym same);
 }
 
--- a record more has its place
+-- A further record has its place.
 pub placed_more : (xs : List ShardState) (c n sh : ℕ) (r q : Routes) (item : NewItem)
     → sh ≡ home_among (filter is_open xs) item.hash → q.routed.items ≡ r.routed.items ++ stored_item sh c r.next item
     ∷ [] → q.places ≡ r.places ++ place_of (stored_item sh c r.next item) ∷ [] → q.next ≡ r.next + 1 → q.next < 2 ^ 64
@@ -290,7 +290,7 @@ placed_more xs c n sh r q item at more there number fits inside placed =
           ∙ ap (map place_of) (sym more);
     }
 
--- none are routed yet
+-- At first, no records are routed.
 pub routed_none : (xs : List ShardState) (c : ℕ) (on : Bool) (f : ℕ → List SizedPut) (n : ℕ) (whole : List NewItem)
     (r : Routes) (ws : List WindowValue) → r.routed.items ≡ [] → r.outcomes ≡ [] → r.next ≡ n → StandFor f 0 ws
     → GoesOn xs c on f n whole whole r ws
@@ -305,7 +305,7 @@ routed_none xs c on f n whole r ws no_routed no_outcomes number stand = record {
   next_is = ap (λ k. k + length (taken xs c on f whole)) number;
 }
 
--- their numbers are at or above the first, and they arrive at the clock
+-- The number of the record `r` is at or above `first`, and it arrives at `clock`.
 pub record IsFrom (first clock : ℕ) (r : Routed) : Type 0 where
   pub number : first ≤ r.item.seq
   pub arrival : r.item.arrival ≡ clock
@@ -330,7 +330,7 @@ pub all_places : (count : ℕ) (rs : List Routed) → AllByRecursion (IsWithin c
 all_places count [] h = tt
 all_places count (r ∷ rs) h = (h.0, all_places count rs h.1)
 
--- the shards of their places are there
+-- The shards of the records' places are there.
 pub places_within : (ls : List LogWithRoom) (rs : List Routed) (ps : List Place) → ps ≡ map place_of rs
     → AllByRecursion (CanTake (map log_of ls)) rs → AllByRecursion (λ (p : Place). p.shard < length ls) ps
 places_within ls rs ps placed can =
@@ -339,7 +339,7 @@ places_within ls rs ps placed can =
     (all_weaker (CanTake (map log_of ls)) (IsWithin (length ls))
     (λ r take. omega (arith, take.within, as_many_logs ls)) rs can))
 
--- once memory is reserved for their places they can all be taken
+-- Once memory is reserved for their places, all records can be taken.
 pub can_take_all : (before : List LogValue) (ls : List LogWithRoom) (rs : List Routed) (ps : List Place)
     → ps ≡ map place_of rs → map log_of ls ≡ before → AllByRecursion (CanTake before) rs → AreInTurn rs
     → ((sh : ℕ) → count_by (is_place_of sh) ps ≤ room_at ls sh) → CanTakeAll ls rs
@@ -349,7 +349,7 @@ can_take_all before ls rs ps placed same can turns room = record {
   in_turn = turns;
 }
 
--- ---- what the stream shows after them
+-- ---- What the stream shows after them
 
 pub apart : (n sh len : ℕ) → n < len → len ≤ sh → n ≡ sh → ⊥
 apart n sh len within beyond e = omega arith

@@ -5,19 +5,19 @@ use Rattle.kds_rate.specs.Windows.{WindowValue}
 use Rattle.kds_stream_logs.specs.declared.windows.SavedWindow.{SavedWindow}
 use Rattle.kds_stream_logs.specs.Saved.{DiffersAt, restored}
 
--- nor does it after the window at that place was set
+-- With the old window put back, the windows after one was set are those before.
 pub set_back : (ws : List WindowValue) (i : ℕ) (u : WindowValue) → DiffersAt i (slice_set ws i u) ws
 set_back [] i u w is = refl
 set_back (v ∷ ws) zero u w is = ap (λ (x : WindowValue). x ∷ ws) is
 set_back (v ∷ ws) (suc i) u w is = ap (λ (us : List WindowValue). v ∷ us) (set_back ws i u w is)
 
--- where there is no window, nothing is set
+-- If there is no window at the place, nothing is set.
 pub set_outside : (ws : List WindowValue) (i : ℕ) (w : WindowValue) → length ws ≤ i → slice_set ws i w ≡ ws
 set_outside [] i w h = refl
 set_outside (v ∷ ws) zero w h = absurd (omega arith)
 set_outside (v ∷ ws) (suc i) w h = ap (λ (us : List WindowValue). v ∷ us) (set_outside ws i w (omega arith))
 
--- the newest is put back first
+-- The newest saved window is put back first.
 pub restored_more : (saved : List SavedWindow) (s : SavedWindow) (ws : List WindowValue)
     → restored (saved ++ s ∷ []) ws ≡ restored saved (slice_set ws s.shard s.window)
 restored_more [] s ws = refl

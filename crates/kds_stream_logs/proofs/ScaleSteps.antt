@@ -12,7 +12,7 @@ use Rattle.kds_scale.proofs.Partitions.{Cuts, IsScalable, Joins, joins_touch, st
 use Rattle.kds_stream_logs.specs.Steps.{home_in, starts_in}
 use Rattle.kds_tree.specs.Tree.{after_merge, after_split, merge_refusal, split_refusal, value_by}
 
--- what holds after an answer holds after one that isn't an error
+-- What is true after an answer that isn't an error is true if the answer isn't an error.
 pub ok_value : {A E : Type 0} (r : Result A E) (P : Type 0) → IsOk r → OnOk r P → P
 ok_value (Ok a) P ok p = p
 ok_value (Err e) P ok p = absurd cc

@@ -4,34 +4,34 @@ use Rattle.std.specs.List.{AllByRecursion}
 use Rattle.kds_defs.specs.Records.{Logged, left_among}
 use Rattle.kds_log.specs.Log.{LogValue}
 
--- the number, if there is one, is below this one
+-- An optional number is `None`, or it is below `next`.
 abbrev pub IsUnder : ℕ → Option ℕ → Type 0
 IsUnder next None = Unit {0}
 IsUnder next (Some n) = n < next
 
--- the log's numbers are below this one
+-- The sequence numbers of the log `l` are below `next`.
 abbrev pub IsBelow : ℕ → LogValue → Type 0
 IsBelow next l = IsUnder next l.last
 
--- what it keeps arrived at or before this moment
+-- The records that the log `l` keeps arrived at or before `moment`.
 abbrev pub HasArrived : ℕ → LogValue → Type 0
 HasArrived moment l = AllByRecursion (λ (r : Logged). r.arrival ≤ moment) l.kept
 
--- the log of a new shard
+-- The log of a new shard.
 abbrev pub empty_log : LogValue
 empty_log = record { kept = []; last = None }
 
--- the logs with a record added to the one at a place
+-- A list of logs with the record `r` added to the one at the index `n`.
 abbrev pub with_appended : ℕ → Logged → List LogValue → List LogValue
 with_appended n r [] = []
 with_appended zero r (l ∷ ls) = record { kept = l.kept ++ r ∷ []; last = Some r.seq } ∷ ls
 with_appended (suc n) r (l ∷ ls) = l ∷ with_appended n r ls
 
--- the log without the records that arrived below the floor
+-- The log `l` without the records that arrived below `floor`.
 abbrev pub settled_log : ℕ → LogValue → LogValue
 settled_log floor l = record l { kept = left_among floor 0 l.kept }
 
--- the logs where the one at a place is without them
+-- A list of logs in which the one at the index `n` is without the records that arrived below `floor`.
 abbrev pub settled_at : ℕ → ℕ → List LogValue → List LogValue
 settled_at floor n [] = []
 settled_at floor zero (l ∷ ls) = settled_log floor l ∷ ls

@@ -17,27 +17,27 @@ use Rattle.kds_stream_logs.specs.declared.routes.Routes.{Routes}
 use Rattle.kds_stream_logs.specs.Rating.{StandFor, with_put}
 use Rattle.kds_stream_logs.specs.Logs.{HasArrived, IsBelow, settled_at, with_appended}
 
--- the record of an item, stored in a shard at a clock with this number
+-- The record of `item`, stored in shard `sh` at `clock` with the sequence number `n`.
 abbrev pub stored_item : ℕ → ℕ → ℕ → NewItem → Routed
 stored_item sh clock n item =
     record { shard = sh; item = record { seq = n; arrival = clock; key = item.key; payload = item.payload } }
 
--- in a stream with these shards it is stored in its home
+-- The record of `item`, stored in its home among the shards `xs`.
 abbrev pub routed_item : List ShardState → ℕ → ℕ → NewItem → Routed
 routed_item xs clock n item = stored_item (home_among (filter is_open xs) item.hash) clock n item
 
--- those of items with numbers from n on
+-- The records of a list of items, with sequence numbers from `n` on.
 abbrev pub routed_items : List ShardState → ℕ → ℕ → List NewItem → List Routed
 routed_items xs clock n [] = []
 routed_items xs clock n (item ∷ items) = routed_item xs clock n item ∷ routed_items xs clock (n + 1) items
 
--- ---- what the limits hold back
+-- ---- What the limits hold back
 
--- the limits are on, and the item is more than its home takes after these puts
+-- Whether the limits are on, and `item` is more than its home accepts after the puts `f`.
 abbrev pub is_held : List ShardState → ℕ → Bool → (ℕ → List SizedPut) → NewItem → Bool
 is_held xs clock on f item = on && is_throttled (f (home_among (filter is_open xs) item.hash)) clock (item_bytes item)
 
--- the puts after it, where it is held back, or taken
+-- The puts after `item`, by whether it is held back or taken.
 abbrev pub after_item : List ShardState → ℕ → (ℕ → List SizedPut) → NewItem → Bool → ℕ → List SizedPut
 after_item xs clock f item true = f
 after_item xs clock f item false =
@@ -48,19 +48,19 @@ after_items xs clock on f [] = f
 after_items xs clock on f (item ∷ items) =
     after_items xs clock on (after_item xs clock f item (is_held xs clock on f item)) items
 
--- the items that are taken: each is judged after those before
+-- Those of a list of items that are taken: each is judged after the items before it.
 abbrev pub taken : List ShardState → ℕ → Bool → (ℕ → List SizedPut) → List NewItem → List NewItem
 taken xs clock on f [] = []
 taken xs clock on f (item ∷ items) =
     let rest : List NewItem = taken xs clock on (after_item xs clock f item (is_held xs clock on f item)) items in
     if is_held xs clock on f item then rest else item ∷ rest
 
--- the next number after an item
+-- The next sequence number after an item, by whether the item is held back.
 abbrev pub after_number : ℕ → Bool → ℕ
 after_number n true = n
 after_number n false = n + 1
 
--- what becomes of an item
+-- The outcome of an item, by whether the item is held back.
 abbrev pub outcome_of : List ShardState → ℕ → NewItem → Bool → Outcome
 outcome_of xs n item true = outcome.Throttled (home_among (filter is_open xs) item.hash)
 outcome_of xs n item false = outcome.Stored (record { shard = home_among (filter is_open xs) item.hash; seq = n })
@@ -71,61 +71,65 @@ outcomes xs clock on f n (item ∷ items) =
     let held : Bool = is_held xs clock on f item in
     outcome_of xs n item held ∷ outcomes xs clock on (after_item xs clock f item held) (after_number n held) items
 
--- where a record stands
+-- The place at which the record `r` is stored.
 abbrev pub place_of : Routed → Place
 place_of r = record { shard = r.shard; seq = r.item.seq }
 
--- the shard is one of so many
+-- The shard of the record `r` is one of `count` shards.
 abbrev pub IsWithin : ℕ → Routed → Type 0
 IsWithin count r = r.shard < count
 
--- the logs with each record added in turn
+-- The logs `ls` with each record of a list added in turn.
 abbrev pub with_each : List Routed → List LogValue → List LogValue
 with_each [] ls = ls
 with_each (r ∷ rs) ls = with_each rs (with_appended r.shard (logged r.item) ls)
 
--- the logs where those of the shards of these places are settled in turn
+-- The logs `ls` in which those of the shards of the given places are settled in turn: they lose the records that
+-- arrived below `floor`.
 abbrev pub settled_each : ℕ → List Place → List LogValue → List LogValue
 settled_each floor [] ls = ls
 settled_each floor (p ∷ ps) ls = settled_each floor ps (settled_at floor p.shard ls)
 
--- for how many records the log at a place has memory reserved
+-- The number of records for which the log at a place has memory reserved.
 abbrev pub room_at : List LogWithRoom → ℕ → ℕ
 room_at [] n = 0
 room_at (l ∷ ls) zero = l.room
 room_at (l ∷ ls) (suc n) = room_at ls n
 
--- the first has the lower number, and arrived no later
+-- The record `a` has a lower number than `b`, and arrived no later.
 abbrev pub IsSooner : Routed → Routed → Type 0
 IsSooner a b = (a.item.seq < b.item.seq) × (a.item.arrival ≤ b.item.arrival)
 
--- each is sooner than those that follow it
+-- Each record of a list is sooner than those that follow it.
 abbrev pub AreInTurn : List Routed → Type 0
 AreInTurn [] = Unit {0}
 AreInTurn (r ∷ rs) = AllByRecursion (IsSooner r) rs × AreInTurn rs
 
--- the logs can take a record: its shard has one, its number is above all of theirs, and it arrived no earlier
+-- The logs `ls` can take the record `r`: its shard has a log, its number is above all of theirs, and it arrived no
+-- earlier than their records.
 pub record CanTake (ls : List LogValue) (r : Routed) : Type 0 where
   pub within : r.shard < length ls
   pub number : AllByRecursion (IsBelow r.item.seq) ls
   pub arrival : AllByRecursion (HasArrived r.item.arrival) ls
 
--- the record goes to this shard; the place is one of this shard
+-- Whether the record `r` goes to shard `sh` (`is_routed_to`), and whether the place `p` is in shard `sh`
+-- (`is_place_of`).
 abbrev pub is_routed_to : ℕ → Routed → Bool
 is_routed_to sh r = r.shard == sh
 
 abbrev pub is_place_of : ℕ → Place → Bool
 is_place_of sh p = p.shard == sh
 
--- the logs can take all of them in turn, and each has memory reserved for as many as go to it
+-- The logs `ls` can take all of the records `rs` in turn, and each log has memory reserved for as many as go to it.
 pub record CanTakeAll (ls : List LogWithRoom) (rs : List Routed) : Type 0 where
   pub each : AllByRecursion (CanTake (map log_of ls)) rs
   pub room : (sh : ℕ) → count_by (is_routed_to sh) rs ≤ room_at ls sh
   pub in_turn : AreInTurn rs
 
--- ---- what is made of items
+-- ---- What is made of items
 
--- of one item, where the windows stand for these puts before it
+-- The routes `after` are `before` with what is made of `item`. The puts before the item are `f`, and the windows `ws`
+-- stand for the puts after it.
 pub record IsRouted (xs : List ShardState) (clock : ℕ) (on : Bool) (f : ℕ → List SizedPut) (item : NewItem)
     (before after : Routes)
     (ws : List WindowValue) : Type 0 where
@@ -136,7 +140,8 @@ pub record IsRouted (xs : List ShardState) (clock : ℕ) (on : Bool) (f : ℕ �
       ∷ []
   pub next_is : after.next ≡ after_number before.next (is_held xs clock on f item)
 
--- of items, with numbers from n on
+-- The routes `r` are those of `items`, with sequence numbers from `n` on. The puts before the items are `f`, and the
+-- windows `ws` stand for the puts after them.
 pub record AreRouted (xs : List ShardState) (clock : ℕ) (on : Bool) (f : ℕ
     → List SizedPut) (n : ℕ) (items : List NewItem) (r : Routes)
     (ws : List WindowValue) : Type 0 where
@@ -145,7 +150,7 @@ pub record AreRouted (xs : List ShardState) (clock : ℕ) (on : Bool) (f : ℕ
   pub outcomes_are : r.outcomes ≡ outcomes xs clock on f n items
   pub next_is : r.next ≡ n + length (taken xs clock on f items)
 
--- the routes that are so far, and what the items that are left make, are what all items make
+-- The routes `r` so far, together with what the remaining `items` make, are what `all` items make.
 pub record GoesOn (xs : List ShardState) (clock : ℕ) (on : Bool) (f : ℕ
     → List SizedPut) (n : ℕ) (all items : List NewItem) (r : Routes)
     (ws : List WindowValue) : Type 0 where
@@ -157,7 +162,8 @@ pub record GoesOn (xs : List ShardState) (clock : ℕ) (on : Bool) (f : ℕ
   pub outcomes_are : r.outcomes ++ outcomes xs clock on present r.next items ≡ outcomes xs clock on f n all
   pub next_is : r.next + length (taken xs clock on present items) ≡ n + length (taken xs clock on f all)
 
--- routes of records of some items, with numbers from first on, that are within the shards; and the places of these
+-- The routes `r` are those of the records of some items, with sequence numbers from `first` on, and they are within the
+-- shards `xs`. The places of `r` are those of these records.
 pub record ArePlaced (xs : List ShardState) (clock first : ℕ) (r : Routes) : Type 0 where
   pub items : List NewItem
   pub are : r.routed.items ≡ routed_items xs clock first items

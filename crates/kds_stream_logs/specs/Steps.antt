@@ -11,26 +11,27 @@ use Rattle.kds_defs.specs.Shards.{ShardState, home_among, is_open, merged_shards
 use Rattle.kds_rate.specs.Windows.{WindowValue}
 use Rattle.kds_stream_logs.specs.Rating.{IsUnused}
 
--- the open one of these shards whose range contains the key
+-- The number of the open shard among `xs` whose range contains the key `k`.
 abbrev pub home_in : List ShardState → ℕ → ℕ
 home_in xs k = home_among (filter is_open xs) k
 
--- where the open ones of these shards start
+-- The starts of the ranges of the open shards among `xs`.
 abbrev pub starts_in : List ShardState → List ℕ
 starts_in xs = starts_among (filter is_open xs)
 
--- the shards after a step that drew this number at a clock
+-- The shards `xs` after a step that drew the sequence number `n` at the clock `c`.
 abbrev pub stepped : ScaleStep → ℕ → ℕ → List ShardState → List ShardState
 stepped (Join b) n c xs =
     merged_shards (home_in xs (b - 1)) (home_in xs b) (record { number = n; clock = c }) (n + 1) xs
 stepped (Cut b) n c xs = split_shards (home_in xs b) b (record { number = n; clock = c }) (n + 1) xs
 
--- its entry
+-- The entry of a step in stream `s` that draws the sequence number `n`.
 abbrev pub entry_in : ℕ → ScaleStep → ℕ → List ShardState → Entry
 entry_in s (Join b) n xs = entry.Merged s (home_in xs (b - 1)) (home_in xs b) n (length xs)
 entry_in s (Cut b) n xs = entry.Split s (home_in xs b) b n (length xs) (length xs + 1)
 
--- the same of steps in turn, of which each draws the next number
+-- The shards `xs` after a list of steps in turn, each of which draws the next sequence number, and the entries of these
+-- steps (`entries_in`).
 abbrev pub scaled : List ScaleStep → ℕ → ℕ → List ShardState → List ShardState
 scaled [] n c xs = xs
 scaled (step ∷ steps) n c xs = scaled steps (n + 1) c (stepped step n c xs)
@@ -39,11 +40,11 @@ abbrev pub entries_in : ℕ → List ScaleStep → ℕ → ℕ → List ShardSta
 entries_in s [] n c xs = []
 entries_in s (step ∷ steps) n c xs = entry_in s step n xs ∷ entries_in s steps (n + 1) c (stepped step n c xs)
 
--- the steps may be taken in turn, from the open ones of these shards on
+-- The steps `steps` may be taken in turn, beginning with the open shards among `xs`.
 abbrev pub MayScale : List ScaleStep → List ShardState → Type 0
 MayScale steps xs = (wanted : List ℕ) × LeadTo steps (starts_in xs) wanted
 
--- some windows of no puts are added
+-- The windows `after` are `before` with `many` windows of no puts added.
 pub record AreMore (many : ℕ) (before after : List WindowValue) : Type 0 where
   pub more : List WindowValue
   pub unused : AllByRecursion IsUnused more

@@ -15,7 +15,7 @@ pub field_at : (a b : List ℕ) → HasNoColon a → field (a ++ 58 ∷ b) ≡ S
 field_at [] b n = refl
 field_at (x ∷ a) b n = rw (n.0, field_at a b n.1) refl
 
--- ---- where a search finds a colon
+-- ---- Where a search finds a colon
 
 other_byte : (b : ℕ) → ((b == 58) ≡ true → ⊥) → (b == 58) ≡ false
 other_byte b differs = elim (cases_Bool (b == 58)) [
@@ -40,13 +40,13 @@ field_found text at found =
     found_at text at found.0.high (λ k lt. found.0.before k (omega arith) lt) found.1
     ∙ ap (λ n. Some (take at text, drop n text)) next
 
--- where it finds none
+-- A search that finds no colon is in a text without a field.
 pub field_nowhere : (text : List ℕ) → ((k : ℕ) → k < length text → Passes (is_byte 58) text k → ⊥) → field text ≡ None
 field_nowhere [] nowhere = refl
 field_nowhere (b ∷ bs) nowhere =
     rw (other_byte b (nowhere 0 (omega arith)), field_nowhere bs (λ k lt. nowhere (suc k) (omega arith))) refl
 
--- ---- a field and the rest spell the text
+-- ---- A field and the rest spell the text
 
 abbrev pub IsField : List ℕ → List ℕ × List ℕ → Type 0
 IsField text p = (text ≡ p.0 ++ 58 ∷ p.1) × HasNoColon p.0
@@ -74,14 +74,14 @@ pub field_spells : (text : List ℕ) (p : List ℕ × List ℕ) → field text �
 field_spells [] p e = absurd (cc)
 field_spells (b ∷ bs) p e = field_cases (b == 58) b bs p refl (field_spells bs) e
 
--- ---- steps that may fail
+-- ---- Steps that may fail
 
 pub bind_some : {A B : Type 0} (o : Option A) (f : A → Option B) (y : B) → (o >>= f) ≡ Some y → (x : A) × (o ≡ Some x)
     × (f x ≡ Some y)
 bind_some None f y h = absurd (cc)
 bind_some (Some x) f y h = (x, refl, h)
 
--- ---- digits
+-- ---- Digits
 
 digit_no_colon : (b : ℕ) → is_ascii_digit b ≡ true → (b == 58) ≡ false
 digit_no_colon b h = grind (arith, common_steps)
@@ -97,7 +97,7 @@ digits_no_colon (d ∷ ds) h = let p = and_parts (is_ascii_digit d) (list_all is
 pub decimal_no_colon : (n : ℕ) → n < 2 ^ 64 → HasNoColon (decimal n)
 decimal_no_colon n small = digits_no_colon (decimal n) (digits_decimal own n small)
 
--- each byte is below 256
+-- Each byte of a list is below 256.
 abbrev pub AreSmall : List ℕ → Type 0
 AreSmall [] = Unit {0}
 AreSmall (b ∷ bs) = (b < 256) × AreSmall bs

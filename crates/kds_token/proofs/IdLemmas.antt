@@ -13,7 +13,7 @@ use Rattle.std.proofs.lemmas.Slice.Eq.{bytes_eq-Decides}
 use Rattle.kds_base.specs.NumberText.{are_digits, digits_of}
 use Rattle.kds_token.specs.Ids.{twelve_digits, shard_id, if_id, id_of}
 
--- ---- the digits
+-- ---- The digits
 
 zeros_digits : (k : ℕ) (ds : List ℕ) → AllDigits 10 ds → AllDigits 10 (replicate k 48 ++ ds)
 zeros_digits zero ds are = are
@@ -36,7 +36,7 @@ id_some n small = zeros_some (12 - length (decimal n)) (decimal n) (decimal_is_I
 pub id_value : (n : ℕ) → n < 2 ^ 64 → digits_value 10 (twelve_digits n) ≡ n
 id_value n small = zeros_value (12 - length (decimal n)) (decimal n) ∙ (decimal_is_IsNumeral n small).1
 
--- ---- the whole
+-- ---- The whole
 
 if_id_again : (n : ℕ) → n < 2 ^ 64 → if_id (shard_id n) n ≡ Some n
 if_id_again n small =
@@ -58,7 +58,7 @@ if_id_is true true text m n fits is h =
 if_id_is true false text m n fits is h = absurd (cc)
 if_id_is false c text m n fits is h = absurd (cc)
 
--- the text is the id of what it reads as
+-- The text is the id of the number that it reads as.
 pub id_is : (text : List ℕ) (n : ℕ) → id_of text ≡ Some n → (text ≡ shard_id n) × (n < 2 ^ 64)
 unfolding id_of
 id_is text n h = if_id_is _ _ text (digits_value 10 (drop 8 text)) n refl refl h
@@ -66,9 +66,9 @@ id_is text n h = if_id_is _ _ text (digits_value 10 (drop 8 text)) n refl refl h
 pub id_spells : (text : List ℕ) (n : ℕ) → id_of text ≡ Some n → text ≡ shard_id n
 id_spells text n h = (id_is text n h).0
 
--- ---- as it is read
+-- ---- As it is read
 
--- a text of digits, as a fact
+-- The text `text` consists of digits.
 abbrev IsDigits : List ℕ → Type 0
 IsDigits text = list_all is_ascii_digit text ≡ true
 
@@ -91,7 +91,7 @@ pub tail_read : (text tail : List ℕ) (n : ℕ) → tail ≡ drop 8 text → te
     → digits_of 64 tail ≡ Some n
 tail_read text tail n cut e small = ap (digits_of 64) (cut ∙ ap (drop 8) e) ∙ twelve_read n small
 
--- a text that is the id of no other number than this one, and not of this one, is no id
+-- A text is no id if it is the id of no number but the one that was found, and isn't the id of that one.
 pub no_id : (text : List ℕ) (found o : Option ℕ) → id_of text ≡ o
     → ((n : ℕ) → n < 2 ^ 64 → text ≡ shard_id n → found ≡ Some n) → ((n : ℕ) → found ≡ Some n → text ≢ shard_id n)
     → None ≡ id_of text

@@ -23,7 +23,7 @@ use Rattle.kds_base.proofs.MomentLemmas.{moment_spells, moment_again}
 use Rattle.kds_token.proofs.FieldLemmas.{field_at, field_spells, bind_some}
 use Rattle.kds_token.proofs.FieldLemmas.{decimal_no_colon, AreSmall, decimal_small, small-append}
 
--- ---- base64
+-- ---- Base64
 
 pub small_bytes : (bs : List ℕ) → AreSmall bs → IsBytes bs
 small_bytes [] h i = omega arith
@@ -43,7 +43,7 @@ unfolding decoded_of
 decoded_spells text bs bytes h =
     decode_of_strict standard text bs (refl, refl) bytes (ok_from (decode_of standard text) bs h)
 
--- ---- fields
+-- ---- Fields
 
 three_fields : {a b c x y z : List ℕ} → a ≡ x → b ≡ y → c ≡ z → a ++ 58 ∷ (b ++ 58 ∷ c) ≡ x ++ 58 ∷ (y ++ 58 ∷ z)
 three_fields p q r = rw (p, q, r) refl
@@ -52,7 +52,7 @@ four_fields : {a b c d w x y z : List ℕ} → a ≡ w → b ≡ x → c ≡ y �
     → a ++ 58 ∷ (b ++ 58 ∷ (c ++ 58 ∷ d)) ≡ w ++ 58 ∷ (x ++ 58 ∷ (y ++ 58 ∷ z))
 four_fields p q r s = rw (p, q, r, s) refl
 
--- ---- iterators
+-- ---- Iterators
 
 kind_is : {A : Type 0} (b : Bool) (x y : List ℕ) (o : Option A) (z : A) → bytes_eq x y ≡ b
     → (if b then o else None) ≡ Some z → (x ≡ y) × (o ≡ Some z)
@@ -149,7 +149,7 @@ iter_exact text bytes = iter_reads_as text (iter_of text) bytes refl
 pub one_iter : (i j : Iter) → IsIter i → IsIter j → iter_token i ≡ iter_token j → i ≡ j
 one_iter i j is js e = same_some i j (sym (iter_reads (iter_token i) i is refl) ∙ iter_reads (iter_token i) j js e)
 
--- ---- places in a listing
+-- ---- Places in a listing
 
 page_small : (p : Page) → IsPage p → AreSmall (page_text p)
 page_small p is =
@@ -227,7 +227,7 @@ page_exact text bytes = page_reads_as text (page_of text) bytes refl
 pub one_page : (p q : Page) → IsPage p → IsPage q → page_token p ≡ page_token q → p ≡ q
 one_page p q is js e = same_some p q (sym (page_reads (page_token p) p is refl) ∙ page_reads (page_token p) q js e)
 
--- ---- neither is the other
+-- ---- Neither is the other
 
 texts_apart : (a b : List ℕ) → codes "KI1:" ++ a ≡ codes "KT1:" ++ b → ⊥
 texts_apart a b h = let e : ◌≡◌ {A = ℕ} 73 84 = ap (λ (l : List ℕ). slice_index l 1) h in absurd (omega arith)

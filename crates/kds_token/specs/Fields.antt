@@ -1,4 +1,4 @@
--- Fields of a text, which colons part.
+-- The fields of a text, which are separated by colons.
 use Rattle.std.specs.Prelude.{◌≡◌, ℕ, List, [], ◌∷◌, ◌==◌, false, if◌then◌else◌, Option, Some, None}
 use Rattle.std.specs.Prelude.{option_map}
 
@@ -7,12 +7,12 @@ abbrev pub ◌>>=◌ : {A B : Type 0} → Option A → (A → Option B) → Opti
 (Some x) >>= f = f x
 None >>= f = None
 
--- the part before the first colon, and what follows that colon
+-- The part of a text before its first colon, and what follows that colon.
 abbrev pub field : List ℕ → Option (List ℕ × List ℕ)
 field [] = None
 field (b ∷ bs) = if b == 58 then Some ([], bs) else option_map (λ p. (b ∷ p.0, p.1)) (field bs)
 
--- no byte is a colon
+-- No byte of a text is a colon.
 abbrev pub HasNoColon : List ℕ → Type 0
 HasNoColon [] = Unit {0}
 HasNoColon (b ∷ bs) = ((b == 58) ≡ false) × HasNoColon bs

@@ -1,21 +1,21 @@
--- How shards are named (Kinesis API Reference, Shard, ShardId).
+-- The ids of shards (Kinesis API Reference, Shard, ShardId).
 use Rattle.std.specs.Prelude.{ℕ, ◌-◌, ◌^◌, List, ◌++◌, length, codes, decimal, replicate, drop, ◌&&◌, nat_lt}
 use Rattle.std.specs.Prelude.{if◌then◌else◌, Option, Some, None}
 use Rattle.std.specs.Str.{bytes_eq}
 use Rattle.std.specs.Str.Parse.{digits_value}
 
--- the digits of a number, after as many zeros as make them twelve
+-- The digits of `n`, after as many zeros as make them twelve.
 abbrev pub twelve_digits : ℕ → List ℕ
 twelve_digits n = replicate (12 - length (decimal n)) 48 ++ decimal n
 
--- a shard's id: `shardId-` and its number
+-- The id of shard `n`: `shardId-` and the shard's number.
 abbrev pub shard_id : ℕ → List ℕ
 shard_id n = codes "shardId-" ++ twelve_digits n
 
--- this number, below 2 ^ 64, if the text is its id
+-- The number `n` if it is below 2 ^ 64 and `text` is its id, or else `None`.
 abbrev pub if_id : List ℕ → ℕ → Option ℕ
 if_id text n = if nat_lt n (2 ^ 64) && bytes_eq text (shard_id n) then Some n else None
 
--- the number whose id the text is: that of the digits after the eight bytes of `shardId-`
+-- The number whose id `text` is, which is that of the digits after the eight bytes of `shardId-`.
 unfoldable pub id_of : List ℕ → Option ℕ
 id_of text = if_id text (digits_value 10 (drop 8 text))

@@ -9,53 +9,53 @@ use Rattle.kds_defs.specs.declared.reply.Page.{Page}
 use Rattle.kds_base.specs.Moments.{moment_of}
 use Rattle.kds_token.specs.Fields.{◌>>=◌, field}
 
--- ---- iterators
+-- ---- Iterators
 
--- what an iterator's token encodes: `KI1:STREAM:SHARD:POSITION:ISSUED`
+-- The text that the token of the iterator `i` encodes: `KI1:STREAM:SHARD:POSITION:ISSUED`.
 abbrev pub iter_text : Iter → List ℕ
 iter_text i = codes "KI1:"
     ++ (decimal i.stream ++ 58 ∷ (decimal i.shard ++ 58 ∷ (decimal i.position ++ 58 ∷ decimal i.issued)))
 
--- the token of an iterator (Kinesis API Reference, GetShardIterator, ShardIterator)
+-- The token of the iterator `i` (Kinesis API Reference, GetShardIterator, ShardIterator).
 abbrev pub iter_token : Iter → List ℕ
 iter_token i = encode_of standard (iter_text i)
 
--- the numbers of an iterator: the moment is below 2 ^ 62, the others below 2 ^ 64
+-- The numbers of the iterator `i` are in range: its moment is below 2 ^ 62, and the others are below 2 ^ 64.
 pub record IsIter (i : Iter) : Type 0 where
   pub stream : i.stream < 2 ^ 64
   pub shard : i.shard < 2 ^ 64
   pub position : i.position < 2 ^ 64
   pub issued : i.issued < 2 ^ 62
 
--- what a text is to be read as: the iterator whose token it is, and none where it is no iterator's token
+-- The text `text` is to be read as the iterator whose token it is, or as `None` if it isn't an iterator's token.
 abbrev pub ReadsAsIter : List ℕ → Option Iter → Type 0
 ReadsAsIter text None = (i : Iter) → IsIter i → text ≢ iter_token i
 ReadsAsIter text (Some i) = IsIter i × (text ≡ iter_token i)
 
--- ---- places in a listing
+-- ---- Places in a listing
 
--- what a listing's token encodes: `KT1:STREAM:AFTER:ISSUED`
+-- The text that the token of the place `p` in a listing encodes: `KT1:STREAM:AFTER:ISSUED`.
 abbrev pub page_text : Page → List ℕ
 page_text p = codes "KT1:" ++ (decimal p.stream ++ 58 ∷ (decimal p.after ++ 58 ∷ decimal p.issued))
 
--- the token of a place in a listing (Kinesis API Reference, ListShards, NextToken)
+-- The token of the place `p` in a listing (Kinesis API Reference, ListShards, NextToken).
 abbrev pub page_token : Page → List ℕ
 page_token p = encode_of standard (page_text p)
 
--- the numbers of a place in a listing: the moment is below 2 ^ 62, the others below 2 ^ 64
+-- The numbers of the place `p` in a listing are in range: its moment is below 2 ^ 62, and the others are below 2 ^ 64.
 pub record IsPage (p : Page) : Type 0 where
   pub stream : p.stream < 2 ^ 64
   pub after : p.after < 2 ^ 64
   pub issued : p.issued < 2 ^ 62
 
--- what a text is to be read as: the place whose token it is, and none where it is no listing's token
+-- The text `text` is to be read as the place whose token it is, or as `None` if it isn't a listing's token.
 abbrev pub ReadsAsPage : List ℕ → Option Page → Type 0
 ReadsAsPage text None = (p : Page) → IsPage p → text ≢ page_token p
 ReadsAsPage text (Some p) = IsPage p × (text ≡ page_token p)
 
--- ---- the same as functions of a text
+-- ---- The same as functions of a text
 
--- an iterator of the texts of its fields
+-- The iterator whose fields have these texts, if there is one.
 unfoldable pub iter_from : List ℕ → List ℕ → List ℕ → List ℕ → Option Iter
 iter_from stream shard position issued = do
   a ← number_of 64 stream
@@ -64,7 +64,7 @@ iter_from stream shard position issued = do
   d ← moment_of issued
   Some (record { stream = a; shard = b; position = c; issued = d })
 
--- the iterator of the text that its token encodes
+-- The iterator whose token encodes `text`, if there is one.
 unfoldable pub iter_in : List ℕ → Option Iter
 iter_in text = do
   kind ← field text
@@ -73,11 +73,11 @@ iter_in text = do
   position ← field shard.1
   if bytes_eq kind.0 (codes "KI1") then iter_from stream.0 shard.0 position.0 position.1 else None
 
--- the iterator of a token
+-- The iterator whose token is `text`, if there is one.
 abbrev pub iter_of : List ℕ → Option Iter
 iter_of text = decoded_of standard text >>= iter_in
 
--- a place in a listing of the texts of its fields
+-- The place in a listing whose fields have these texts, if there is one.
 unfoldable pub page_from : List ℕ → List ℕ → List ℕ → Option Page
 page_from stream after issued = do
   a ← number_of 64 stream
@@ -85,7 +85,7 @@ page_from stream after issued = do
   c ← moment_of issued
   Some (record { stream = a; after = b; issued = c })
 
--- the place in a listing of the text that its token encodes
+-- The place in a listing whose token encodes `text`, if there is one.
 unfoldable pub page_in : List ℕ → Option Page
 page_in text = do
   kind ← field text
@@ -93,6 +93,6 @@ page_in text = do
   after ← field stream.1
   if bytes_eq kind.0 (codes "KT1") then page_from stream.0 after.0 after.1 else None
 
--- the place in a listing of a token
+-- The place in a listing whose token is `text`, if there is one.
 abbrev pub page_of : List ℕ → Option Page
 page_of text = decoded_of standard text >>= page_in

@@ -15,7 +15,7 @@ use Rattle.kds_defs.specs.Shards.{with_closed}
 use Rattle.kds_tree.specs.Families.{AreFamilies, MayStandAt, told_of}
 use Rattle.kds_tree.proofs.OpenStarts.{Closes, IsBehind, closes_one, closes_two, get_back, get_cases, get_front}
 
--- ---- what is among them all is among those two
+-- ---- What is among them all is among those two
 
 none_passes : (p : ShardState → Bool) (xs : List ShardState)
     → ((place : ℕ) (x : ShardState) → slice_get xs place ≡ Some x → p x ≡ false) → filter p xs ≡ []
@@ -47,7 +47,7 @@ all_near firsts xs pair parent first families is is_pair =
     ∙ near (is_child parent) first xs (λ place x there child.
     subst (λ o. MayStandAt o place) (sym is) (families.each parent place x there child))
 
--- a shard without a first child has none
+-- A shard without a first child has no children.
 pub none_known : (firsts : List (Option ℕ)) (xs : List ShardState) (parent : ℕ) → AreFamilies firsts xs
     → None ≡ told_of (slice_get firsts parent)
     → [] ≡ children_among parent xs
@@ -56,7 +56,7 @@ none_known firsts xs parent families is =
     (λ place x there. false_from_ne_true (is_child parent x)
     (λ t. subst (λ o. MayStandAt o place) (sym is) (families.each parent place x there t))))
 
--- ---- lists with places that are set
+-- ---- Lists with places that are set
 
 set_keeps : (l : List (Option ℕ)) (i j : ℕ) (v : Option ℕ) → i ≢ j → slice_get (slice_set l j v) i ≡ slice_get l i
 set_keeps [] i j v apart = refl
@@ -91,7 +91,7 @@ stood : (o : Option (Option ℕ)) (place : ℕ) → MayStandAt (told_of o) place
 stood None place h = absurd h
 stood (Some w) place h = (w, refl)
 
--- ---- a new stream
+-- ---- A new stream
 
 unrelated : (n start : ℕ) (ranges : List Span) (parent place : ℕ) (x : ShardState)
     → slice_get (first_shards n start ranges) place ≡ Some x
@@ -121,9 +121,9 @@ families_made count n start ranges long = record {
       none_at count place (omega (arith, long, slice_get_within (first_shards n start ranges) place x is));
 }
 
--- ---- shards that are closed, and others behind all
+-- ---- Shards that are closed, and others behind all
 
--- a child is one before and after
+-- Each child in the list `closed` is a child of the same shard in the list `xs`.
 abbrev pub Kin : List ShardState → List ShardState → Type 0
 Kin xs closed = (parent place : ℕ) (y : ShardState) → slice_get closed place ≡ Some y → is_child parent y ≡ true
     → (x : ShardState) × ((slice_get xs place ≡ Some x) × (is_child parent x ≡ true))
@@ -144,7 +144,7 @@ kin_twice xs sh other closing parent place y is child =
     let once = kin_closed (with_closed sh closing xs) other closing parent place y is child in
     kin_closed xs sh closing parent place once.0 once.1.0 once.1.1
 
--- the first children, where two shards get one, and others come that have none
+-- The first children after two shards get one and further shards come, which have none.
 abbrev pub after_birth : List (Option ℕ) → ℕ → ℕ → ℕ → List (Option ℕ) → List (Option ℕ)
 after_birth firsts sh other child more = slice_set (slice_set firsts sh (Some child)) other (Some child) ++ more
 
@@ -180,7 +180,7 @@ module _ (firsts more : List (Option ℕ)) (xs closed born : List ShardState) (s
       (ap (slice_get (slice_set (slice_set firsts sh (Some child)) other (Some child))) e
       ∙ set_there (slice_set firsts sh (Some child)) other once.0 (Some child) once.1)
 
-  -- a shard that has no child yet is none of which a child stands there
+  -- A shard that has no child yet isn't the parent of a child that may stand at the place.
   not_yet : (i parent place : ℕ) → slice_get firsts i ≡ Some None → MayStandAt (told_of (slice_get firsts parent)) place
       → parent ≢ i
   not_yet i parent place is h e = subst (λ o. MayStandAt (told_of o) place) (ap (slice_get firsts) e ∙ is) h
@@ -225,7 +225,7 @@ module _ (firsts more : List (Option ℕ)) (xs closed born : List ShardState) (s
     young = λ place y is open_now. young_by place y open_now (get_cases closed born place y is);
   }
 
--- ---- splits and merges
+-- ---- Splits and merges
 
 one_parent : (sh parent : ℕ) → ((sh == parent) || false) ≡ true → parent ≡ sh
 one_parent sh parent h = grind (arith, nat_tests)
@@ -288,7 +288,7 @@ merge_families firsts xs sh other a start r closing x y made open_now other_made
     families (closes_two xs sh other closing) (kin_twice xs sh other closing) (omega arith) refl none_in_one refl
     (families.young sh x made open_now) (families.young other y other_made other_open) (of_merge sh other a start r)
 
--- ---- places that are added
+-- ---- Places that are added
 
 pub one_place : (fs kept set more : List (Option ℕ)) (sh other a n : ℕ) → kept ≡ fs
     → set ≡ slice_set (slice_set kept sh (Some a)) other (Some a) → a ≡ n

@@ -19,7 +19,7 @@ still_below : (f g : ℕ) (o : Option Closing) → f ≤ g → was_closed_below 
 still_below f g None h e = e
 still_below f g (Some closing) h e = grind (arith, nat_tests)
 
--- what has expired stays so
+-- What has expired stays so.
 pub later_left : (f g n c : ℕ) (names : List ℕ) (xs : List ShardState) → f ≤ g → AreLeft f n c names xs
     → AreLeft g n c names xs
 later_left f g n zero names xs h left = left
@@ -30,14 +30,14 @@ later_left f g n (suc c) (i ∷ names) (x ∷ xs) h (inl a) = inl (a.0, later_le
 later_left f g n (suc c) (i ∷ names) (x ∷ xs) h (inr a) =
     inr (still_below f g x.closing h a.0, later_left f g (suc n) c (i ∷ names) xs h a.1)
 
--- a shard more before them
+-- The front has one more shard if an expired shard comes before it.
 passed_left : (f n c : ℕ) (names : List ℕ) (x : ShardState) (xs : List ShardState) → is_closed_below f x ≡ true
     → AreLeft f (suc n) c names xs
     → AreLeft f n (suc c) names (x ∷ xs)
 passed_left f n c [] x xs e left = (e, left)
 passed_left f n c (i ∷ names) x xs e left = inr (e, left)
 
--- names of shards that have expired may go
+-- Names of shards that have expired may go.
 shifted : (f n : ℕ) (keep : ℕ → Bool) (x : ShardState) (xs : List ShardState)
     → ((j : ℕ) (y : ShardState) → slice_get (x ∷ xs) j ≡ Some y → keep (n + j) ≡ false → is_closed_below f y ≡ true)
     → (j : ℕ) (y : ShardState) → slice_get xs j ≡ Some y → keep (suc n + j) ≡ false → is_closed_below f y ≡ true
@@ -64,7 +64,7 @@ kept_left f n (suc c) keep (i ∷ names) (x ∷ xs) drops (inr a) =
     passed_left f n c (filter keep (i ∷ names)) x xs a.0
     (kept_left f (suc n) c keep (i ∷ names) xs (shifted f n keep x xs drops) a.1)
 
--- a shard more behind them, which has expired
+-- The front may go on with the shard behind it if this shard has expired.
 pub one_passed : (f n c m : ℕ) (names : List ℕ) (xs : List ShardState) (x : ShardState) → m ≡ c + 1 → c < length xs
     → x ≡ get_or xs c x
     → is_closed_below f x ≡ true → AreLeft f n c names xs → AreLeft f n m names xs
@@ -82,7 +82,7 @@ one_passed f n c m names xs x is below at e left =
     longer n (suc k) (i ∷ ns) (y ∷ ys) below at (inr a) =
         inr (a.0, longer (suc n) k (i ∷ ns) ys (omega arith) at a.1)
 
--- or is named
+-- The front may go on with the shard behind it if this shard is named.
 pub one_named : (f n c m : ℕ) (names : List ℕ) (xs : List ShardState) → m ≡ c + 1 → c < length xs
     → AreLeft f n c names xs → AreLeft f n m (names ++ (n + c) ∷ []) xs
 one_named f n c m names xs is below left =
@@ -101,7 +101,7 @@ one_named f n c m names xs is below left =
     longer p (suc k) (i ∷ ns) (y ∷ ys) e below (inr a) =
         inr (a.0, longer (suc p) k (i ∷ ns) ys (omega arith) (omega arith) a.1)
 
--- ---- further shards, and changes of open ones, leave the front as it is
+-- ---- Further shards, and changes of open ones, leave the front as it is
 
 pub left_append : (f n c : ℕ) (names : List ℕ) (xs ys : List ShardState) → AreLeft f n c names xs
     → AreLeft f n c names (xs ++ ys)
@@ -162,7 +162,7 @@ left_sets f n (suc c) (suc i) (suc j) (k ∷ names) (w ∷ xs) x v y z made open
 left_sets f n (suc c) (suc i) (suc j) (k ∷ names) (w ∷ xs) x v y z made opened made' opened' (inr a) =
     inr (a.0, left_sets f (suc n) c i j (k ∷ names) xs x v y z made opened made' opened' a.1)
 
--- ---- the names rise, so those from a number on are those behind a place
+-- ---- The names rise, so those from a number on are those behind a place
 
 least : (f n c : ℕ) (names : List ℕ) (xs : List ShardState) → AreLeft f n c names xs → (j d : ℕ) → j < length names
     → n ≤ get_or names j d
@@ -229,7 +229,7 @@ names_behind f n (suc c) (suc m) t k (suc at) (i ∷ names) (x ∷ xs) is_t is_k
 names_behind f n (suc c) (suc m) t k at (i ∷ names) (x ∷ xs) is_t is_k before from (inr a) =
     names_behind f (suc n) c m t k at (i ∷ names) xs (omega arith) (omega arith) before from a.1
 
--- ---- listings pass over the others
+-- ---- Listings pass over the others
 
 listed_left : (f n c : ℕ) (names : List ℕ) (xs all : List ShardState)
     → ((j : ℕ) → slice_get all (n + j) ≡ slice_get xs j) → AreLeft f n c names xs
@@ -268,7 +268,7 @@ drop_twice (suc a) (suc b) [] = let e : suc (a + suc b) ≡ suc a + suc b = omeg
 drop_twice (suc a) b (x ∷ xs) = let e : suc (a + b) ≡ suc a + b = omega arith in
     drop_twice a b xs ∙ ap (λ k. drop k (x ∷ xs)) e
 
--- a listing that begins behind a number is that of the named shards from there on, and of the shards behind the front
+-- A listing that begins behind a number is that of the named shards from there on, and of the shards behind the front.
 pub listing_left : (cut after : Option ℕ) (xs : List ShardState) (names : List ℕ) (c start m : ℕ)
     → AreLeft (floor_of cut) start (c - start) names (drop start xs) → m ≡ max start c
     → drop start xs ≡ filter (is_after_shard after) xs
@@ -282,7 +282,7 @@ listing_left cut after xs names c start m left is behind =
     left)
     ∙ listing_behind cut after xs (drop start xs) behind
 
--- the keys of the named shards and then those of the shards behind the front are the keys of all
+-- The keys of the named shards, and then those of the shards behind the front, are the keys of all listed shards.
 pub keys_left : (s f c : ℕ) (names : List ℕ) (xs : List ShardState) (keys now new : List ShardRef)
     → AreLeft f 0 c names xs
     → now ≡ keys ++ refs_of s (listed_among f (picked names xs))
@@ -306,7 +306,7 @@ left_within f n (suc c) [] (x ∷ xs) left = omega (arith, left_within f (suc n)
 left_within f n (suc c) (i ∷ names) (x ∷ xs) (inl a) = omega (arith, left_within f (suc n) c names xs a.1)
 left_within f n (suc c) (i ∷ names) (x ∷ xs) (inr a) = omega (arith, left_within f (suc n) c (i ∷ names) xs a.1)
 
--- the test by which the names of those that have expired are told
+-- A name is dropped only if its shard has expired.
 was_true : (f j : ℕ) (o : Option ShardState) (x : ShardState) → o ≡ Some x → not (was_expired f o) ≡ false
     → is_closed_below f x ≡ true
 was_true f j None x is e = absurd cc

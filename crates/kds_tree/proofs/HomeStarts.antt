@@ -38,7 +38,7 @@ module _ (xs : List ShardState) (ss : List OpenStart) (k i : ℕ) (tree : IsTree
     (below : k < 2 ^ 128)
     (point : IsPartitionPoint (λ (y : OpenStart). leb y.key k ≡ true) (λ (y : OpenStart). leb y.key k ≡ false) ss i)
     (bound : i ≤ length ss) where
-  -- a start at or below the key stands before the point
+  -- A start at or below the key stands before the point.
   before_point : (j : ℕ) (d : OpenStart) → j < length ss → (get_or ss j d).key ≤ k → j < i
   before_point j d lt le =
       below_unless j i (leb i j) refl (λ over. below_point (get_or ss j d).key k (point.1 j d over lt) le)
@@ -73,7 +73,7 @@ module _ (xs : List ShardState) (ss : List OpenStart) (k i : ℕ) (tree : IsTree
       in_h in
       subst (IsHome xs k) (sym same) h
 
-  -- there is one
+  -- There is a start at or below the key.
   pub some_start : (at : ℕ) → at ≡ i - 1 → at < length ss
   some_start at is_at =
       let h = home_is xs k tree below in

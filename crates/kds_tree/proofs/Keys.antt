@@ -14,14 +14,14 @@ use Rattle.kds_tree.specs.Tree.{IsTree}
 use Rattle.kds_tree.specs.declared.start.OpenStart.{OpenStart}
 use Rattle.kds_tree.proofs.Risings.{tree_rises}
 
--- ---- lists that don't fall, with each key as often in both, are the same
+-- ---- Lists that don't fall, with each key as often in both, are the same
 
--- how often the key is there
+-- How often the key `k` is in a list.
 abbrev times : ℕ → List ℕ → ℕ
 times k [] = 0
 times k (x ∷ xs) = cond (x == k) 1 0 + times k xs
 
--- none is below the one before it
+-- No key of a list is below the one before it.
 abbrev NoneFalls : ℕ → List ℕ → Type 0
 NoneFalls n [] = Unit {0}
 NoneFalls n (x ∷ xs) = (n ≤ x) × NoneFalls x xs
@@ -62,19 +62,19 @@ same_lists n (x ∷ xs) (y ∷ ys) r t e =
     (λ k. same_tail x y k xs ys same (e k)))
     ∙ ap (λ (z : ℕ). z ∷ ys) same
 
--- ---- how often a key is there
+-- ---- How often a key is there
 
 times_by : (lt : Bool) (k b x : ℕ) (xs more : List ℕ) → times k more ≡ cond (b == k) 1 0 + times k xs
     → times k (cond lt (b ∷ x ∷ xs) (x ∷ more)) ≡ cond (b == k) 1 0 + times k (x ∷ xs)
 times_by true k b x xs more h = refl
 times_by false k b x xs more h = omega arith
 
--- one start more is once more there
+-- An added start is there once more.
 times_with : (k b : ℕ) (xs : List ℕ) → times k (with_start b xs) ≡ cond (b == k) 1 0 + times k xs
 times_with k b [] = refl
 times_with k b (x ∷ xs) = times_by (nat_lt b x) k b x xs (with_start b xs) (times_with k b xs)
 
--- the start has the key
+-- Whether the start `s` has the key `k`.
 abbrev has_key : ℕ → OpenStart → Bool
 has_key k s = s.key == k
 
@@ -95,7 +95,7 @@ times_keys : (k : ℕ) (ss : List OpenStart) → times k (starting_keys ss) ≡ 
 times_keys k [] = refl
 times_keys k (s ∷ ss) = counted (s.key == k) s (filter (has_key k) ss) (times k (starting_keys ss)) (times_keys k ss)
 
--- ---- those that are kept don't fall
+-- ---- Those that are kept don't fall
 
 none_falls : (n : ℕ) (ss : List OpenStart) → IsNonDecreasingBy (λ (s : OpenStart). s.key) ss
     → ((d : OpenStart) → 0 < length ss → n ≤ (get_or ss 0 d).key)

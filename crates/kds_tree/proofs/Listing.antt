@@ -11,7 +11,7 @@ use Rattle.kds_defs.specs.Streams.{floor_of}
 use Rattle.kds_defs.specs.Tiled.{AreNumbered}
 use Rattle.kds_tree.specs.Front.{listing}
 
--- ---- two tests may be tried in either order
+-- ---- Two tests may be tried in either order
 
 swap_step : (p q : ShardState → Bool) (a b : Bool) (x : ShardState) (xs : List ShardState) → p x ≡ a → q x ≡ b
     → filter p (filter q xs) ≡ filter q (filter p xs)
@@ -30,7 +30,7 @@ filter_swap : (p q : ShardState → Bool) (xs : List ShardState) → filter p (f
 filter_swap p q [] = refl
 filter_swap p q (x ∷ xs) = swap_step p q (p x) (q x) x xs refl refl (filter_swap p q xs)
 
--- ---- what stands behind a number
+-- ---- What stands behind a number
 
 above : (m n after : ℕ) → m ≡ n → after < n → nat_lt after m ≡ true
 above m n after is h = grind (arith, nat_tests)
@@ -38,7 +38,7 @@ above m n after is h = grind (arith, nat_tests)
 not_above : (m n after : ℕ) → m ≡ n → n ≤ after → nat_lt after m ≡ false
 not_above m n after is h = grind (arith, nat_tests)
 
--- all are, if they are numbered from above it
+-- All shards stand behind a number if they are numbered from above it.
 all_behind : (xs : List ShardState) (n after : ℕ) → AreNumbered n xs → after < n
     → filter (is_after_shard (Some after)) xs ≡ xs
 all_behind [] n after numbers h = refl
@@ -47,7 +47,7 @@ all_behind (x ∷ xs) n after numbers h =
     (above x.no n after numbers.0 h)
     ∙ ap (λ ys. x ∷ ys) (all_behind xs (n + 1) after numbers.1 (omega arith))
 
--- the place right behind a number, or the end where that comes first
+-- The shards from the place right behind a number, or from the end if that comes first, are those behind the number.
 point : (xs : List ShardState) (n after from : ℕ) → AreNumbered n xs → n + from ≤ after + 1 → (n + from ≡ after + 1)
     ⊎ (length xs ≤ from)
     → drop from xs ≡ filter (is_after_shard (Some after)) xs
@@ -78,7 +78,7 @@ pub behind_none : (xs : List ShardState) → xs ≡ filter (is_after_shard None)
 behind_none [] = refl
 behind_none (x ∷ xs) = ap (λ ys. x ∷ ys) (behind_none xs)
 
--- those that are listed behind a number are those of the shards behind it
+-- The shards that are listed behind a number are those of the shards behind it.
 pub listing_behind : (cut after : Option ℕ) (xs behind : List ShardState) → behind ≡ filter (is_after_shard after) xs
     → listing cut behind ≡ map shown (filter (is_after_shard after) (listed_among (floor_of cut) xs))
 listing_behind cut after xs behind is = ap (listing cut) is ∙ ap (map shown) (filter_swap _ _ xs)

@@ -18,7 +18,7 @@ use Rattle.kds_tree.specs.Starts.{IsStart, AreOf, AreStarts, open_starts, own_st
 use Rattle.kds_tree.specs.declared.start.OpenStart.{OpenStart}
 use Rattle.kds_tree.proofs.Homes.{number_at}
 
--- ---- how many pass a test
+-- ---- How many pass a test
 
 tally : (OpenStart → Bool) → List OpenStart → ℕ
 tally p ss = length (filter p ss)
@@ -38,7 +38,7 @@ filter_step p true true s ss ts is h = ap (λ d. cond d (s ∷ filter p ss) (fil
 filter_step p true false s ss ts is h = ap (λ d. cond d (s ∷ filter p ss) (filter p ss)) is ∙ h
 filter_step p false c s ss ts is h = h
 
--- what passes one test and then another passes both
+-- What passes one test and then another passes both.
 filter_both : (p q : OpenStart → Bool) (ss : List OpenStart) → filter p (filter q ss) ≡ filter (λ s. q s && p s) ss
 filter_both p q [] = refl
 filter_both p q (s ∷ ss) =
@@ -52,12 +52,12 @@ length-map : (xs : List ShardState) → length (map own_start xs) ≡ length xs
 length-map [] = refl
 length-map (x ∷ xs) = ap suc (length-map xs)
 
--- so there are as many starts as open shards
+-- There are as many starts as open shards.
 pub open_many : (ss : List OpenStart) (xs : List ShardState) → AreStarts ss xs → length ss ≡ length (filter is_open xs)
 open_many ss xs starts = ap length (sym (filter_any ss)) ∙ starts.many (λ s. true)
     ∙ ap length (filter_any (open_starts xs)) ∙ length-map (filter is_open xs)
 
--- ---- what lists contain
+-- ---- What lists contain
 
 contains_choice : (b : Bool) (y : ShardState) (ys : List ShardState) (s : OpenStart) → Contains (map own_start ys) s
     → Contains (map own_start (cond b (y ∷ ys) ys)) s
@@ -93,7 +93,7 @@ contains_left p (y ∷ ys) s zero lt is t = left_chosen (p y) y s (filter p ys) 
 contains_left p (y ∷ ys) s (suc k) lt is t =
     left_choice (p y) y s (filter p ys) (contains_left p ys s k (omega arith) is t)
 
--- ---- places
+-- ---- Places
 
 pub get_front : {A : Type 0} → (xs ys : List A) (i : ℕ) (x : A) → slice_get xs i ≡ Some x
     → slice_get (xs ++ ys) i ≡ Some x
@@ -125,7 +125,7 @@ get_cases (z ∷ zs) ys (suc i) x is = more (get_cases zs ys i x is)
     more (inl h) = inl h
     more (inr h) = inr (behind_more ys (length zs) i x h)
 
--- ---- the starts of a list of shards
+-- ---- The starts of a list of shards
 
 start_choice : (b : Bool) (xs : List ShardState) (y : ShardState) (ys : List ShardState)
     → (b ≡ true → IsStart xs (own_start y)) → AllByRecursion (IsStart xs) (map own_start ys)
@@ -158,7 +158,7 @@ made_starts xs numbers = record {
       subst (λ (k : ℕ). Contains (open_starts xs) (start_of x k)) e (contains_open xs i x is open_now);
 }
 
--- put in order
+-- The starts of the open shards are still those if they are put in order.
 pub in_order : (xs : List ShardState) (ss ts : List OpenStart) → AreOf ss xs
     → ((p : OpenStart → Bool) → length (filter p ss) ≡ length (filter p (open_starts xs))) → IsPermutation ss ts
     → IsNonDecreasingBy (λ (s : OpenStart). s.key) ts → AreStarts ts xs
@@ -172,7 +172,7 @@ in_order xs ss ts of many same order = record {
   order = order;
 }
 
--- ---- a change that closes two shards, and opens others behind all
+-- ---- A change that closes two shards, and opens others behind all
 
 pub record Closes (xs closed : List ShardState) (sh other : ℕ) : Type 0 where
   pub kept : (i : ℕ) (x : ShardState) → i ≢ sh → i ≢ other → slice_get xs i ≡ Some x → slice_get closed i ≡ Some x
@@ -255,7 +255,7 @@ many_changed xs closed born sh other closes numbers ss starts p =
     ∙ sym (tally-append p (open_starts closed) (open_starts born))
     ∙ ap (tally p) (sym (open-append closed born))
 
--- the same, put in order
+-- The starts after a split or a merge are those of the open shards then, put in order.
 pub reshaped : (xs closed born : List ShardState) (sh other : ℕ) → Closes xs closed sh other
     → AreNumbered (length xs) born → AreNumbered 0 xs
     → (ss more ts : List OpenStart) → AreStarts ss xs → more ≡ filter (stays sh other) ss ++ open_starts born
@@ -267,7 +267,7 @@ reshaped xs closed born sh other closes numbers own ss more ts starts is same or
     (changed xs closed born sh other closes numbers ss starts.of))
     (λ p. ap (λ us. length (filter p us)) is ∙ many_changed xs closed born sh other closes own ss starts p) same order
 
--- ---- starts that are added
+-- ---- Starts that are added
 
 pub one_more : (front mid more : List OpenStart) (a b : OpenStart) → mid ≡ front → more ≡ mid ++ a ∷ [] → a ≡ b
     → more ≡ front ++ b ∷ []
@@ -283,7 +283,7 @@ two_more front mid next more a b c d is_mid is_next is_more is_c is_d =
     ∙ ap (λ (s : OpenStart). front ++ s ∷ b ∷ []) is_c
     ∙ ap (λ (s : OpenStart). front ++ c ∷ s ∷ []) is_d
 
--- ---- shards that are closed
+-- ---- Shards that are closed
 
 closed_other : (xs : List ShardState) (sh i : ℕ) (closing : Closing) → i ≢ sh
     → slice_get (with_closed sh closing xs) i ≡ slice_get xs i
@@ -314,9 +314,9 @@ open_apart xs sh i closing x is open_now e =
     ∙ is in
     absurd (apart (is_open x) open_now (closed_same xs sh closing x is'))
 
--- ---- the starts that are left
+-- ---- The starts that are left
 
--- the start is that of another shard
+-- Whether the start `s` is that of a shard other than `k`.
 abbrev is_other : ℕ → OpenStart → Bool
 is_other k s = not (s.shard == k)
 

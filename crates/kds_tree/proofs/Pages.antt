@@ -35,7 +35,7 @@ pub none_there : (xs : List ShardState) (i number : ℕ) → i ≡ number → fa
     → slice_get xs number ≡ None
 none_there xs i number is e = beyond xs number (omega (arith, is, lt_false i (length xs) e))
 
--- where there is no shard, all is listed already
+-- If there is no shard, all shards are listed already.
 pub none_more : (limit : ℕ) (cut : Option ℕ) (listed : List Shard) (o : Option ShardState) → o ≡ None
     → length listed ≤ limit
     → Lists limit (listed ++ listing cut (picked_before o [])) listed false
@@ -43,7 +43,7 @@ none_more limit cut listed o none few =
     subst (λ (p : Option ShardState). Lists limit (listed ++ listing cut (picked_before p [])) listed false) (sym none)
     (subst (λ (us : List Shard). Lists limit us listed false) (sym (append-nil listed)) (whole limit listed few))
 
--- where there is no shard, there is no key
+-- If there is no shard, there is no key.
 pub no_key : (s floor : ℕ) (keys : List ShardRef) (o : Option ShardState) → o ≡ None
     → keys ≡ keys ++ refs_of s (listed_among floor (picked_before o []))
 no_key s floor keys o none =

@@ -26,7 +26,7 @@ use Rattle.kds_tree.proofs.Families.{after_birth, merge_families, split_families
 use Rattle.kds_tree.proofs.OpenStarts.{get_front, reshaped, closes_one, closes_two}
 use Rattle.kds_tree.specs.Tree.{IsTree, IsWithinKeys, split_refusal, merge_refusal, answer_by, value_by}
 
--- ---- what no refusal says
+-- ---- What no refusal says
 
 passed : (b : Bool) (r : Refusal) (o : Option Refusal) → (if not b then Some r else o) ≡ None → (b ≡ true) × (o ≡ None)
 passed true r o h = (refl, h)
@@ -84,7 +84,7 @@ can_merge xs sh other h =
           (subst (λ o. are_adjacent (range_of o) (range_of (slice_get xs other)) ≡ true) x.1 d.0);
     }
 
--- ---- what is kept
+-- ---- What is kept
 
 numbered_two : (n : ℕ) (x y : ShardState) → x.no ≡ n → y.no ≡ n + 1 → AreNumbered n (x ∷ y ∷ [])
 numbered_two n x y h g = (h, (g, tt))
@@ -113,7 +113,8 @@ chosen_within false x y h g = g
 lower_within : (r : Span) (at : ℕ) → is_inside r at ≡ true → r.end < 2 ^ 128 → at - 1 < 2 ^ 128
 lower_within r at inside h = grind (arith, nat_tests)
 
--- the ranges but the last end before a further one begins, at or below so many widths
+-- All ranges of a new stream end within the keys: those but the last end before a further one begins, at or below `n`
+-- widths.
 within_last : (width start n : ℕ) → start + n * width ≤ 2 ^ 128 → (i s : ℕ)
     → AllByRecursion IsWithinKeys (first_shards i s (uniform_from width start n))
 within_last width start zero fits i s = tt
@@ -201,7 +202,7 @@ pub tree_made : (n : ℕ) → 1 ≤ n → n ≤ 500 → IsTree (made_shards n 1)
 tree_made n low high =
     record { numbered = numbered-first 0 1 (uniform n); tiled = tiled_new n 1 low high; within = within_made n high }
 
--- ---- a shard that is closed at its place, where others follow
+-- ---- A shard that is closed at its place, where others follow
 
 closed_at : (xs ys : List ShardState) (i : ℕ) (x y : ShardState) (closing : Closing) → slice_get xs i ≡ Some x
     → y ≡ record x { closing = Some closing } → slice_set (xs ++ ys) i y ≡ with_closed i closing xs ++ ys
@@ -212,15 +213,15 @@ closed_at (z ∷ zs) ys zero x y closing at is =
     s) (sym e))
 closed_at (z ∷ zs) ys (suc i) x y closing at is = ap (λ ss. z ∷ ss) (closed_at zs ys i x y closing at is)
 
--- ---- what the calls owe
+-- ---- What the calls owe
 
--- the starts after a change: those of two shards are away, some others are there, and all are put in order
+-- The starts after a change: those of two shards are away, some others are there, and all are put in order.
 abbrev pub StartsGo : List ShardState → ℕ → ℕ → List ShardState → List ShardState → Type 0
 StartsGo xs sh other born zs = IsTree xs → (ss more ts : List OpenStart) → AreStarts ss xs
     → more ≡ filter (stays sh other) ss ++ map own_start born → IsPermutation more ts
     → IsNonDecreasingBy (λ (s : OpenStart). s.key) ts → AreStarts ts zs
 
--- the first children after a change: two shards have one, and others come that have none
+-- The first children after a change: two shards have one, and further shards come that have none.
 abbrev pub FamiliesGo : List ShardState → ℕ → ℕ → List (Option ℕ) → List ShardState → Type 0
 FamiliesGo xs sh other more zs = (firsts : List (Option ℕ)) → AreFamilies firsts xs
     → AreFamilies (after_birth firsts sh other (length xs) more) zs
@@ -229,13 +230,13 @@ answered : {A : Type 0} (o : Option Refusal) (x y : A) → Ok x ≡ answer_by o 
 answered None x y h = let e : x ≡ y = cc in (refl, e)
 answered (Some r) x y h = absurd cc
 
--- a call that is refused leaves the shards as they were
+-- A call that is refused leaves the shards as they were.
 pub refused_value : {A : Type 0} (o : Option Refusal) (r : Refusal) (x : A) (before after : List ShardState)
     → Err r ≡ answer_by o x → before ≡ value_by o before after
 refused_value None r x before after h = absurd cc
 refused_value (Some s) r x before after h = refl
 
--- its answer is the refusal
+-- The answer of a refused call is its refusal.
 same_refusal : {A : Type 0} (r q : Refusal)
     → (let a : Result A Refusal = Err r in let b : Result A Refusal = Err q in a ≡ b) → r ≡ q
 same_refusal r q h = cc
@@ -245,7 +246,7 @@ pub refused_answer : {A B : Type 0} (o : Option Refusal) (r : Refusal) (x : A) (
 refused_answer None r x y h = absurd cc
 refused_answer (Some q) r x y h = ap Err (same_refusal r q h)
 
--- the element that is read at the place is the shard there
+-- The element that is read at the place `i` is the shard there.
 read_at : (xs ys zs : List ShardState) (i : ℕ) (x old : ShardState) → zs ≡ xs ++ ys → slice_get xs i ≡ Some x
     → old ≡ slice_index_or zs i old → x ≡ old
 read_at xs ys zs i x old is at read =
@@ -273,7 +274,7 @@ closed_in xs ys zs sh x closing old new made is read close =
     ∙ closed_at xs ys sh x new closing made (close
     ∙ ap (λ (k : ShardState). let s : ShardState = record k { closing = Some closing } in s) (sym e))
 
--- closing a shard leaves each place filled
+-- Closing a shard leaves each place filled.
 still_there : (xs : List ShardState) (sh other : ℕ) (closing : Closing) (y : ShardState) → slice_get xs other ≡ Some y
     → (z : ShardState) × (slice_get (with_closed sh closing xs) other ≡ Some z)
 still_there [] sh other closing y is = absurd cc
@@ -282,7 +283,7 @@ still_there (x ∷ xs) zero (suc other) closing y is = (y, is)
 still_there (x ∷ xs) (suc sh) zero closing y is = (x, refl)
 still_there (x ∷ xs) (suc sh) (suc other) closing y is = still_there xs sh other closing y is
 
--- the two ranges of a split
+-- The two ranges of a split of the range `r` at the key `at`.
 abbrev pub halves : Span → ℕ → Span × Span
 halves r at = (lower_part r at, upper_part r at)
 
@@ -332,7 +333,7 @@ splits xs zs sh i at start a b s closing ranges low high old new answer is_i is_
           can.state can.made can.is_open_now families);
     }
 
--- a shard that is split is there
+-- A shard that is split is there.
 pub split_within : (xs zs : List ShardState) (sh i at : ℕ) (ranges : Span × Span) (low high : ShardState)
     → Ok ranges ≡ answer_by (split_refusal xs sh at) (halves (range_of (slice_get xs sh)) at) → i ≡ sh
     → zs ≡ xs ++ low ∷ high ∷ [] → i < length zs
@@ -341,7 +342,7 @@ split_within xs zs sh i at ranges low high answer is_i is =
     let can = can_split xs sh at h.0 in
     omega (arith, is_i, slice_get_within xs sh can.state can.made, ap length is, length-append xs (low ∷ high ∷ []))
 
--- and a first child may be written down for it
+-- A first child may be written down for a shard that is split.
 pub split_known : (xs : List ShardState) (firsts kept : List (Option ℕ)) (sh at : ℕ) (ranges : Span × Span)
     → Ok ranges ≡ answer_by (split_refusal xs sh at) (halves (range_of (slice_get xs sh)) at)
     → AreFamilies firsts xs → kept ≡ firsts → sh < length kept
@@ -350,7 +351,7 @@ split_known xs firsts kept sh at ranges answer families is =
     answer).0 in
     omega (arith, slice_get_within xs sh can.state can.made, families.long, ap length is)
 
--- both shards of a merge stand in the list with one shard more
+-- Both shards of a merge stand in the list with the child added.
 pub both_within : (xs zs : List ShardState) (sh other i j n : ℕ) (range joint : Span) (child : ShardState)
     → Ok range ≡ answer_by (merge_refusal xs sh other) joint → i ≡ sh → j ≡ other → n ≡ length zs
     → zs ≡ xs ++ child ∷ [] → (i < n) × (j < n)
@@ -371,7 +372,7 @@ both_known xs firsts kept sh other range joint answer families is =
       omega (arith, slice_get_within xs other can.beside can.other_made, long),
     )
 
--- the front stays, as only open shards are closed
+-- The front stays as it is, as only open shards are closed.
 pub front_split : (xs zs : List ShardState) (sh i at f n : ℕ) (names : List ℕ) (ranges : Span
     × Span) (low high y : ShardState)
     → Ok ranges ≡ answer_by (split_refusal xs sh at) (halves (range_of (slice_get xs sh)) at) → i ≡ sh
@@ -402,7 +403,7 @@ front_merge xs zs sh other i j f n names range joint child y z answer is_i is_j 
     (left_sets f 0 n sh other names more can.state can.beside y z made can.is_open_now made' can.other_open
     (left_append f 0 n names xs (child ∷ []) front))))
 
--- the value after an accepted call
+-- The value after an accepted call is the one that the call makes.
 by_none : (o : Option Refusal) (before after zs : List ShardState) → o ≡ None → zs ≡ after
     → zs ≡ value_by o before after
 by_none None before after zs none is = is

@@ -15,13 +15,13 @@ use Rattle.kds_defs.proofs.Members.{in_with_start}
 use Rattle.kds_defs.proofs.Rising.{rise_with, none_below}
 use Rattle.kds_tree.specs.Tree.{IsTree, IsWithinKeys}
 
--- ---- the starts of open shards
+-- ---- The starts of open shards
 
--- an open shard starts at the key
+-- Whether an open shard of `xs` starts at the key `k`.
 abbrev pub begins_at : List ShardState → ℕ → Bool
 begins_at xs k = is_start (starts_among (filter is_open xs)) k
 
--- one shard more, where it is open
+-- An added shard starts at a key if it is open and its range starts there.
 begins_with : (b : Bool) (x : ShardState) (xs : List ShardState) (k : ℕ)
     → is_start (starts_among (cond b (x ∷ filter is_open xs) (filter is_open xs))) k
     ≡ ((b && (x.range.start == k)) || begins_at xs k)
@@ -32,12 +32,12 @@ pub begins_more : (x : ShardState) (xs : List ShardState) (k : ℕ)
     → begins_at (x ∷ xs) k ≡ ((is_open x && (x.range.start == k)) || begins_at xs k)
 begins_more x xs k = begins_with (is_open x) x xs k
 
--- ---- they rise, since no two open shards contain one key
+-- ---- They rise, since no two open shards contain one key
 
 pub one_here : (r : Span) → r.start ≤ r.end → one r r.start ≡ 1
 one_here r h = grind (arith, nat_tests)
 
--- a key at which an open shard starts is contained
+-- A key at which an open shard starts is contained in this shard's range, which is counted.
 counted_by : (b c : Bool) (x : ShardState) (k n : ℕ) → is_open x ≡ b → (x.range.start == k) ≡ c
     → x.range.start ≤ x.range.end → (b && c) ≡ true → 1 ≤ count_if b (one x.range k) + n
 counted_by true true x k n isb isc o h = let e : x.range.start ≡ k = equal_so x.range.start k isc in
@@ -83,7 +83,7 @@ open_rise (x ∷ xs) once o w =
 pub tree_rises : (xs : List ShardState) → IsTree xs → RiseFrom 0 (starts_among (filter is_open xs))
 tree_rises xs tree = open_rise xs (λ k below. omega (arith, tree.tiled.times k below)) tree.tiled.ordered tree.within
 
--- ---- the first is 0
+-- ---- The first is 0
 
 zero_by : (b : Bool) (x : ShardState) (xs : List ShardState) (n : ℕ) → is_open x ≡ b
     → 1 ≤ count_if b (one x.range 0) + n → (1 ≤ n → begins_at xs 0 ≡ true)

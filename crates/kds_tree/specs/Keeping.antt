@@ -1,23 +1,23 @@
--- What a kept shard is.
+-- What a kept shard (`KeptShard`) stands for.
 use Rattle.std.specs.Prelude.{ℕ, ◌≡◌, refl, Option, Some, None}
 use Rattle.std.proofs.Common.{ap, ◌∙◌}
 use Rattle.kds_defs.specs.Shards.{ShardState, Closing, ending, shown}
 use Rattle.kds_tree.specs.declared.kept.KeptShard.TheInside.{Inside}
 
--- how the shard was closed, where it has an ending number and a moment
+-- How a shard was closed, if it has an ending number and a time of closing.
 abbrev pub closing_from : Option ℕ → Option ℕ → Option Closing
 closing_from (Some n) (Some c) = Some (record { number = n; clock = c })
 closing_from (Some n) None = None
 closing_from None c = None
 
--- it has both of them or neither
+-- An ending number and a time of closing are both there, or neither is.
 abbrev pub AreBoth : Option ℕ → Option ℕ → Type 0
 AreBoth (Some n) (Some c) = Unit {0}
 AreBoth (Some n) None = ⊥
 AreBoth None (Some c) = ⊥
 AreBoth None None = Unit {0}
 
--- all that is known of the shard
+-- All that is known of the kept shard `k`.
 abbrev pub state_of : Inside → ShardState
 state_of k = record {
   no = k.shard.no;
@@ -28,7 +28,7 @@ state_of k = record {
   closing = closing_from k.shard.end k.closed;
 }
 
--- ---- which gives the fields back
+-- ---- How the fields are given back
 
 abbrev pub moment_of : Option Closing → Option ℕ
 moment_of None = None

@@ -9,40 +9,41 @@ use Rattle.kds_defs.specs.Shards.{ShardState, is_open, is_closed_below, range_of
 use Rattle.kds_defs.specs.StreamCommands.{is_open_at}
 use Rattle.kds_defs.specs.Tiled.{AreNumbered, IsTiled}
 
--- the shards, and for how many more there is memory
+-- The shards, and the number of further shards for which there is memory.
 pub record TreeValue : Type 0 where
   pub shards : List ShardState
   pub spare : ℕ
 
--- the range ends within the keys
+-- The range of the shard `x` ends within the hash keys.
 abbrev pub IsWithinKeys : ShardState → Type 0
 IsWithinKeys x = x.range.end < 2 ^ 128
 
--- what holds in every state: the shards are numbered in their order, and the open ranges partition the keys
+-- What is true of the shards `xs` in every state: they are numbered in their order, and the ranges of the open ones
+-- partition the keys.
 pub record IsTree (xs : List ShardState) : Type 0 where
   pub numbered : AreNumbered 0 xs
   pub tiled : IsTiled xs
   pub within : AllByRecursion IsWithinKeys xs
 
--- the shard of this number is there and open, and its range contains the key
+-- Shard `sh` is one of `xs` and is open, and its range contains `key`.
 pub record IsHome (xs : List ShardState) (key sh : ℕ) : Type 0 where
   pub state : ShardState
   pub made : slice_get xs sh ≡ Some state
   pub is_open_now : is_open state ≡ true
   pub contains : Covers state.range key
 
--- the shard was made, and was closed below the floor
+-- Whether a shard is there and was closed below `floor`.
 abbrev pub was_expired : ℕ → Option ShardState → Bool
 was_expired floor None = false
 was_expired floor (Some x) = is_closed_below floor x
 
--- the two ranges of a split of a shard at a key
+-- The two ranges of a split of shard `sh` at the key `at`.
 abbrev pub split_parts : List ShardState → ℕ → ℕ → Span × Span
 split_parts xs sh at = (lower_part (range_of (slice_get xs sh)) at, upper_part (range_of (slice_get xs sh)) at)
 
--- ---- refusals, the first that holds
+-- ---- Refusals, the first that holds
 
--- why a split of a shard at a key is refused, if it is (Kinesis API Reference, SplitShard)
+-- Why a split of shard `sh` at the key `at` is refused, if it is (Kinesis API Reference, SplitShard).
 abbrev pub split_refusal : List ShardState → ℕ → ℕ → Option Refusal
 split_refusal xs sh at =
     if not (is_some (slice_get xs sh)) then Some refusal.NoShard else
@@ -50,7 +51,7 @@ split_refusal xs sh at =
     if not (is_inside (range_of (slice_get xs sh)) at) then Some refusal.BadSplit else
     None
 
--- why a merge of a shard with another is refused, if it is (Kinesis API Reference, MergeShards)
+-- Why a merge of shard `sh` with shard `other` is refused, if it is (Kinesis API Reference, MergeShards).
 abbrev pub merge_refusal : List ShardState → ℕ → ℕ → Option Refusal
 merge_refusal xs sh other =
     if not (is_some (slice_get xs sh) && is_some (slice_get xs other)) then Some refusal.NoShard else
@@ -59,17 +60,17 @@ merge_refusal xs sh other =
     refusal.NotAdjacent else
     None
 
--- the answer: the refusal, if there is one, and else this
+-- The answer of a call: its refusal, if there is one, and otherwise `x`.
 abbrev pub answer_by : {A : Type 0} → Option Refusal → A → Result A Refusal
 answer_by (Some r) x = Err r
 answer_by None x = Ok x
 
--- the value after the call: as it was before, where there is a refusal
+-- The value after a call: `before` if the call is refused, and otherwise `after`.
 abbrev pub value_by : {A : Type 0} → Option Refusal → A → A → A
 value_by (Some r) before after = before
 value_by None before after = after
 
--- the shards after a split or a merge that drew this number at a clock, unless it is refused
+-- The shards `xs` after a split or a merge that drew the sequence number `number` at `clock`, unless it is refused.
 abbrev pub after_split : List ShardState → ℕ → ℕ → ℕ → ℕ → List ShardState
 after_split xs sh at number clock =
     value_by (split_refusal xs sh at) xs

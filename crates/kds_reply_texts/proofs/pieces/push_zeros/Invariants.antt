@@ -1,7 +1,7 @@
 use Rattle.std.proofs.Common.{◌≡◌, ◌+◌, ◌≤◌, take, vec_len}
 use Rattle.kds_reply_texts.proofs.pieces.push_zeros.Given as goal
 
--- what stood before stays, and what was made and what is left are all that is asked for
+-- What stood before stays, and what was made and what is left are all that is asked for.
 abbrev pub invariant-loop-left : goal.invariant-loop-left
 invariant-loop-left l = record {
   front : take (vec_len l.fn.out) l.out.items ≡ l.fn.out.items;

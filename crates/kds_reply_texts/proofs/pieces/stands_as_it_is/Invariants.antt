@@ -3,7 +3,7 @@ use Rattle.std.specs.Bool.{OnTrue}
 use Rattle.json.specs.Written.{PlainBetween}
 use Rattle.kds_reply_texts.proofs.pieces.stands_as_it_is.Given as goal
 
--- the bytes so far
+-- The flag says whether the bytes so far stand as they are.
 abbrev pub invariant-loop-byte : goal.invariant-loop-byte
 invariant-loop-byte l = record {
   plain : OnTrue l.plain (PlainBetween l.bytes 0 l.byte-index);

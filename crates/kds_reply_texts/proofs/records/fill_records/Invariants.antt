@@ -6,7 +6,7 @@ use Rattle.kds_reply_texts.specs.Records.{record_data}
 use Rattle.kds_reply_texts.specs.Room.{front_text}
 use Rattle.kds_reply_texts.proofs.records.fill_records.Given as goal
 
--- with that of the records that are left, the text so far is all of it
+-- The text so far, with that of the records that are left, is the whole text.
 abbrev pub invariant-loop-stored : goal.invariant-loop-stored
 invariant-loop-stored l = record {
   within : l.at ≤ vec_len l.out;

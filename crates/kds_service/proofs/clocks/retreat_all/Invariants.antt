@@ -3,7 +3,7 @@ use Rattle.indexmap.specs.IndexMap.{keys, values}
 use Rattle.kds_service.specs.Clocks.{retreated}
 use Rattle.kds_service.proofs.clocks.retreat_all.Given as goal
 
--- the streams so far are back, and the others as they were
+-- The streams so far are back, and the others are as they were.
 abbrev pub invariant-loop-i : goal.invariant-loop-i
 invariant-loop-i l = record {
   value : values l.streams ≡ map retreated (take l.i (values l.initial.streams)) ++ drop l.i (values l.initial.streams);

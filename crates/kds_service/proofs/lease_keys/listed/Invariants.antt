@@ -3,6 +3,6 @@ use Rattle.indexmap.specs.IndexMap.{values}
 use Rattle.kds_service.specs.Keyed.{listed_keys}
 use Rattle.kds_service.proofs.lease_keys.listed.Given as goal
 
--- with the keys that are left, the keys so far are all of them
+-- The keys so far, with those that are left, are all keys.
 abbrev pub invariant-loop-i : goal.invariant-loop-i
 invariant-loop-i l = l.keys ++ listed_keys (drop l.i (values l.streams)) ≡ listed_keys (values l.streams)

@@ -2,7 +2,7 @@ use Rattle.std.proofs.Common.{◌≡◌, ◌≤◌, ◌++◌, length, drop, filt
 use Rattle.kds_defs.specs.Listings.{is_after_name}
 use Rattle.kds_service.proofs.listing.first_after.Given as goal
 
--- with those that are left, the names so far are all of them, and there are no more than the limit
+-- The names so far, with those that are left, are all names, and there are no more than the limit.
 abbrev pub invariant-loop-name : goal.invariant-loop-name
 invariant-loop-name l = record {
   all : l.first ++ filter (is_after_name l.after) (map (λ n. n.now) (drop l.name-index l.names))

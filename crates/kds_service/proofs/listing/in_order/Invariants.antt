@@ -3,7 +3,7 @@ use Rattle.indexmap.specs.IndexMap.{values}
 use Rattle.kds_service.specs.Shown.{names_of}
 use Rattle.kds_service.proofs.listing.in_order.Given as goal
 
--- with the names that are left, the names so far are all of them
+-- The names so far, with those that are left, are all names.
 abbrev pub invariant-loop-i : goal.invariant-loop-i
 invariant-loop-i l = map (λ n. n.now) l.names.items ++ names_of (drop l.i (values l.streams))
     ≡ names_of (values l.streams)

@@ -5,7 +5,7 @@ use Rattle.indexmap.specs.IndexMap.{values}
 use Rattle.kds_service.specs.Places.{open_beside}
 use Rattle.kds_service.proofs.streams_by_name.open_limit.Given as goal
 
--- less what is open in the streams that are left, what may still be open is what may be beside all
+-- What may still be open, minus what is open in the streams that are left, is what may be open beside all streams.
 abbrev pub invariant-loop-i : goal.invariant-loop-i
 invariant-loop-i l = l.left - open_beside (drop l.i (values l.streams)) l.no
     ≡ OPEN_SHARDS - open_beside (values l.streams) l.no

@@ -3,7 +3,7 @@ use Rattle.kds_log.specs.Log.{log_of}
 use Rattle.kds_stream_logs.specs.Routes.{CanTakeAll, with_each}
 use Rattle.kds_stream_logs.proofs.routes.append_all.Given as goal
 
--- the records that are left can be taken, and make of the logs what all of them make
+-- The records that are left can be taken, and make of the logs what all records make.
 abbrev pub invariant-loop-next : goal.invariant-loop-next
 invariant-loop-next l =
     record {

@@ -4,7 +4,7 @@ use Rattle.kds_log.specs.Log.{log_of}
 use Rattle.kds_stream_logs.specs.Routes.{is_place_of, room_at}
 use Rattle.kds_stream_logs.proofs.routes.reserve_all.Given as goal
 
--- the logs are as they were, and there is memory for the places so far
+-- The logs are as they were, and there is memory for the places so far.
 abbrev pub invariant-loop-place : goal.invariant-loop-place
 invariant-loop-place l =
     record {

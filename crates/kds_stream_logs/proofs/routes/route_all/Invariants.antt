@@ -6,7 +6,7 @@ use Rattle.kds_stream_logs.specs.Routes.{ArePlaced, GoesOn}
 use Rattle.kds_stream_logs.specs.Saved.{restored}
 use Rattle.kds_stream_logs.proofs.routes.route_all.Given as goal
 
--- the routes so far, with the items that are left, go on to those of all
+-- The routes so far, with the items that are left, go on to those of all items.
 abbrev pub invariant-loop-item : goal.invariant-loop-item
 invariant-loop-item l =
     record {

@@ -2,7 +2,8 @@ use Rattle.std.proofs.Common.{◌≡◌, ◌≤◌, ◌+◌, ◌*◌, drop}
 use Rattle.kds_defs.specs.ScaleCommands.{made_by}
 use Rattle.kds_stream_logs.proofs.steps.made_by.Given as goal
 
--- with what the steps that are left make, it is all that the steps make; each makes two at most
+-- The count so far, with what the steps that are left make, is all that the steps make. Each step makes two shards at
+-- most.
 abbrev pub invariant-loop-step : goal.invariant-loop-step
 invariant-loop-step l =
     record {

@@ -5,7 +5,7 @@ use Rattle.kds_defs.specs.Scaling.{LeadTo}
 use Rattle.kds_stream_logs.specs.Steps.{entries_in, scaled, starts_in}
 use Rattle.kds_stream_logs.proofs.steps.take_steps.Given as goal
 
--- the steps that are left lead on to what all of them lead to
+-- The steps that are left lead on to what all of them lead to.
 abbrev pub invariant-loop-step : goal.invariant-loop-step
 invariant-loop-step l =
     record {

@@ -2,7 +2,7 @@ use Rattle.std.proofs.Common.{◌≡◌, length}
 use Rattle.kds_stream_logs.specs.Saved.{restored}
 use Rattle.kds_stream_logs.proofs.windows.restore_windows.Given as goal
 
--- with those that are left put back, the windows are those with all put back
+-- The windows, with those that are left put back, are the windows with all put back.
 abbrev pub invariant-loop-last : goal.invariant-loop-last
 invariant-loop-last l = restored l.saved.items l.windows ≡ restored l.initial.saved.items l.initial.windows
 

@@ -4,7 +4,7 @@ use Rattle.kds_token.proofs.ids.before.Given as goal
 abbrev pub decreases-loop-known : goal.decreases-loop-known
 decreases-loop-known l = 12 - l.known
 
--- as many zeros stand there as were added
+-- There are as many zeros as were added.
 abbrev pub invariant-loop-known : goal.invariant-loop-known
 invariant-loop-known l = record {
   zeros : l.id.bytes ≡ codes "shardId-" ++ replicate (l.known - l.digits) 48;

@@ -3,7 +3,7 @@ use Rattle.kds_defs.specs.Streams.{floor_of}
 use Rattle.kds_tree.specs.Front.{AreLeft}
 use Rattle.kds_tree.proofs.front.pass_until.Given as goal
 
--- all so far have expired or are named
+-- All shards so far have expired or are named.
 abbrev pub invariant-loop-count : goal.invariant-loop-count
 invariant-loop-count l =
     AreLeft (floor_of l.cut) 0 l.start l.initial.left.items l.shards

@@ -5,7 +5,7 @@ use Rattle.kds_defs.specs.Streams.{floor_of}
 use Rattle.kds_tree.specs.Front.{picked}
 use Rattle.kds_tree.proofs.listed_keys.add_numbers.Given as goal
 
--- with the keys that are left, the keys so far are all of them
+-- The keys so far, with those that are left, are all keys.
 abbrev pub invariant-loop-no : goal.invariant-loop-no
 invariant-loop-no l =
     l.keys ++ refs_of l.stream (listed_among (floor_of l.cut) (picked (drop l.no-index l.numbers) l.shards))

@@ -4,7 +4,7 @@ use Rattle.kds_defs.specs.Shards.{listed_among}
 use Rattle.kds_defs.specs.Streams.{floor_of}
 use Rattle.kds_tree.proofs.listed_keys.add_rest.Given as goal
 
--- with the keys that are left, the keys so far are all of them
+-- The keys so far, with those that are left, are all keys.
 abbrev pub invariant-loop-kept : goal.invariant-loop-kept
 invariant-loop-kept l = l.keys ++ refs_of l.stream (listed_among (floor_of l.cut) (drop l.kept-index l.rest))
     ≡ l.initial.keys ++ refs_of l.stream (listed_among (floor_of l.cut) l.rest)

@@ -2,6 +2,6 @@ use Rattle.std.proofs.Common.{◌≡◌, ◌++◌, drop}
 use Rattle.kds_tree.specs.Starts.{starting_keys}
 use Rattle.kds_tree.proofs.tree.keys_of.Given as goal
 
--- with those that are left, the keys so far are all of them
+-- The keys so far, with those that are left, are all keys.
 abbrev pub invariant-loop-start : goal.invariant-loop-start
 invariant-loop-start l = l.keys ++ starting_keys (drop l.start-index l.starts) ≡ starting_keys l.starts

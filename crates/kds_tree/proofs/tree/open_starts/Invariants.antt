@@ -2,6 +2,6 @@ use Rattle.std.proofs.Common.{◌≡◌, ◌++◌, drop}
 use Rattle.kds_tree.specs.Starts.{open_starts}
 use Rattle.kds_tree.proofs.tree.open_starts.Given as goal
 
--- with those of the shards that are left, the starts so far are all of them
+-- The starts so far, with those of the shards that are left, are all starts.
 abbrev pub invariant-loop-kept : goal.invariant-loop-kept
 invariant-loop-kept l = l.starts.items ++ open_starts (drop l.kept-index l.shards) ≡ open_starts l.shards

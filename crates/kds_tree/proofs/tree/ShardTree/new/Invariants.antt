@@ -2,6 +2,6 @@ use Rattle.std.proofs.Common.{◌≡◌, ◌++◌, drop}
 use Rattle.kds_defs.specs.Shards.{first_shards, made_shards}
 use Rattle.kds_tree.proofs.tree.ShardTree.new.Given as goal
 
--- with those of the ranges that are left, the shards so far are all of them
+-- The shards so far, with those of the ranges that are left, are all shards.
 abbrev pub invariant-loop-i : goal.invariant-loop-i
 invariant-loop-i l = l.shards.items ++ first_shards l.i 1 (drop l.i l.range-items) ≡ made_shards l.n 1
