@@ -23,7 +23,7 @@ use Rattle.kds_defs.proofs.Counted.{numbers_stored}
 use Rattle.kcl_book.specs.declared.tenure.Tenure.{Tenure}
 use Rattle.kcl_book.specs.Tenures.{TenureValue, tenure_at, with_read}
 use Rattle.kcl_leases.proofs.TenureWrites.{read_at, read_gives}
-use Rattle.kcl_leases.specs.Conditions.{own_answer, reader_answer}
+use Rattle.kcl_leases.specs.Conditions.{own_tenure, reader_answer}
 use Rattle.kcl_leases.specs.Standing.{KeepsShards, Leads, Stands, facing, kept, leases}
 use Rattle.kcl_audit_streams.specs.declared.rule.Rule.TheVariants as rule
 use Rattle.kcl_audit_streams.specs.Judging.{agrees}
@@ -65,7 +65,7 @@ module _ (w : StreamsValue) (rs : List Row) (ts : List TenureValue) (by t limit 
   same_read e ms = rw (is_itself t, is_itself limit) refl
 
   -- If the tenure may read, it reads this batch.
-  module _ (y : Tenure) (reads : Ok y ≡ reader_answer (own_answer (tenure_at ts t) by) log w.clock position)
+  module _ (y : Tenure) (reads : Ok y ≡ reader_answer (own_tenure (tenure_at ts t) by) log w.clock position)
       (v : StreamValue) (live : live_at w.streams y.key.stream ≡ Some v)
       (ms : List ℕ) (ms_are : ms
       ≡ numbers_of (beginning limit BATCH_BYTES

@@ -1,4 +1,4 @@
--- In the phase that reads, fewer batches wait than may wait, and a Read is refused for too many only if as many wait as
+-- In the stage that reads, fewer batches wait than may wait, and a Read is refused for too many only if as many wait as
 -- may.
 use Rattle.std.proofs.Common.{◌≡◌, ℕ, suc, ◌+◌, ◌-◌, ◌<◌, ◌≤◌, Bool, true, false, List, [], ◌∷◌, ◌++◌, length, Option}
 use Rattle.std.proofs.Common.{Some, None, Ok, Err, refl, sym, ap}
@@ -27,9 +27,9 @@ use Rattle.kcl_defs.specs.declared.consumer.Tenancy.{Tenancy}
 use Rattle.kcl_defs.specs.declared.consumer.Why.TheVariants as why
 use Rattle.kcl_defs.specs.Consumers.{Answered, Called, Ending, Event, Filling, Giving, Holding, Leaving, Losing}
 use Rattle.kcl_defs.specs.Consumers.{Marking, MarkingEnd, Opening, Over, Past}
-use Rattle.kcl_defs.specs.Consumers.{Phase, Starting, after_answer, after_call, after_event, after_loss, after_open}
+use Rattle.kcl_defs.specs.Consumers.{Stage, Starting, after_answer, after_call, after_event, after_loss, after_open}
 use Rattle.kcl_defs.specs.Consumers.{after_read, calls_after, front}
-use Rattle.kcl_defs.specs.Consumers.{given, is_empty, is_filled, is_loss, next_command, onward, phase_after, was_handed}
+use Rattle.kcl_defs.specs.Consumers.{given, is_empty, is_filled, is_loss, next_command, onward, stage_after, was_handed}
 use Rattle.kcl_defs.specs.Lives.{Deal, deals_of, gives_after, gives_in, reads_after, reads_in}
 use Rattle.kcl_defs.specs.WorkerLives.{read_done}
 use Rattle.kcl_defs.proofs.DealLemmas.{AgreeWith, AllAgree, agree}
@@ -38,7 +38,7 @@ use Rattle.kcl_consumer.specs.Standing.{IsNeverFull}
 
 -- ---- In the record of the consumer
 
-abbrev HasRoom : Phase → Type 0
+abbrev HasRoom : Stage → Type 0
 HasRoom (Filling place waiting) = length waiting < PENDING_READS
 HasRoom _ = Unit {0}
 
@@ -97,8 +97,8 @@ open_room (Ok r) = tt
 open_room (Err (refusal.ParentsOpen parent)) = tt
 open_room (Err _) = tt
 
-answer_room : (made : Tenancy) (a : Result Reply Refusal) (phase : Phase) → HasRoom phase
-    → HasRoom (after_answer made a phase)
+answer_room : (made : Tenancy) (a : Result Reply Refusal) (stage : Stage) → HasRoom stage
+    → HasRoom (after_answer made a stage)
 answer_room made a Opening room = open_room a
 answer_room made a Starting room = tt
 answer_room made a (Filling place ws) room = read_room made.limit place ws a room
@@ -113,7 +113,7 @@ answer_room made (Err r) MarkingEnd room = tt
 answer_room made a (Leaving why) room = tt
 answer_room made a (Over why) room = tt
 
-call_room : (made : Tenancy) (asked : Ask) (phase : Phase) → HasRoom phase → HasRoom (after_call made asked phase)
+call_room : (made : Tenancy) (asked : Ask) (stage : Stage) → HasRoom stage → HasRoom (after_call made asked stage)
 call_room made asked Opening room = tt
 call_room made asked Starting room = none_wait
 call_room made asked (Filling place ws) room = room
@@ -130,7 +130,7 @@ handed_room : (b : Bool) (place : ℕ) (ws : List Fetched) (asked : Option Targe
 handed_room true place ws asked = tt
 handed_room false place ws asked = tt
 
-loss_room : (phase : Phase) → HasRoom (after_loss phase)
+loss_room : (stage : Stage) → HasRoom (after_loss stage)
 loss_room Opening = tt
 loss_room Starting = tt
 loss_room (Filling place ws) = tt
@@ -142,19 +142,19 @@ loss_room MarkingEnd = tt
 loss_room (Leaving why) = tt
 loss_room (Over why) = tt
 
-event_room : (made : Tenancy) (event : Event) (phase : Phase) → HasRoom phase → HasRoom (after_event made event phase)
-event_room made (Called asked) phase room = call_room made asked phase room
-event_room made (Answered a) phase room = answer_room made a phase room
-event_room made Losing phase room = loss_room phase
+event_room : (made : Tenancy) (event : Event) (stage : Stage) → HasRoom stage → HasRoom (after_event made event stage)
+event_room made (Called asked) stage room = call_room made asked stage room
+event_room made (Answered a) stage room = answer_room made a stage room
+event_room made Losing stage room = loss_room stage
 
-room_after : (made : Tenancy) (past : Past) → HasRoom (phase_after made past)
+room_after : (made : Tenancy) (past : Past) → HasRoom (stage_after made past)
 room_after made [] = tt
-room_after made (event ∷ past) = event_room made event (phase_after made past) (room_after made past)
+room_after made (event ∷ past) = event_room made event (stage_after made past) (room_after made past)
 
--- Only the phase `Filling` reads.
-reads_filling : (made : Tenancy) (phase : Phase) (counter t position limit : ℕ)
-    → next_command made phase counter ≡ Some (command.Read t position limit)
-    → (to : ℕ) × (waiting : List Fetched) × (phase ≡ Filling to waiting) × (made.tenure ≡ t)
+-- Only the stage `Filling` reads.
+reads_filling : (made : Tenancy) (stage : Stage) (counter t position limit : ℕ)
+    → next_command made stage counter ≡ Some (command.Read t position limit)
+    → (to : ℕ) × (waiting : List Fetched) × (stage ≡ Filling to waiting) × (made.tenure ≡ t)
 reads_filling made Opening counter t position limit e = cc
 reads_filling made Starting counter t position limit e = cc
 reads_filling made (Filling at ws) counter t position limit e = (at, ws, refl, cc)
@@ -212,11 +212,11 @@ too_many most n g r few all many = omega arith
 
 pub never_full : IsNeverFull
 never_full by at counter t position limit h made past step next told =
-    let r = reads_filling made (phase_after made past) counter t position limit next in
+    let r = reads_filling made (stage_after made past) counter t position limit next in
     let ws = r.1 in
     let room : length ws < PENDING_READS = subst HasRoom r.2 (room_after made past) in
     let stands =
-    subst (λ phase. Holds made phase (reads_after made past) (gives_after made past) (calls_after made past)) r.2
+    subst (λ stage. Holds made stage (reads_after made past) (gives_after made past) (calls_after made past)) r.2
     (holds made past) in
     let deals = deals_of by h in
     let turn : Turn = record { by = by; at = at; what = command.Read t position limit } in

@@ -10,56 +10,56 @@ use Rattle.kds_defs.specs.declared.reply.Refusal.{Refusal}
 use Rattle.kds_defs.specs.declared.reply.Reply.{Reply}
 use Rattle.kds_defs.specs.declared.reply.Stored.{Stored}
 use Rattle.kcl_defs.specs.Consumers.{Answered, Called, Filling, Giving, Losing, Past, after_answer, after_call}
-use Rattle.kcl_defs.specs.Consumers.{after_give, after_loss, after_read, call_at, calls_after, given_after, phase_after}
+use Rattle.kcl_defs.specs.Consumers.{after_give, after_loss, after_read, call_at, calls_after, given_after, stage_after}
 use Rattle.kcl_defs.specs.Consumers.{with_call}
 use Rattle.kcl_defs.specs.Lives.{last_given}
 use Rattle.kcl_defs.proofs.GivenLemmas.{given_answered, given_called, given_lost}
 use Rattle.kcl_consumer.specs.declared.stage.ConsumerStage.{ConsumerStage}
 use Rattle.kcl_consumer.specs.declared.stage.ConsumerStage.TheVariants as stage
-use Rattle.kcl_consumer.specs.Stages.{phase_of}
+use Rattle.kcl_consumer.specs.Stages.{stage_of}
 use Rattle.kcl_consumer.specs.Standing.{HasCalled, IsAsBefore, Standing, StandsFor}
 
 pub called : {P : Type 0} (stands : P → List Call → Type 0) (asks : P → List Stored → Ask
     → Type 0) (asked : Ask) (old new : Standing P) (past : Past) → HasCalled stands asks asked old new
     → StandsFor stands old past → StandsFor stands new (Called asked ∷ past)
 called stands asks asked old new past h s = record {
-  phase = h.phase ∙ ap (after_call old.made asked) s.phase
-      ∙ ap (λ m. after_call m asked (phase_after m past)) (sym h.made);
+  stage = h.stage ∙ ap (after_call old.made asked) s.stage
+      ∙ ap (λ m. after_call m asked (stage_after m past)) (sym h.made);
   given = h.given ∙ s.given ∙ sym (given_called old.made asked past)
       ∙ ap (λ m. last_given m (Called asked ∷ past)) (sym h.made);
   calls = subst (λ m. stands new.processor (calls_after m (Called asked ∷ past))) (sym h.made)
-      (subst (λ p. stands new.processor (with_call (call_at old.made p) (calls_after old.made past))) s.phase
+      (subst (λ p. stands new.processor (with_call (call_at old.made p) (calls_after old.made past))) s.stage
       (h.calls (calls_after old.made past) s.calls));
 }
 
 pub kept : {P : Type 0} (stands : P → List Call → Type 0) (asks : P → List Stored → Ask → Type 0) (old new : Standing P)
     (past : Past) → IsAsBefore stands asks old new → StandsFor stands old past → StandsFor stands new past
 kept stands asks old new past h s = record {
-  phase = h.phase ∙ s.phase ∙ ap (λ m. phase_after m past) (sym h.made);
+  stage = h.stage ∙ s.stage ∙ ap (λ m. stage_after m past) (sym h.made);
   given = h.given ∙ s.given ∙ ap (λ m. last_given m past) (sym h.made);
   calls = subst (λ m. stands new.processor (calls_after m past)) (sym h.made)
       (h.calls (calls_after old.made past) s.calls);
 }
 
 pub answered : {P : Type 0} (stands : P → List Call → Type 0) (answer : Result Reply Refusal) (old new : Standing P)
-    (past : Past) → new.made ≡ old.made → new.phase ≡ after_answer old.made answer old.phase
-    → new.given ≡ given_after answer old.phase old.given → new.processor ≡ old.processor → StandsFor stands old past
+    (past : Past) → new.made ≡ old.made → new.stage ≡ after_answer old.made answer old.stage
+    → new.given ≡ given_after answer old.stage old.given → new.processor ≡ old.processor → StandsFor stands old past
     → StandsFor stands new (Answered answer ∷ past)
-answered stands answer old new past made phase given processor s = record {
-  phase = phase ∙ ap (after_answer old.made answer) s.phase
-      ∙ ap (λ m. after_answer m answer (phase_after m past)) (sym made);
-  given = given ∙ ap (λ p. given_after answer p old.given) s.phase
-      ∙ ap (given_after answer (phase_after old.made past)) s.given
+answered stands answer old new past made stage given processor s = record {
+  stage = stage ∙ ap (after_answer old.made answer) s.stage
+      ∙ ap (λ m. after_answer m answer (stage_after m past)) (sym made);
+  given = given ∙ ap (λ p. given_after answer p old.given) s.stage
+      ∙ ap (given_after answer (stage_after old.made past)) s.given
       ∙ sym (given_answered old.made answer past) ∙ ap (λ m. last_given m (Answered answer ∷ past)) (sym made);
   calls = subst (λ p. stands p (calls_after new.made (Answered answer ∷ past))) (sym processor)
       (subst (λ m. stands old.processor (calls_after m (Answered answer ∷ past))) (sym made) s.calls);
 }
 
 pub lost : {P : Type 0} (stands : P → List Call → Type 0) (old new : Standing P) (past : Past) → new.made ≡ old.made
-    → new.phase ≡ after_loss old.phase → new.given ≡ old.given → new.processor ≡ old.processor
+    → new.stage ≡ after_loss old.stage → new.given ≡ old.given → new.processor ≡ old.processor
     → StandsFor stands old past → StandsFor stands new (Losing ∷ past)
-lost stands old new past made phase given processor s = record {
-  phase = phase ∙ ap after_loss s.phase ∙ ap (λ m. after_loss (phase_after m past)) (sym made);
+lost stands old new past made stage given processor s = record {
+  stage = stage ∙ ap after_loss s.stage ∙ ap (λ m. after_loss (stage_after m past)) (sym made);
   given = given ∙ s.given ∙ sym (given_lost old.made past) ∙ ap (λ m. last_given m (Losing ∷ past)) (sym made);
   calls = subst (λ p. stands p (calls_after new.made (Losing ∷ past))) (sym processor)
       (subst (λ m. stands old.processor (calls_after m (Losing ∷ past))) (sym made) s.calls);
@@ -70,7 +70,7 @@ lost stands old new past made phase given processor s = record {
 abbrev fields : {P : Type 0} → Tenancy → ConsumerStage → ℕ → List Fetched → Option Target → Bool → Option ℕ → P
     → Standing P
 fields made st reach ahead asked lost given processor =
-    record { made = made; phase = phase_of st reach ahead asked lost; given = given; processor = processor }
+    record { made = made; stage = stage_of st reach ahead asked lost; given = given; processor = processor }
 
 given_still : (answer : Result Reply Refusal) (reach : ℕ) (waiting : List Fetched) (last : Option ℕ)
     → last ≡ given_after answer (Filling reach waiting) last
@@ -80,29 +80,29 @@ given_still (Err r) reach waiting last = refl
 pub read_answered : {P : Type 0} (stands : P → List Call → Type 0) (answer : Result Reply Refusal) (made : Tenancy)
     (st st' : ConsumerStage) (reach reach' : ℕ) (ahead ahead' : List Fetched) (asked asked' : Option Target)
     (lost lost' : Bool) (given : Option ℕ) (p : P) (past : Past) → st ≡ stage.Filling → asked' ≡ None → lost' ≡ false
-    → phase_of st' reach' ahead' None false ≡ after_read made.limit reach ahead answer
+    → stage_of st' reach' ahead' None false ≡ after_read made.limit reach ahead answer
     → StandsFor stands (fields made st reach ahead asked lost given p) past
     → StandsFor stands (fields made st' reach' ahead' asked' lost' given p) (Answered answer ∷ past)
 read_answered stands answer made st st' reach reach' ahead ahead' asked asked' lost lost' given p past is none not_lost
-    phase s =
+    stage s =
     answered stands answer (fields made st reach ahead asked lost given p)
     (fields made st' reach' ahead' asked' lost' given p) past refl
-    (ap (λ a. phase_of st' reach' ahead' a lost') none ∙ ap (phase_of st' reach' ahead' None) not_lost ∙ phase
-    ∙ sym (ap (λ x. after_answer made answer (phase_of x reach ahead asked lost)) is))
+    (ap (λ a. stage_of st' reach' ahead' a lost') none ∙ ap (stage_of st' reach' ahead' None) not_lost ∙ stage
+    ∙ sym (ap (λ x. after_answer made answer (stage_of x reach ahead asked lost)) is))
     (given_still answer reach ahead given
-    ∙ sym (ap (λ x. given_after answer (phase_of x reach ahead asked lost) given) is)) refl s
+    ∙ sym (ap (λ x. given_after answer (stage_of x reach ahead asked lost) given) is)) refl s
 
 pub give_answered : {P : Type 0} (stands : P → List Call → Type 0) (answer : Result Reply Refusal) (made : Tenancy)
     (st st' : ConsumerStage) (reach : ℕ) (ahead ahead' : List Fetched) (asked asked' : Option Target)
     (lost lost' : Bool) (given given' : Option ℕ) (p : P) (past : Past) → st ≡ stage.Giving → asked' ≡ None
-    → lost' ≡ false → phase_of st' reach ahead' None false ≡ after_give reach ahead asked lost answer
+    → lost' ≡ false → stage_of st' reach ahead' None false ≡ after_give reach ahead asked lost answer
     → given' ≡ given_after answer (Giving reach ahead asked lost) given
     → StandsFor stands (fields made st reach ahead asked lost given p) past
     → StandsFor stands (fields made st' reach ahead' asked' lost' given' p) (Answered answer ∷ past)
 give_answered stands answer made st st' reach ahead ahead' asked asked' lost lost' given given' p past is none not_lost
-    phase last s =
+    stage last s =
     answered stands answer (fields made st reach ahead asked lost given p)
     (fields made st' reach ahead' asked' lost' given' p) past refl
-    (ap (λ a. phase_of st' reach ahead' a lost') none ∙ ap (phase_of st' reach ahead' None) not_lost ∙ phase
-    ∙ sym (ap (λ x. after_answer made answer (phase_of x reach ahead asked lost)) is))
-    (last ∙ sym (ap (λ x. given_after answer (phase_of x reach ahead asked lost) given) is)) refl s
+    (ap (λ a. stage_of st' reach ahead' a lost') none ∙ ap (stage_of st' reach ahead' None) not_lost ∙ stage
+    ∙ sym (ap (λ x. after_answer made answer (stage_of x reach ahead asked lost)) is))
+    (last ∙ sym (ap (λ x. given_after answer (stage_of x reach ahead asked lost) given) is)) refl s

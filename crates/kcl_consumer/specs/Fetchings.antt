@@ -5,14 +5,14 @@ use Rattle.kds_defs.specs.declared.reply.Refusal.{Refusal}
 use Rattle.kds_defs.specs.declared.reply.Reply.{Reply}
 use Rattle.kcl_consumer.specs.declared.consumer.Fetching.{Fetching}
 use Rattle.kcl_consumer.specs.declared.consumer.Fetching.TheVariants as fetching
-use Rattle.kcl_defs.specs.Consumers.{Phase, Filling, Leaving, fetched, after_read}
+use Rattle.kcl_defs.specs.Consumers.{Stage, Filling, Leaving, fetched, after_read}
 
--- The phase to which the answer leads.
-abbrev pub phase_by : ℕ → ℕ → List Fetched → Fetching → Phase
-phase_by limit reach waiting (fetching.Read f place) = fetched limit place waiting f
-phase_by limit reach waiting fetching.Nothing = Filling reach waiting
-phase_by limit reach waiting (fetching.Left why) = Leaving why
+-- The stage to which the answer leads.
+abbrev pub stage_by : ℕ → ℕ → List Fetched → Fetching → Stage
+stage_by limit reach waiting (fetching.Read f place) = fetched limit place waiting f
+stage_by limit reach waiting fetching.Nothing = Filling reach waiting
+stage_by limit reach waiting (fetching.Left why) = Leaving why
 
 abbrev pub IsFetching : Result Reply Refusal → Fetching → Type 0
 IsFetching answer f = (limit reach : ℕ) (waiting : List Fetched)
-    → after_read limit reach waiting answer ≡ phase_by limit reach waiting f
+    → after_read limit reach waiting answer ≡ stage_by limit reach waiting f

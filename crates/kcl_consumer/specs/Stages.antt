@@ -1,25 +1,25 @@
--- How a consumer stores its phase.
+-- How a consumer stores its stage.
 use Rattle.std.specs.Prelude.{ℕ, ◌≡◌, ◌<◌, Bool, true, List, [], length, Option}
 use Rattle.kds_defs.specs.declared.command.Target.{Target}
 use Rattle.kcl_defs.specs.declared.consumer.Fetched.{Fetched}
 use Rattle.kds_defs.specs.declared.limits.TheConstants.{PENDING_READS}
-use Rattle.kcl_defs.specs.Consumers.{Phase, Opening, Starting, Filling, Holding, Giving, Marking, Ending, MarkingEnd}
+use Rattle.kcl_defs.specs.Consumers.{Stage, Opening, Starting, Filling, Holding, Giving, Marking, Ending, MarkingEnd}
 use Rattle.kcl_defs.specs.Consumers.{Leaving, Over, was_handed}
 use Rattle.kcl_consumer.specs.declared.stage.ConsumerStage.{ConsumerStage}
 use Rattle.kcl_consumer.specs.declared.stage.ConsumerStage.TheVariants as stage
 
--- The phase for which the fields of a consumer stand.
-abbrev pub phase_of : ConsumerStage → ℕ → List Fetched → Option Target → Bool → Phase
-phase_of stage.Opening reach waiting asked lost = Opening
-phase_of stage.Starting reach waiting asked lost = Starting
-phase_of stage.Filling reach waiting asked lost = Filling reach waiting
-phase_of stage.Holding reach waiting asked lost = Holding reach waiting
-phase_of stage.Giving reach waiting asked lost = Giving reach waiting asked lost
-phase_of (stage.Marking to) reach waiting asked lost = Marking reach waiting to
-phase_of stage.Ending reach waiting asked lost = Ending
-phase_of stage.MarkingEnd reach waiting asked lost = MarkingEnd
-phase_of (stage.Leaving why) reach waiting asked lost = Leaving why
-phase_of (stage.Over why) reach waiting asked lost = Over why
+-- The stage for which the fields of a consumer stand.
+abbrev pub stage_of : ConsumerStage → ℕ → List Fetched → Option Target → Bool → Stage
+stage_of stage.Opening reach waiting asked lost = Opening
+stage_of stage.Starting reach waiting asked lost = Starting
+stage_of stage.Filling reach waiting asked lost = Filling reach waiting
+stage_of stage.Holding reach waiting asked lost = Holding reach waiting
+stage_of stage.Giving reach waiting asked lost = Giving reach waiting asked lost
+stage_of (stage.Marking to) reach waiting asked lost = Marking reach waiting to
+stage_of stage.Ending reach waiting asked lost = Ending
+stage_of stage.MarkingEnd reach waiting asked lost = MarkingEnd
+stage_of (stage.Leaving why) reach waiting asked lost = Leaving why
+stage_of (stage.Over why) reach waiting asked lost = Over why
 
 -- Before reading begins, no batch waits. If a batch is to be read, there is room for it. If a batch is held for the
 -- processor, it is the first one and isn't empty.

@@ -4,7 +4,7 @@ ghost use Rattle.std.specs.Prelude.{ℕ, ◌≡◌, ◌+◌, ◌<◌, [], ◌∷
 ghost use Rattle.kds_defs.specs.declared.limits.TheConstants.{PENDING_READS};
 ghost use Rattle.kcl_defs.specs.Consumers.{first_batch, front, is_filled, over_at, was_handed};
 ghost use Rattle.kcl_consumer.specs.Aheads.{IsTaken};
-ghost use Rattle.kcl_consumer.specs.Stages.{IsKept, phase_of};
+ghost use Rattle.kcl_consumer.specs.Stages.{IsKept, stage_of};
 
 use crate::stage::ConsumerStage;
 use circular_buffer::HeapCircularBuffer;
@@ -103,7 +103,7 @@ impl Ahead {
     /// to the processor next (`Holding`). An empty batch is reported as processed at once (`Giving`). If the ring is
     /// empty, the consumer reads on (`Filling`).
     pub(crate) fn front_stage(&self) -> ConsumerStage
-        ensures phase { (reach : ℕ) → phase_of result reach self.now None false ≡ front reach self.now }
+        ensures stage { (reach : ℕ) → stage_of result reach self.now None false ≡ front reach self.now }
         ensures going { (reach : ℕ) → over_at (front reach self.now) ≡ None }
         ensures kept { IsKept result self.now }
     {

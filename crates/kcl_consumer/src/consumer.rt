@@ -6,13 +6,13 @@ ghost use Rattle.std.specs.Prelude.{◌≡◌, ◌<◌, ℕ, false, length, List
 ghost use Rattle.std.specs.Prelude.{Option, Bool};
 ghost use Rattle.kcl_defs.specs.declared.consumer.Ask.{Ask};
 ghost use Rattle.kcl_defs.specs.Consumers.{Past, Answered, Called, Losing, calls_after, Giving, Opening, due_call};
-ghost use Rattle.kcl_defs.specs.Consumers.{over_at, next_command, phase_after, after_answer, after_end, after_open};
+ghost use Rattle.kcl_defs.specs.Consumers.{over_at, next_command, stage_after, after_answer, after_end, after_open};
 ghost use Rattle.kcl_defs.specs.Consumers.{progress_of, after_loss, first_place, last_number_in, target_of, given};
 ghost use Rattle.kcl_defs.specs.Consumers.{given_after, after_give, after_mark, after_read, told_over, told_refusal};
-ghost use Rattle.kcl_defs.specs.Workers.{is_giving_phase, is_marking_or_opening};
+ghost use Rattle.kcl_defs.specs.Workers.{is_giving_stage, is_writing};
 ghost use Rattle.kds_defs.specs.Kinds.{is_service};
 ghost use Rattle.kds_defs.specs.Lawful.{IsLawfulCommand, IsLimit};
-ghost use Rattle.kcl_consumer.specs.Stages.{phase_of, IsKept};
+ghost use Rattle.kcl_consumer.specs.Stages.{stage_of, IsKept};
 ghost use Rattle.kds_defs.specs.declared.command.Target.{Target};
 ghost use Rattle.kcl_defs.specs.declared.consumer.Fetched.{Fetched};
 ghost use Rattle.kds_defs.specs.declared.limits.TheConstants.{PENDING_READS};
@@ -76,8 +76,8 @@ fn fetched_of(answer: Answer) -> Fetching
 /// says whether the read of that batch reached the shard's end. `asked` is the checkpoint to set, if any. `lost` says
 /// whether the lease is known to be lost.
 fn stage_after_give(ahead: &Ahead, ended: bool, asked: Option<Target>, lost: bool) -> ConsumerStage
-    ensures phase { (reach : ℕ) (f : Fetched) → f.ended ≡ ended
-        → phase_of result reach ahead.now None false ≡ given reach (f ∷ ahead.now) asked lost }
+    ensures stage { (reach : ℕ) (f : Fetched) → f.ended ≡ ended
+        → stage_of result reach ahead.now None false ≡ given reach (f ∷ ahead.now) asked lost }
     ensures going { (reach : ℕ) (f : Fetched) → f.ended ≡ ended → over_at (given reach (f ∷ ahead.now) asked lost)
         ≡ None }
     ensures kept { IsKept result ahead.now }
@@ -102,8 +102,8 @@ fn after_giving(
     lost: bool,
     answer: &Answer,
 ) -> ConsumerStage
-    ensures phase { (reach : ℕ)
-        → phase_of result reach ahead.new None false ≡ after_give reach ahead.old asked lost answer.now }
+    ensures stage { (reach : ℕ)
+        → stage_of result reach ahead.new None false ≡ after_give reach ahead.old asked lost answer.now }
     ensures going { (reach : ℕ) → over_at (after_give reach ahead.old asked lost answer.now) ≡ None }
     ensures kept { IsKept result ahead.new }
 {
@@ -135,7 +135,7 @@ fn last_after(ahead: &Ahead, given: Option<Seq>, answer: &Answer) -> Option<Seq>
 /// Returns the consumer's stage and progress after the answer to the Mark with which the consumer sets the checkpoint
 /// that its processor asked for.
 fn after_marking(ahead: &Ahead, answer: &Answer) -> (ConsumerStage, Progress)
-    ensures phase { (reach : ℕ) → phase_of result.0 reach ahead.now None false ≡ after_mark reach ahead.now answer.now }
+    ensures stage { (reach : ℕ) → stage_of result.0 reach ahead.now None false ≡ after_mark reach ahead.now answer.now }
     ensures kept { IsKept result.0 ahead.now }
     ensures told { result.1 ≡ told_refusal answer.now }
 {
@@ -149,8 +149,8 @@ fn after_marking(ahead: &Ahead, answer: &Answer) -> (ConsumerStage, Progress)
 
 /// Returns the consumer's stage and progress after the answer to its OpenShard.
 fn after_opening(answer: Answer) -> (ConsumerStage, Progress)
-    ensures phase { (reach : ℕ) (waiting : List Fetched) (asked : Option Target) (lost : Bool)
-        → phase_of result.0 reach waiting asked lost ≡ after_open answer }
+    ensures stage { (reach : ℕ) (waiting : List Fetched) (asked : Option Target) (lost : Bool)
+        → stage_of result.0 reach waiting asked lost ≡ after_open answer }
     ensures kept { (waiting : List Fetched) → waiting ≡ [] → IsKept result.0 waiting }
     ensures told { result.1 ≡ told_over (over_at (after_open answer)) }
 {
@@ -169,8 +169,8 @@ fn after_opening(answer: Answer) -> (ConsumerStage, Progress)
 /// Returns the consumer's stage and progress after the answer to the Mark with which the consumer sets the checkpoint
 /// to the shard's end.
 fn after_ending(answer: Answer) -> (ConsumerStage, Progress)
-    ensures phase { (reach : ℕ) (waiting : List Fetched) (asked : Option Target) (lost : Bool)
-        → phase_of result.0 reach waiting asked lost ≡ after_end answer }
+    ensures stage { (reach : ℕ) (waiting : List Fetched) (asked : Option Target) (lost : Bool)
+        → stage_of result.0 reach waiting asked lost ≡ after_end answer }
     ensures kept { (waiting : List Fetched) → IsKept result.0 waiting }
     ensures told { result.1 ≡ told_over (over_at (after_end answer)) }
 {
@@ -185,7 +185,7 @@ fn after_ending(answer: Answer) -> (ConsumerStage, Progress)
 /// Returns the progress of a consumer that gets an answer although it awaits none in its stage. The answer is dropped.
 fn told_over(stage: ConsumerStage, answer: Answer) -> Progress
     ensures { (reach : ℕ) (waiting : List Fetched) (asked : Option Target) (lost : Bool)
-        → result ≡ told_over (over_at (phase_of stage reach waiting asked lost)) }
+        → result ≡ told_over (over_at (stage_of stage reach waiting asked lost)) }
 {
     let_go(answer);
     match stage {
@@ -208,7 +208,7 @@ fn forget(asked: &mut Option<Target>, lost: &mut bool)
 /// Read. If the answer has a batch, the batch is added to the ring.
 fn after_reading(ahead: &mut Ahead, limit: u32, reach: u64, answer: Answer) -> (ConsumerStage, u64)
     requires { length ahead.old < PENDING_READS }
-    ensures phase { phase_of result.0 result.1 ahead.new None false ≡ after_read limit reach ahead.old answer }
+    ensures stage { stage_of result.0 result.1 ahead.new None false ≡ after_read limit reach ahead.old answer }
     ensures going { over_at (after_read limit reach ahead.old answer) ≡ None }
     ensures kept { IsKept result.0 ahead.new }
 {
@@ -248,12 +248,12 @@ impl<P> Model for Consumer<P> {
 
     ghost Value = { Standing P };
 
-    ghost use Rattle.kcl_consumer.specs.Stages.{phase_of, IsKept};
+    ghost use Rattle.kcl_consumer.specs.Stages.{stage_of, IsKept};
     ghost use Rattle.kds_defs.specs.Lawful.{IsLimit};
 
     ghost view = { λ c. record {
       made = c.made;
-      phase = phase_of c.stage c.reach c.ahead c.asked c.lost;
+      stage = stage_of c.stage c.reach c.ahead c.asked c.lost;
       given = c.given;
       processor = c.processor;
     } };
@@ -275,7 +275,7 @@ impl<P: Processor> Consumer<P> {
         requires limit { IsLimit limit }
         requires empty { ahead ≡ [] }
         ensures made { result.made ≡ record { key = key; tenure = tenure; start = start; limit = limit } }
-        ensures opening { result.phase ≡ Opening }
+        ensures opening { result.stage ≡ Opening }
         ensures given { result.given ≡ None }
         ensures processor { result.processor ≡ processor }
         ensures stands { P.stands_for processor [] → StandsFor P.stands_for result [] }
@@ -313,7 +313,7 @@ impl<P: Processor> Consumer<P> {
 
     /// Returns the processor call that must be made before the consumer's next command, or `None` if no call is due.
     pub fn due(&self) -> Option<Due>
-        ensures { result ≡ due_call self.now.phase }
+        ensures { result ≡ due_call self.now.stage }
     {
         match self.stage {
             ConsumerStage::Starting => Some(Due::Initialize),
@@ -326,7 +326,7 @@ impl<P: Processor> Consumer<P> {
 
     /// Returns why the consumer is over, or `None` if it isn't over.
     pub fn over(&self) -> Option<Why>
-        ensures { result ≡ over_at self.now.phase }
+        ensures { result ≡ over_at self.now.stage }
     {
         match self.stage {
             ConsumerStage::Over(why) => Some(why),
@@ -344,7 +344,7 @@ impl<P: Processor> Consumer<P> {
 
     /// Whether the consumer's next command is a Give, which reports a batch as processed.
     pub fn is_giving(&self) -> bool
-        ensures { result ≡ is_giving_phase self.now.phase }
+        ensures { result ≡ is_giving_stage self.now.stage }
     {
         match self.stage {
             ConsumerStage::Giving => true,
@@ -355,7 +355,7 @@ impl<P: Processor> Consumer<P> {
     /// Whether the consumer's next command is an OpenShard, which opens its shard, or a Mark, which sets the
     /// checkpoint.
     pub fn is_writing(&self) -> bool
-        ensures { result ≡ is_marking_or_opening self.now.phase }
+        ensures { result ≡ is_writing self.now.stage }
     {
         match self.stage {
             ConsumerStage::Opening => true,
@@ -368,9 +368,9 @@ impl<P: Processor> Consumer<P> {
     /// Returns the consumer's next command. `counter` is the present counter of the lease's row in the lease table.
     /// Precondition: no processor call is due, and the consumer isn't over. Needs no memory.
     pub fn next(&self, counter: u64) -> Command
-        requires none_due { due_call self.now.phase ≡ None }
-        requires not_over { over_at self.now.phase ≡ None }
-        ensures next { next_command self.now.made self.now.phase counter ≡ Some result }
+        requires none_due { due_call self.now.stage ≡ None }
+        requires not_over { over_at self.now.stage ≡ None }
+        ensures next { next_command self.now.made self.now.stage counter ≡ Some result }
         ensures lawful { IsLawfulCommand result }
         ensures own { is_service result ≡ false }
     {
@@ -400,7 +400,7 @@ impl<P: Processor> Consumer<P> {
     /// memory; the same call is then still due.
     #[tactic(auto, using(crate::proofs::StandLemmas::called, crate::proofs::StandLemmas::kept))]
     pub fn call(&mut self) -> Result<(), Memory>
-        requires { IsSome (due_call self.old.phase) }
+        requires { IsSome (due_call self.old.stage) }
         ensures ok { OnOk result ((asked : Ask) × HasCalled P.stands_for P.asks asked self.old self.new) }
         ensures err { OnErr result (IsAsBefore P.stands_for P.asks self.old self.new) }
         ensures stands { OnOk result ((asked : Ask) (past : Past)
@@ -440,10 +440,10 @@ impl<P: Processor> Consumer<P> {
     #[tactic(auto, using(crate::proofs::StandLemmas::answered))]
     pub fn absorb(&mut self, answer: Answer) -> Progress
         ensures made { self.new.made ≡ self.old.made }
-        ensures phase { self.new.phase ≡ after_answer self.old.made answer self.old.phase }
-        ensures given { self.new.given ≡ given_after answer self.old.phase self.old.given }
+        ensures stage { self.new.stage ≡ after_answer self.old.made answer self.old.stage }
+        ensures given { self.new.given ≡ given_after answer self.old.stage self.old.given }
         ensures processor { self.new.processor ≡ self.old.processor }
-        ensures progress { result ≡ progress_of self.old.made answer self.old.phase }
+        ensures progress { result ≡ progress_of self.old.made answer self.old.stage }
         ensures stands { (past : Past) → StandsFor P.stands_for self.old past
             → StandsFor P.stands_for self.new (Answered answer ∷ past) }
     {
@@ -488,7 +488,7 @@ impl<P: Processor> Consumer<P> {
     /// as processed, the consumer still reports it (Give).
     pub fn lose(&mut self)
         ensures made { self.new.made ≡ self.old.made }
-        ensures phase { self.new.phase ≡ after_loss self.old.phase }
+        ensures stage { self.new.stage ≡ after_loss self.old.stage }
         ensures given { self.new.given ≡ self.old.given }
         ensures processor { self.new.processor ≡ self.old.processor }
         ensures stands { (past : Past) → StandsFor P.stands_for self.old past
@@ -528,6 +528,6 @@ pub fn life()
     ensures among { (deals : List Deal) (made : Tenancy) (past : Past) → IsInStep deals made past
         → IsLifeAmong deals made (calls_after made past) }
     ensures step { (deal : Deal) (deals : List Deal) (counter : ℕ) (made : Tenancy) (past : Past)
-        → next_command made (phase_after made past) counter ≡ Some deal.what
+        → next_command made (stage_after made past) counter ≡ Some deal.what
         → IsInStep deals made past → IsInStep (deal ∷ deals) made (Answered deal.answer ∷ past) }
 {}

@@ -7,7 +7,7 @@ use Rattle.kcl_defs.specs.declared.consumer.Fetched.{Fetched}
 use Rattle.kcl_defs.specs.declared.consumer.Tenancy.{Tenancy}
 use Rattle.kds_defs.specs.declared.reply.Reply.TheVariants as reply
 use Rattle.kds_defs.specs.declared.reply.Stored.{Stored}
-use Rattle.kcl_defs.specs.Consumers.{Answered, Called, Ending, Event, Filling, Holding, Past, phase_after}
+use Rattle.kcl_defs.specs.Consumers.{Answered, Called, Ending, Event, Filling, Holding, Past, stage_after}
 
 -- The consumer reads at most two records at a time.
 abbrev made : Tenancy
@@ -26,7 +26,7 @@ abbrev read : List Stored → ℕ → Event
 read batch place = Answered (Ok (reply.Read batch place false))
 
 -- Two full batches wait, and reading goes on.
-reading_on : (r : Stored) → phase_after made (read (full r) 5 ∷ read (full r) 3 ∷ started)
+reading_on : (r : Stored) → stage_after made (read (full r) 5 ∷ read (full r) 3 ∷ started)
     ≡ Filling 5 (waits (full r) ∷ waits (full r) ∷ [])
 reading_on r = refl
 
@@ -35,26 +35,26 @@ abbrev all_read : Stored → Past
 all_read r = read (r ∷ []) 6 ∷ read (full r) 5 ∷ read (full r) 3 ∷ started
 
 read_enough : (r : Stored)
-    → phase_after made (all_read r) ≡ Holding 6 (waits (full r) ∷ waits (full r) ∷ waits (r ∷ []) ∷ [])
+    → stage_after made (all_read r) ≡ Holding 6 (waits (full r) ∷ waits (full r) ∷ waits (r ∷ []) ∷ [])
 read_enough r = refl
 
 -- The next batches follow with no read between them, and then reading goes on.
-given_once : (r : Stored) → phase_after made (Answered (Ok reply.Done) ∷ Called ask.None ∷ all_read r)
+given_once : (r : Stored) → stage_after made (Answered (Ok reply.Done) ∷ Called ask.None ∷ all_read r)
     ≡ Holding 6 (waits (full r) ∷ waits (r ∷ []) ∷ [])
 given_once r = refl
 
 all_given : (r : Stored)
-    → phase_after made (Answered (Ok reply.Done) ∷ Called ask.None ∷ Answered (Ok reply.Done) ∷ Called ask.None
+    → stage_after made (Answered (Ok reply.Done) ∷ Called ask.None ∷ Answered (Ok reply.Done) ∷ Called ask.None
     ∷ Answered (Ok reply.Done) ∷ Called ask.None ∷ all_read r) ≡ Filling 6 []
 all_given r = refl
 
 -- The batch that ends the shard is handed out at once.
-end_read : (r : Stored) → phase_after made (Answered (Ok (reply.Read (full r) 3 true)) ∷ started)
+end_read : (r : Stored) → stage_after made (Answered (Ok (reply.Read (full r) 3 true)) ∷ started)
     ≡ Holding 3 (record { batch = full r; ended = true } ∷ [])
 end_read r = refl
 
 end_given : (r : Stored)
-    → phase_after made (Answered (Ok reply.Done) ∷ Called ask.None ∷ Answered (Ok (reply.Read (full r) 3 true))
+    → stage_after made (Answered (Ok reply.Done) ∷ Called ask.None ∷ Answered (Ok (reply.Read (full r) 3 true))
     ∷ started) ≡ Ending
 end_given r = refl
 
@@ -67,8 +67,8 @@ abbrev wait : ℕ → Stored → List Fetched
 wait zero r = []
 wait (suc n) r = waits (full r) ∷ wait n r
 
-seven_wait : (r : Stored) → phase_after made (reads 7 r) ≡ Filling 7 (wait 7 r)
+seven_wait : (r : Stored) → stage_after made (reads 7 r) ≡ Filling 7 (wait 7 r)
 seven_wait r = refl
 
-eight_wait : (r : Stored) → phase_after made (reads 8 r) ≡ Holding 7 (wait 8 r)
+eight_wait : (r : Stored) → stage_after made (reads 8 r) ≡ Holding 7 (wait 8 r)
 eight_wait r = refl

@@ -16,10 +16,10 @@ use Rattle.kds_defs.specs.declared.reply.Refusal.{Refusal}
 use Rattle.kds_defs.specs.declared.reply.Refusal.TheVariants as refusal
 use Rattle.kds_defs.specs.declared.reply.Reply.{Reply}
 use Rattle.kds_defs.specs.declared.reply.Reply.TheVariants as reply
-use Rattle.kcl_defs.specs.Consumers.{Past, Event, Called, Answered, Losing, Phase, Opening, Starting, Filling, Holding}
+use Rattle.kcl_defs.specs.Consumers.{Past, Event, Called, Answered, Losing, Stage, Opening, Starting, Filling, Holding}
 use Rattle.kcl_defs.specs.Consumers.{Giving, Marking, Ending, MarkingEnd, Leaving, Over, is_empty, is_filled, front}
 use Rattle.kcl_defs.specs.Consumers.{fetched, onward, given, was_handed, first_batch, is_loss, after_event}
-use Rattle.kcl_defs.specs.Consumers.{after_answer, after_read, after_give, after_mark, after_loss, phase_after}
+use Rattle.kcl_defs.specs.Consumers.{after_answer, after_read, after_give, after_mark, after_loss, stage_after}
 use Rattle.kcl_defs.specs.Consumers.{calls_with, calls_after}
 use Rattle.kcl_defs.specs.Lives.{reads_at, reads_after, gives_at, gives_after, read_in, give_in, processed, IsWaiting}
 use Rattle.kcl_defs.specs.Lives.{IsEnding, Goes_on, Ended, Left, Ended_and_left, HasBegun, IsLife}
@@ -77,8 +77,8 @@ pub record StandsHolding (made : Tenancy) (waiting : List Fetched) (reads : List
   pub some : was_handed waiting ≡ true
   pub stands : Stands made waiting [] [] reads gives calls
 
--- What holds in each phase.
-abbrev pub Holds : Tenancy → Phase → List Fetched → ℕ → List Call → Type 0
+-- What holds in each stage.
+abbrev pub Holds : Tenancy → Stage → List Fetched → ℕ → List Call → Type 0
 Holds made Opening reads gives calls = IsNew reads gives calls
 Holds made Starting reads gives calls = IsNew reads gives calls
 Holds made (Filling reach waiting) reads gives calls = Stands made waiting [] [] reads gives calls
@@ -204,9 +204,9 @@ leaves made reads gives calls h =
     (with_end made call.LeaseLost h.waiting h.handed h.ending reads gives calls h.stands) h.waits
     (left_ending h.ending h.opens))
 
-called : (made : Tenancy) (asked : Ask) (phase : Phase) (reads : List Fetched) (gives : ℕ) (calls : List Call)
-    → Holds made phase reads gives calls
-    → Holds made (after_event made (Called asked) phase) reads gives (calls_with made (Called asked) phase calls)
+called : (made : Tenancy) (asked : Ask) (stage : Stage) (reads : List Fetched) (gives : ℕ) (calls : List Call)
+    → Holds made stage reads gives calls
+    → Holds made (after_event made (Called asked) stage) reads gives (calls_with made (Called asked) stage calls)
 called made asked Starting reads gives calls h = begins made asked reads gives calls h
 called made asked (Holding reach waiting) reads gives calls h = hands made waiting reads gives calls h
 called made asked Ending reads gives calls h = ends_shard made reads gives calls h
@@ -251,8 +251,8 @@ lost_giving : (made : Tenancy) (reach : ℕ) (waiting : List Fetched) (to : Opti
 lost_giving made reach waiting to reads gives calls true h = h
 lost_giving made reach waiting to reads gives calls false h = leaving_given made waiting reads gives calls h
 
-lost : (made : Tenancy) (phase : Phase) (reads : List Fetched) (gives : ℕ) (calls : List Call)
-    → Holds made phase reads gives calls → Holds made (after_loss phase) reads gives calls
+lost : (made : Tenancy) (stage : Stage) (reads : List Fetched) (gives : ℕ) (calls : List Call)
+    → Holds made stage reads gives calls → Holds made (after_loss stage) reads gives calls
 lost made Opening reads gives calls h = none_yet made reads gives calls h
 lost made Starting reads gives calls h = none_yet made reads gives calls h
 lost made (Giving reach waiting to known) reads gives calls h =
@@ -407,10 +407,10 @@ open_answered made (Ok reply) reads gives calls h = h
 open_answered made (Err (refusal.ParentsOpen parent)) reads gives calls h = h
 open_answered made (Err _) reads gives calls h = none_yet made reads gives calls h
 
-answered : (made : Tenancy) (answer : Result Reply Refusal) (phase : Phase) (reads : List Fetched) (gives : ℕ)
-    (calls : List Call) → Holds made phase reads gives calls
-    → Holds made (after_answer made answer phase) (reads ++ reads_at phase (Answered answer))
-    (gives + gives_at phase (Answered answer)) calls
+answered : (made : Tenancy) (answer : Result Reply Refusal) (stage : Stage) (reads : List Fetched) (gives : ℕ)
+    (calls : List Call) → Holds made stage reads gives calls
+    → Holds made (after_answer made answer stage) (reads ++ reads_at stage (Answered answer))
+    (gives + gives_at stage (Answered answer)) calls
 answered made answer (Filling reach waiting) reads gives calls h =
     read_answered made reach waiting answer reads gives calls h
 answered made answer (Giving reach waiting to known) reads gives calls h =
@@ -436,38 +436,38 @@ answered made answer (Over why) reads gives calls h = still (λ rs n. Holds made
 
 abbrev HoldsAfter : Tenancy → Past → Type 0
 HoldsAfter made past =
-    Holds made (phase_after made past) (reads_after made past) (gives_after made past) (calls_after made past)
+    Holds made (stage_after made past) (reads_after made past) (gives_after made past) (calls_after made past)
 
 -- `Holds` still holds after an event that adds no read and no give.
-quiet : (made : Tenancy) (event : Event) (phase before : Phase) (reads : List Fetched) (gives : ℕ) (calls : List Call)
-    → reads_at before event ≡ [] → gives_at before event ≡ 0 → Holds made phase reads gives calls
-    → Holds made phase (reads ++ reads_at before event) (gives + gives_at before event) calls
-quiet made event phase before reads gives calls r g h =
-    let P : List Fetched → Type 0 = λ rs. Holds made phase (reads ++ rs) (gives + gives_at before event) calls in
-    let Q : ℕ → Type 0 = λ n. Holds made phase (reads ++ []) (gives + n) calls in
-    subst P (sym r) (subst Q (sym g) (still (λ rs n. Holds made phase rs n calls) reads gives h))
+quiet : (made : Tenancy) (event : Event) (stage before : Stage) (reads : List Fetched) (gives : ℕ) (calls : List Call)
+    → reads_at before event ≡ [] → gives_at before event ≡ 0 → Holds made stage reads gives calls
+    → Holds made stage (reads ++ reads_at before event) (gives + gives_at before event) calls
+quiet made event stage before reads gives calls r g h =
+    let P : List Fetched → Type 0 = λ rs. Holds made stage (reads ++ rs) (gives + gives_at before event) calls in
+    let Q : ℕ → Type 0 = λ n. Holds made stage (reads ++ []) (gives + n) calls in
+    subst P (sym r) (subst Q (sym g) (still (λ rs n. Holds made stage rs n calls) reads gives h))
 
-no_reads : (phase : Phase) (asked : Ask) → (reads_at phase (Called asked) ≡ []) × (reads_at phase Losing ≡ [])
-    × (gives_at phase (Called asked) ≡ 0) × (gives_at phase Losing ≡ 0)
+no_reads : (stage : Stage) (asked : Ask) → (reads_at stage (Called asked) ≡ []) × (reads_at stage Losing ≡ [])
+    × (gives_at stage (Called asked) ≡ 0) × (gives_at stage Losing ≡ 0)
 no_reads (Filling reach waiting) asked = (refl, refl, refl, refl)
 no_reads (Giving reach waiting to known) asked = (refl, refl, refl, refl)
 no_reads _ asked = (refl, refl, refl, refl)
 
 happens : (made : Tenancy) (event : Event) (past : Past) → HoldsAfter made past → HoldsAfter made (event ∷ past)
 happens made (Called asked) past h =
-    let n = no_reads (phase_after made past) asked in
-    quiet made (Called asked) (after_event made (Called asked) (phase_after made past)) (phase_after made past)
+    let n = no_reads (stage_after made past) asked in
+    quiet made (Called asked) (after_event made (Called asked) (stage_after made past)) (stage_after made past)
     (reads_after made past) (gives_after made past) (calls_after made (Called asked ∷ past)) n.0 n.2
-    (called made asked (phase_after made past) (reads_after made past) (gives_after made past) (calls_after made past)
+    (called made asked (stage_after made past) (reads_after made past) (gives_after made past) (calls_after made past)
     h)
 happens made (Answered answer) past h =
-    answered made answer (phase_after made past) (reads_after made past) (gives_after made past) (calls_after made past)
+    answered made answer (stage_after made past) (reads_after made past) (gives_after made past) (calls_after made past)
     h
 happens made Losing past h =
-    let n = no_reads (phase_after made past) asked in
-    quiet made Losing (after_loss (phase_after made past)) (phase_after made past) (reads_after made past)
+    let n = no_reads (stage_after made past) asked in
+    quiet made Losing (after_loss (stage_after made past)) (stage_after made past) (reads_after made past)
     (gives_after made past) (calls_after made past) n.1 n.3
-    (lost made (phase_after made past) (reads_after made past) (gives_after made past) (calls_after made past) h)
+    (lost made (stage_after made past) (reads_after made past) (gives_after made past) (calls_after made past) h)
   where
     asked : Ask
     asked = ask.None
@@ -476,9 +476,9 @@ pub holds : (made : Tenancy) (past : Past) → HoldsAfter made past
 holds made [] = record { none_read = refl; none_given = refl; none_called = refl }
 holds made (event ∷ past) = happens made event past (holds made past)
 
--- In each phase, the calls have the form of a life.
-formed : (made : Tenancy) (phase : Phase) (reads : List Fetched) (gives : ℕ) (calls : List Call)
-    → Holds made phase reads gives calls → IsLife made reads gives calls
+-- In each stage, the calls have the form of a life.
+formed : (made : Tenancy) (stage : Stage) (reads : List Fetched) (gives : ℕ) (calls : List Call)
+    → Holds made stage reads gives calls → IsLife made reads gives calls
 formed made Opening reads gives calls h = none_yet made reads gives calls h
 formed made Starting reads gives calls h = none_yet made reads gives calls h
 formed made (Filling reach waiting) reads gives calls h = inr (form made waiting [] [] reads gives calls h tt Goes_on)
@@ -498,5 +498,5 @@ formed made (Over why) reads gives calls h = h
 -- The calls of a processor are those for the reads that its consumer gave, in order.
 pub life : (made : Tenancy) (past : Past)
     → IsLife made (reads_after made past) (gives_after made past) (calls_after made past)
-life made past = formed made (phase_after made past) (reads_after made past) (gives_after made past)
+life made past = formed made (stage_after made past) (reads_after made past) (gives_after made past)
     (calls_after made past) (holds made past)

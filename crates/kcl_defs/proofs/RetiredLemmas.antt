@@ -18,14 +18,14 @@ use Rattle.kcl_defs.specs.declared.plans.TakeStep.{TakeStep}
 use Rattle.kds_defs.specs.declared.reply.Refusal.{Refusal}
 use Rattle.kds_defs.specs.declared.reply.Reply.{Reply}
 use Rattle.kds_defs.specs.declared.reply.Reply.TheVariants as reply
-use Rattle.kcl_defs.specs.Consumers.{Called, Answered, Losing, Phase, Giving, Over, next_command, over_at, calls_after}
+use Rattle.kcl_defs.specs.Consumers.{Called, Answered, Losing, Stage, Giving, Over, next_command, over_at, calls_after}
 use Rattle.kcl_defs.specs.Lives.{Deal, reads_in, gives_in, reads_after, gives_after, IsWholeLife}
 use Rattle.kcl_defs.specs.Workers.{Known, Pending, Chore, Surveying, Syncing, Taking, Renewing, Consuming, Finishing}
 use Rattle.kcl_defs.specs.Workers.{Freeing, WorkerState, WorkerEvent, Made_call, Gave_command, Got_answer, Stopped}
 use Rattle.kcl_defs.specs.Workers.{Released, Release, released, without_release, WorkerPast, worker_after}
 use Rattle.kcl_defs.specs.Workers.{after_worker_event, deals_after, deals_with, id_of, id_of_held, same_id, with_event}
 use Rattle.kcl_defs.specs.Workers.{happens_to, happens_to_first, is_due_known, settled, is_over, known_of}
-use Rattle.kcl_defs.specs.Workers.{consumer_command, phase_of_known, counter_of, after_survey, after_renewal}
+use Rattle.kcl_defs.specs.Workers.{consumer_command, stage_of_known, counter_of, after_survey, after_renewal}
 use Rattle.kcl_defs.specs.Workers.{after_take, after_chore, absorbed, with_deal, consumed, is_of, still_stands, AtTakes}
 use Rattle.kcl_defs.specs.Workers.{AtRenewals, AtStopping}
 use Rattle.kcl_defs.specs.WorkerLives.{IsOrderly, IsToldIn, AreServed}
@@ -61,10 +61,10 @@ giving_waits made [] reads gives calls s few = s.some
 giving_waits made (f ∷ waiting) reads gives calls s few =
     more_than reads s.stands.done waiting f gives s.stands.all s.stands.count few
 
-give_accepted : (made : Tenancy) (phase : Phase) (counter : ℕ) (what : Command) (answer : Result Reply Refusal)
-    (deals : List Deal) (calls : List Call) → next_command made phase counter ≡ Some what
-    → IsGiveTaken what answer deals → Holds made phase (reads_in made.tenure deals) (gives_in made.tenure deals) calls
-    → refused_at phase (Answered answer) ≡ false
+give_accepted : (made : Tenancy) (stage : Stage) (counter : ℕ) (what : Command) (answer : Result Reply Refusal)
+    (deals : List Deal) (calls : List Call) → next_command made stage counter ≡ Some what
+    → IsGiveTaken what answer deals → Holds made stage (reads_in made.tenure deals) (gives_in made.tenure deals) calls
+    → refused_at stage (Answered answer) ≡ false
 give_accepted made (Giving reach waiting asked lost) counter what (Err r) deals calls next taken h =
     let P : Command → Type 0 = λ w. IsGiveTaken w (Err r) deals in
     absurd (giving_waits made waiting (reads_in made.tenure deals) (gives_in made.tenure deals) calls h
@@ -85,18 +85,18 @@ pub record AreUnrefused (consumers retired : List Known) : Type 0 where
   pub over : AllByRecursion IsUnrefused retired
   pub ended : AllByRecursion HasEnded retired
 
-no_give : (phase : Phase) (asked : Ask) → (refused_at phase (Called asked) ≡ false) × (refused_at phase Losing ≡ false)
+no_give : (stage : Stage) (asked : Ask) → (refused_at stage (Called asked) ≡ false) × (refused_at stage Losing ≡ false)
 no_give (Giving reach waiting to known) asked = (refl, refl)
 no_give _ asked = (refl, refl)
 
 pub called_unrefused : (asked : Ask) (k : Known) → IsUnrefused k → IsUnrefused (with_event (Called asked) k)
 called_unrefused asked k h =
-    or_from (refused_at (phase_of_known k) (Called asked)) (was_refused k.made k.past)
-    (no_give (phase_of_known k) asked).0 h
+    or_from (refused_at (stage_of_known k) (Called asked)) (was_refused k.made k.past)
+    (no_give (stage_of_known k) asked).0 h
 
 pub lost_unrefused : (k : Known) → IsUnrefused k → IsUnrefused (with_event Losing k)
-lost_unrefused k h = or_from (refused_at (phase_of_known k) Losing) (was_refused k.made k.past)
-    (no_give (phase_of_known k) ask.None).1 h
+lost_unrefused k h = or_from (refused_at (stage_of_known k) Losing) (was_refused k.made k.past)
+    (no_give (stage_of_known k) ask.None).1 h
 
 all_passed : (p : Known → Bool) (xs : List Known) → AllByRecursion (λ k. p k ≡ true) (filter p xs)
 all_passed p [] = tt
@@ -124,30 +124,30 @@ losing_unrefused test consumers retired u = record {
   ended = u.ended;
 }
 
--- For a consumer in step, `Holds` is true of its phase and of its reads and gives among `deals`.
+-- For a consumer in step, `Holds` is true of its stage and of its reads and gives among `deals`.
 step_kept : (deals : List Deal) (k : Known) → InStep deals k
-    → Holds k.made (phase_of_known k) (reads_in k.made.tenure deals) (gives_in k.made.tenure deals)
+    → Holds k.made (stage_of_known k) (reads_in k.made.tenure deals) (gives_in k.made.tenure deals)
     (calls_after k.made k.past)
 step_kept deals k s =
     let P : List Fetched → Type 0 =
-    λ rs. Holds k.made (phase_of_known k) rs (gives_in k.made.tenure deals) (calls_after k.made k.past) in
+    λ rs. Holds k.made (stage_of_known k) rs (gives_in k.made.tenure deals) (calls_after k.made k.past) in
     let Q : ℕ → Type 0 = λ n.
-    Holds k.made (phase_of_known k) (reads_after k.made k.past) n (calls_after k.made k.past) in
+    Holds k.made (stage_of_known k) (reads_after k.made k.past) n (calls_after k.made k.past) in
     subst P (sym s.reads) (subst Q (sym s.gives) (holds k.made k.past))
 
 pub answered_unrefused : (deals : List Deal) (k : Known) (counter : ℕ) (what : Command) (answer : Result Reply Refusal)
-    → next_command k.made (phase_of_known k) counter ≡ Some what → IsGiveTaken what answer deals → InStep deals k
+    → next_command k.made (stage_of_known k) counter ≡ Some what → IsGiveTaken what answer deals → InStep deals k
     → IsUnrefused k → IsUnrefused (with_event (Answered answer) k)
 answered_unrefused deals k counter what answer next taken s h =
-    or_from (refused_at (phase_of_known k) (Answered answer)) (was_refused k.made k.past)
-    (give_accepted k.made (phase_of_known k) counter what answer deals (calls_after k.made k.past) next taken
+    or_from (refused_at (stage_of_known k) (Answered answer)) (was_refused k.made k.past)
+    (give_accepted k.made (stage_of_known k) counter what answer deals (calls_after k.made k.past) next taken
     (step_kept deals k s)) h
 
 same_known : (x k : Known) → Some x ≡ Some k → k ≡ x
 same_known x k e = cc
 
 consumed_unrefused : (id : LeaseId) (deals : List Deal) (k : Known) (counter : ℕ) (what : Command)
-    (answer : Result Reply Refusal) (xs : List Known) → next_command k.made (phase_of_known k) counter ≡ Some what
+    (answer : Result Reply Refusal) (xs : List Known) → next_command k.made (stage_of_known k) counter ≡ Some what
     → IsGiveTaken what answer deals → known_of id xs ≡ Some k → AllByRecursion (InStep deals) xs
     → AllByRecursion IsUnrefused xs → AllByRecursion IsUnrefused (consumed id answer xs)
 consumed_unrefused id deals k counter what answer [] next taken found steps h = tt
@@ -159,7 +159,7 @@ consumed_unrefused id deals k counter what answer (x ∷ xs) next taken found st
         → (known_of id xs ≡ Some k → AllByRecursion IsUnrefused (consumed id answer xs))
         → AllByRecursion IsUnrefused (if b then with_event (Answered answer) x ∷ xs else x ∷ consumed id answer xs)
     head true g rest =
-        let P : Known → Type 0 = λ j. next_command j.made (phase_of_known j) counter ≡ Some what in
+        let P : Known → Type 0 = λ j. next_command j.made (stage_of_known j) counter ≡ Some what in
         (answered_unrefused deals x counter what answer (subst P (same_known x k g) next) taken steps.0 h.0, h.1)
     head false g rest = (h.0, rest g)
 
@@ -308,8 +308,8 @@ settled_life : (made : Tenancy) (reads : List Fetched) (gives : ℕ) (calls : Li
 settled_life made reads gives calls (inl none) = inl none
 settled_life made reads gives calls (inr s) = inr (whole made s.waiting s.ending reads gives calls s.stands s.ends)
 
-over_life : (made : Tenancy) (phase : Phase) (reads : List Fetched) (gives : ℕ) (calls : List Call)
-    → is_some (over_at phase) ≡ true → Settles made phase reads gives calls → IsWholeLife made reads gives calls
+over_life : (made : Tenancy) (stage : Stage) (reads : List Fetched) (gives : ℕ) (calls : List Call)
+    → is_some (over_at stage) ≡ true → Settles made stage reads gives calls → IsWholeLife made reads gives calls
 over_life made (Over why) reads gives calls over s = settled_life made reads gives calls s
 over_life made _ reads gives calls over s = absurd cc
 
@@ -320,7 +320,7 @@ whole_among deals k s unrefused over =
     λ rs. IsWholeLife k.made rs (gives_in k.made.tenure deals) (calls_after k.made k.past) in
     let Q : ℕ → Type 0 = λ n. IsWholeLife k.made (reads_after k.made k.past) n (calls_after k.made k.past) in
     subst P (sym s.reads) (subst Q (sym s.gives)
-    (over_life k.made (phase_of_known k) (reads_after k.made k.past) (gives_after k.made k.past)
+    (over_life k.made (stage_of_known k) (reads_after k.made k.past) (gives_after k.made k.past)
     (calls_after k.made k.past) over (settles k.made k.past unrefused)))
 
 pub all_whole : (deals : List Deal) (xs : List Known) → AllByRecursion (InStep deals) xs → AllByRecursion IsUnrefused xs

@@ -16,22 +16,22 @@ use Rattle.kds_defs.specs.declared.reply.Refusal.{Refusal}
 use Rattle.kds_defs.specs.declared.reply.Refusal.TheVariants as refusal
 use Rattle.kds_defs.specs.declared.reply.Reply.{Reply}
 use Rattle.kds_defs.specs.declared.reply.Reply.TheVariants as reply
-use Rattle.kcl_defs.specs.Consumers.{Past, Event, Called, Answered, Losing, Phase, Opening, Starting, Filling, Holding}
+use Rattle.kcl_defs.specs.Consumers.{Past, Event, Called, Answered, Losing, Stage, Opening, Starting, Filling, Holding}
 use Rattle.kcl_defs.specs.Consumers.{Giving, Marking, Ending, MarkingEnd, Leaving, Over, is_empty, is_filled, front}
 use Rattle.kcl_defs.specs.Consumers.{onward, was_handed, is_loss, after_event, after_answer, after_read, after_give}
-use Rattle.kcl_defs.specs.Consumers.{after_mark, after_loss, phase_after, calls_with, calls_after}
+use Rattle.kcl_defs.specs.Consumers.{after_mark, after_loss, stage_after, calls_with, calls_after}
 use Rattle.kcl_defs.specs.Lives.{reads_at, reads_after, gives_at, gives_after, read_in, give_in, IsEnding, Ended}
 use Rattle.kcl_defs.proofs.LifeLemmas.{Holds, Stands, StandsGiving, StandsSomehow, IsOpenEnding, Open, Open_ended}
 use Rattle.kcl_defs.proofs.LifeLemmas.{with_end, left_ending, given_on, holds}
 
 -- Whether the event is the refusal of a Give.
-abbrev pub refused_at : Phase → Event → Bool
+abbrev pub refused_at : Stage → Event → Bool
 refused_at (Giving reach waiting asked lost) (Answered (Err r)) = true
 refused_at _ event = false
 
 abbrev pub was_refused : Tenancy → Past → Bool
 was_refused made [] = false
-was_refused made (event ∷ past) = refused_at (phase_after made past) event || was_refused made past
+was_refused made (event ∷ past) = refused_at (stage_after made past) event || was_refused made past
 
 -- No batch that was handed over waits to be given.
 pub record IsSettled (made : Tenancy) (reads : List Fetched) (gives : ℕ) (calls : List Call) : Type 0 where
@@ -46,7 +46,7 @@ pub record IsLeavingSettled (made : Tenancy) (reads : List Fetched) (gives : ℕ
   pub stands : Stands made waiting [] ending reads gives calls
   pub opens : IsOpenEnding ending
 
-abbrev pub Settles : Tenancy → Phase → List Fetched → ℕ → List Call → Type 0
+abbrev pub Settles : Tenancy → Stage → List Fetched → ℕ → List Call → Type 0
 Settles made (Leaving why) reads gives calls = IsLeavingSettled made reads gives calls
 Settles made (Over why) reads gives calls = (calls ≡ []) ⊎ IsSettled made reads gives calls
 Settles made _ reads gives calls = Unit {0}
@@ -67,9 +67,9 @@ fronts made reach (f ∷ waiting) reads gives calls = choice (is_empty f.batch)
     choice false = tt
 
 -- `Settles` holds after a call.
-called : (made : Tenancy) (asked : Ask) (phase : Phase) (reads : List Fetched) (gives : ℕ) (calls : List Call)
-    → Settles made phase reads gives calls
-    → Settles made (after_event made (Called asked) phase) reads gives (calls_with made (Called asked) phase calls)
+called : (made : Tenancy) (asked : Ask) (stage : Stage) (reads : List Fetched) (gives : ℕ) (calls : List Call)
+    → Settles made stage reads gives calls
+    → Settles made (after_event made (Called asked) stage) reads gives (calls_with made (Called asked) stage calls)
 called made asked (Leaving why) reads gives calls s = inr (record {
   waiting = s.waiting;
   ending = s.ending ++ (call.LeaseLost ∷ []);
@@ -101,9 +101,9 @@ not_handed made reach (f ∷ waiting) to reads gives calls h = choice (is_empty 
         (subst (λ b. Stands made (f ∷ waiting) (cond b [] (call.Process f.batch ∷ [])) [] reads gives calls) e h.stands)
         Open
 
-lost : (made : Tenancy) (phase : Phase) (reads : List Fetched) (gives : ℕ) (calls : List Call)
-    → Holds made phase reads gives calls → Settles made phase reads gives calls
-    → Settles made (after_loss phase) reads gives calls
+lost : (made : Tenancy) (stage : Stage) (reads : List Fetched) (gives : ℕ) (calls : List Call)
+    → Holds made stage reads gives calls → Settles made stage reads gives calls
+    → Settles made (after_loss stage) reads gives calls
 lost made Opening reads gives calls h s = inl h.none_called
 lost made Starting reads gives calls h s = inl h.none_called
 lost made (Giving reach waiting to known) reads gives calls h s = not_handed made reach waiting to reads gives calls h
@@ -186,11 +186,11 @@ open_answered made (Ok reply) reads gives calls h = tt
 open_answered made (Err (refusal.ParentsOpen parent)) reads gives calls h = tt
 open_answered made (Err _) reads gives calls h = inl h
 
-answered : (made : Tenancy) (answer : Result Reply Refusal) (phase : Phase) (reads : List Fetched) (gives : ℕ)
-    (calls : List Call) → refused_at phase (Answered answer) ≡ false → Holds made phase reads gives calls
-    → Settles made phase reads gives calls
-    → Settles made (after_answer made answer phase) (reads ++ reads_at phase (Answered answer))
-    (gives + gives_at phase (Answered answer)) calls
+answered : (made : Tenancy) (answer : Result Reply Refusal) (stage : Stage) (reads : List Fetched) (gives : ℕ)
+    (calls : List Call) → refused_at stage (Answered answer) ≡ false → Holds made stage reads gives calls
+    → Settles made stage reads gives calls
+    → Settles made (after_answer made answer stage) (reads ++ reads_at stage (Answered answer))
+    (gives + gives_at stage (Answered answer)) calls
 answered made answer (Filling reach waiting) reads gives calls r h s =
     read_answered made reach waiting answer reads gives calls h
 answered made answer (Giving reach waiting to known) reads gives calls r h s =
@@ -212,46 +212,46 @@ answered made answer (Leaving why) reads gives calls r h s =
 answered made answer (Over why) reads gives calls r h s =
     still (λ rs n. Settles made (Over why) rs n calls) reads gives s
 
--- `Settles` holds in the phase after a record.
+-- `Settles` holds in the stage after a record.
 abbrev SettlesAfter : Tenancy → Past → Type 0
 SettlesAfter made past =
-    Settles made (phase_after made past) (reads_after made past) (gives_after made past) (calls_after made past)
+    Settles made (stage_after made past) (reads_after made past) (gives_after made past) (calls_after made past)
 
-no_reads : (phase : Phase) (asked : Ask) → (reads_at phase (Called asked) ≡ []) × (reads_at phase Losing ≡ [])
-    × (gives_at phase (Called asked) ≡ 0) × (gives_at phase Losing ≡ 0)
+no_reads : (stage : Stage) (asked : Ask) → (reads_at stage (Called asked) ≡ []) × (reads_at stage Losing ≡ [])
+    × (gives_at stage (Called asked) ≡ 0) × (gives_at stage Losing ≡ 0)
 no_reads (Filling reach waiting) asked = (refl, refl, refl, refl)
 no_reads (Giving reach waiting to known) asked = (refl, refl, refl, refl)
 no_reads _ asked = (refl, refl, refl, refl)
 
-quiet : (made : Tenancy) (event : Event) (phase before : Phase) (reads : List Fetched) (gives : ℕ) (calls : List Call)
-    → reads_at before event ≡ [] → gives_at before event ≡ 0 → Settles made phase reads gives calls
-    → Settles made phase (reads ++ reads_at before event) (gives + gives_at before event) calls
-quiet made event phase before reads gives calls r g h =
-    let P : List Fetched → Type 0 = λ rs. Settles made phase (reads ++ rs) (gives + gives_at before event) calls in
-    let Q : ℕ → Type 0 = λ n. Settles made phase (reads ++ []) (gives + n) calls in
-    subst P (sym r) (subst Q (sym g) (still (λ rs n. Settles made phase rs n calls) reads gives h))
+quiet : (made : Tenancy) (event : Event) (stage before : Stage) (reads : List Fetched) (gives : ℕ) (calls : List Call)
+    → reads_at before event ≡ [] → gives_at before event ≡ 0 → Settles made stage reads gives calls
+    → Settles made stage (reads ++ reads_at before event) (gives + gives_at before event) calls
+quiet made event stage before reads gives calls r g h =
+    let P : List Fetched → Type 0 = λ rs. Settles made stage (reads ++ rs) (gives + gives_at before event) calls in
+    let Q : ℕ → Type 0 = λ n. Settles made stage (reads ++ []) (gives + n) calls in
+    subst P (sym r) (subst Q (sym g) (still (λ rs n. Settles made stage rs n calls) reads gives h))
 
-happens : (made : Tenancy) (event : Event) (past : Past) → refused_at (phase_after made past) event ≡ false
+happens : (made : Tenancy) (event : Event) (past : Past) → refused_at (stage_after made past) event ≡ false
     → SettlesAfter made past → SettlesAfter made (event ∷ past)
 happens made (Called asked) past r s =
-    let n = no_reads (phase_after made past) asked in
-    quiet made (Called asked) (after_event made (Called asked) (phase_after made past)) (phase_after made past)
+    let n = no_reads (stage_after made past) asked in
+    quiet made (Called asked) (after_event made (Called asked) (stage_after made past)) (stage_after made past)
     (reads_after made past) (gives_after made past) (calls_after made (Called asked ∷ past)) n.0 n.2
-    (called made asked (phase_after made past) (reads_after made past) (gives_after made past) (calls_after made past)
+    (called made asked (stage_after made past) (reads_after made past) (gives_after made past) (calls_after made past)
     s)
 happens made (Answered answer) past r s =
-    answered made answer (phase_after made past) (reads_after made past) (gives_after made past) (calls_after made past)
+    answered made answer (stage_after made past) (reads_after made past) (gives_after made past) (calls_after made past)
     r (holds made past) s
 happens made Losing past r s =
-    let n = no_reads (phase_after made past) ask.None in
-    quiet made Losing (after_loss (phase_after made past)) (phase_after made past) (reads_after made past)
+    let n = no_reads (stage_after made past) ask.None in
+    quiet made Losing (after_loss (stage_after made past)) (stage_after made past) (reads_after made past)
     (gives_after made past) (calls_after made past) n.1 n.3
-    (lost made (phase_after made past) (reads_after made past) (gives_after made past) (calls_after made past)
+    (lost made (stage_after made past) (reads_after made past) (gives_after made past) (calls_after made past)
     (holds made past) s)
 
 -- A consumer that is over, and of which no Give was refused, has no batch that was handed over and not given.
 pub settles : (made : Tenancy) (past : Past) → was_refused made past ≡ false → SettlesAfter made past
 settles made [] r = tt
 settles made (event ∷ past) r =
-    let n = or_parts (refused_at (phase_after made past) event) (was_refused made past) r in
+    let n = or_parts (refused_at (stage_after made past) event) (was_refused made past) r in
     happens made event past n.0 (settles made past n.1)

@@ -12,14 +12,14 @@ use Rattle.kcl_defs.specs.declared.consumer.Fetched.{Fetched}
 use Rattle.kcl_defs.specs.declared.consumer.Tenancy.{Tenancy}
 use Rattle.kds_defs.specs.declared.reply.Refusal.{Refusal}
 use Rattle.kds_defs.specs.declared.reply.Reply.{Reply}
-use Rattle.kcl_defs.specs.Consumers.{Past, Event, Called, Answered, Losing, Phase, Opening, Filling, Giving, Marking}
-use Rattle.kcl_defs.specs.Consumers.{MarkingEnd, next_command, phase_after, calls_after}
+use Rattle.kcl_defs.specs.Consumers.{Past, Event, Called, Answered, Losing, Stage, Opening, Filling, Giving, Marking}
+use Rattle.kcl_defs.specs.Consumers.{MarkingEnd, next_command, stage_after, calls_after}
 use Rattle.kds_defs.specs.Histories.{answer}
 use Rattle.kcl_defs.specs.Lives.{Deal, deals_of, reads_of, reads_in, gives_of, gives_in, reads_at, reads_after}
 use Rattle.kcl_defs.specs.Lives.{gives_at, gives_after, read_in, give_in, IsInStep, IsLife, IsLifeAmong}
 use Rattle.kcl_defs.proofs.LifeLemmas.{life}
 
--- ---- The reads and gives of a command are those of the phase in which it comes next
+-- ---- The reads and gives of a command are those of the stage in which it comes next
 
 same_command : (a b : Command) → Some a ≡ Some b → a ≡ b
 same_command a b e = cc
@@ -32,16 +32,16 @@ own_give : (t : ℕ) (answer : Result Reply Refusal) → gives_of t (command.Giv
 own_give t answer = ap (λ b. if b then give_in answer else 0) (is_itself t)
 
 -- What the answer to a command adds.
-pub record Adds (made : Tenancy) (phase : Phase) (what : Command) (answer : Result Reply Refusal) : Type 0 where
-  pub reads : reads_of made.tenure what answer ≡ reads_at phase (Answered answer)
-  pub gives : gives_of made.tenure what answer ≡ gives_at phase (Answered answer)
+pub record Adds (made : Tenancy) (stage : Stage) (what : Command) (answer : Result Reply Refusal) : Type 0 where
+  pub reads : reads_of made.tenure what answer ≡ reads_at stage (Answered answer)
+  pub gives : gives_of made.tenure what answer ≡ gives_at stage (Answered answer)
 
-adds_as : (made : Tenancy) (phase : Phase) (given what : Command) (answer : Result Reply Refusal)
-    → Some given ≡ Some what → Adds made phase given answer → Adds made phase what answer
-adds_as made phase given what answer e h = subst (λ w. Adds made phase w answer) (same_command given what e) h
+adds_as : (made : Tenancy) (stage : Stage) (given what : Command) (answer : Result Reply Refusal)
+    → Some given ≡ Some what → Adds made stage given answer → Adds made stage what answer
+adds_as made stage given what answer e h = subst (λ w. Adds made stage w answer) (same_command given what e) h
 
-pub adds : (made : Tenancy) (phase : Phase) (counter : ℕ) (what : Command) (answer : Result Reply Refusal)
-    → next_command made phase counter ≡ Some what → Adds made phase what answer
+pub adds : (made : Tenancy) (stage : Stage) (counter : ℕ) (what : Command) (answer : Result Reply Refusal)
+    → next_command made stage counter ≡ Some what → Adds made stage what answer
 adds made Opening counter what answer e = adds_as made Opening _ what answer e (record { reads = refl; gives = refl })
 adds made (Filling reach waiting) counter what answer e =
     adds_as made (Filling reach waiting) _ what answer e (record {
@@ -71,10 +71,10 @@ others_keep deal deals made past no_read no_give s =
 
 -- The consumer is still in step after its own command, whose answer it has absorbed.
 pub own_keeps : (deal : Deal) (deals : List Deal) (counter : ℕ) (made : Tenancy) (past : Past)
-    → next_command made (phase_after made past) counter ≡ Some deal.what → IsInStep deals made past
+    → next_command made (stage_after made past) counter ≡ Some deal.what → IsInStep deals made past
     → IsInStep (deal ∷ deals) made (Answered deal.answer ∷ past)
 own_keeps deal deals counter made past next s =
-    let a = adds made (phase_after made past) counter deal.what deal.answer next in
+    let a = adds made (stage_after made past) counter deal.what deal.answer next in
     record {
       reads = ap (λ rs. rs ++ reads_of made.tenure deal.what deal.answer) s.reads
           ∙ ap (λ rs. reads_after made past ++ rs) a.reads;
@@ -83,14 +83,14 @@ own_keeps deal deals counter made past next s =
     }
 
 -- A call or a loss adds no read and no give.
-called_reads : (phase : Phase) (asked : Ask) → (reads_at phase (Called asked) ≡ [])
-    × (gives_at phase (Called asked) ≡ 0) × (reads_at phase Losing ≡ []) × (gives_at phase Losing ≡ 0)
+called_reads : (stage : Stage) (asked : Ask) → (reads_at stage (Called asked) ≡ [])
+    × (gives_at stage (Called asked) ≡ 0) × (reads_at stage Losing ≡ []) × (gives_at stage Losing ≡ 0)
 called_reads (Filling reach waiting) asked = (refl, refl, refl, refl)
 called_reads (Giving reach waiting to lost) asked = (refl, refl, refl, refl)
 called_reads _ asked = (refl, refl, refl, refl)
 
 silent : (deals : List Deal) (made : Tenancy) (event : Event) (past : Past)
-    → reads_at (phase_after made past) event ≡ [] → gives_at (phase_after made past) event ≡ 0
+    → reads_at (stage_after made past) event ≡ [] → gives_at (stage_after made past) event ≡ 0
     → IsInStep deals made past → IsInStep deals made (event ∷ past)
 silent deals made event past no_read no_give s =
     record {
@@ -101,12 +101,12 @@ silent deals made event past no_read no_give s =
 pub called_keeps : (deals : List Deal) (made : Tenancy) (asked : Ask) (past : Past) → IsInStep deals made past
     → IsInStep deals made (Called asked ∷ past)
 called_keeps deals made asked past s =
-    let n = called_reads (phase_after made past) asked in silent deals made (Called asked) past n.0 n.1 s
+    let n = called_reads (stage_after made past) asked in silent deals made (Called asked) past n.0 n.1 s
 
 pub lost_keeps : (deals : List Deal) (made : Tenancy) (past : Past) → IsInStep deals made past
     → IsInStep deals made (Losing ∷ past)
 lost_keeps deals made past s =
-    let n = called_reads (phase_after made past) ask.None in silent deals made Losing past n.2 n.3 s
+    let n = called_reads (stage_after made past) ask.None in silent deals made Losing past n.2 n.3 s
 
 -- ---- What follows
 

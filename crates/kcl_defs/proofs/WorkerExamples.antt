@@ -24,12 +24,12 @@ use Rattle.kds_defs.specs.declared.reply.Reply.{Reply}
 use Rattle.kds_defs.specs.declared.reply.Reply.TheVariants as reply
 use Rattle.kds_defs.specs.declared.reply.Row.{Row}
 use Rattle.kds_defs.specs.declared.reply.Stored.{Stored}
-use Rattle.kcl_defs.specs.Consumers.{Phase, Holding, first_batch}
+use Rattle.kcl_defs.specs.Consumers.{Stage, Holding, first_batch}
 use Rattle.kds_defs.specs.Decision.{refuse◌if◌else◌, with◌or◌then◌}
 use Rattle.kds_defs.specs.Histories.{answer}
 use Rattle.kcl_defs.specs.Plans.{sync_plan, is_due, take_plan, is_expired_since}
 use Rattle.kcl_defs.specs.Workers.{usual_settings, Known, Pending, WorkerState, new_state, after_called, after_asked}
-use Rattle.kcl_defs.specs.Workers.{after_absorbed, after_stop, due_known, phase_of_known, is_idle}
+use Rattle.kcl_defs.specs.Workers.{after_absorbed, after_stop, due_known, stage_of_known, is_idle}
 
 key : ℕ → ShardRef
 key sh = record { stream = 1; shard = sh }
@@ -131,9 +131,9 @@ asked_by false batch = first_number batch
 
 asked_at : Bool → Option Known → Ask
 asked_at last None = ask.None
-asked_at last (Some k) = asked_in (phase_of_known k)
+asked_at last (Some k) = asked_in (stage_of_known k)
   where
-    asked_in : Phase → Ask
+    asked_in : Stage → Ask
     asked_in (Holding reach waiting) = asked_by last (first_batch waiting)
     asked_in _ = ask.None
 

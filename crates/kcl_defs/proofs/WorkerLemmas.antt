@@ -19,7 +19,7 @@ use Rattle.kcl_defs.specs.declared.plans.TakeStep.{TakeStep}
 use Rattle.kds_defs.specs.declared.reply.Refusal.{Refusal}
 use Rattle.kds_defs.specs.declared.reply.Reply.{Reply}
 use Rattle.kds_defs.specs.declared.reply.Reply.TheVariants as reply
-use Rattle.kcl_defs.specs.Consumers.{Event, Called, Answered, Losing, Phase, Opening, Filling, Giving, Marking}
+use Rattle.kcl_defs.specs.Consumers.{Event, Called, Answered, Losing, Stage, Opening, Filling, Giving, Marking}
 use Rattle.kcl_defs.specs.Consumers.{MarkingEnd, next_command, calls_after}
 use Rattle.kcl_defs.specs.Lives.{Deal, deals_of, reads_of, reads_in, gives_of, gives_in, read_in, give_in, IsInStep}
 use Rattle.kcl_defs.specs.Lives.{IsLifeAmong, IsLifeIn}
@@ -28,7 +28,7 @@ use Rattle.kcl_defs.specs.Workers.{Freeing, WorkerState, WorkerEvent, Made_call,
 use Rattle.kcl_defs.specs.Workers.{Released, Release, released, without_known, without_release, WorkerPast}
 use Rattle.kcl_defs.specs.Workers.{worker_after, deals_after, id_of, same_id, with_event, happens_to, happens_to_first}
 use Rattle.kcl_defs.specs.Workers.{is_due_known, settled, is_over, with_known, is_before_id, known_of, consumer_command}
-use Rattle.kcl_defs.specs.Workers.{phase_of_known, counter_of, is_giving, is_giving_phase, Round, AtSurvey, AtSync}
+use Rattle.kcl_defs.specs.Workers.{stage_of_known, counter_of, is_giving, is_giving_stage, Round, AtSurvey, AtSync}
 use Rattle.kcl_defs.specs.Workers.{AtTakes, AtRenewals, AtConsumers, AtStopping, consumer_chore, renewal_chore}
 use Rattle.kcl_defs.specs.Workers.{from_takes, from_sync, freeing_chore, stopping_chore, chore_from, chore_at, is_past}
 use Rattle.kcl_defs.specs.Workers.{id_of_held, pending_of, pending_chore, next_pending, after_called, after_asked}
@@ -182,8 +182,8 @@ flip t u h = grind (arith, nat_tests)
 about_as : (t : ℕ) (given what : Command) → Some given ≡ Some what → IsAbout t given → IsAbout t what
 about_as t given what e h = subst (λ w. IsAbout t w) (same_command given what e) h
 
-pub about : (made : Tenancy) (phase : Phase) (counter : ℕ) (what : Command)
-    → next_command made phase counter ≡ Some what → IsAbout made.tenure what
+pub about : (made : Tenancy) (stage : Stage) (counter : ℕ) (what : Command)
+    → next_command made stage counter ≡ Some what → IsAbout made.tenure what
 about made Opening counter what e = about_as made.tenure _ what e (λ u n a. (refl, refl))
 about made (Filling reach waiting) counter what e =
     about_as made.tenure _ what e (λ u n a. (ap (λ b. cond b (read_in a) []) (flip made.tenure u n), refl))
@@ -240,7 +240,7 @@ found_times id k (x ∷ xs) h = head (same_id (id_of x) id) refl h (λ g. found_
 
 -- The consumers are in step after a consumer's command and its answer.
 own : (id : LeaseId) (deal : Deal) (deals : List Deal) (k : Known) (counter : ℕ) (xs : List Known)
-    → next_command k.made (phase_of_known k) counter ≡ Some deal.what → IsAbout id.tenure deal.what
+    → next_command k.made (stage_of_known k) counter ≡ Some deal.what → IsAbout id.tenure deal.what
     → times id.tenure xs ≤ 1 → known_of id xs ≡ Some k → AllByRecursion (InStep deals) xs
     → AllByRecursion (InStep (deal ∷ deals)) (consumed id deal.answer xs)
 own id deal deals k counter [] next is once found h = tt
@@ -266,7 +266,7 @@ own id deal deals k counter (x ∷ xs) next is once found h =
     head true e g rest =
         let none = none_left (x.made.tenure == id.tenure) (times id.tenure xs)
         (both_right _ (x.made.tenure == id.tenure) e) once in
-        let P : Known → Type 0 = λ j. next_command j.made (phase_of_known j) counter ≡ Some deal.what in (
+        let P : Known → Type 0 = λ j. next_command j.made (stage_of_known j) counter ≡ Some deal.what in (
           own_keeps deal deals counter x.made x.past (subst P (same_known x k g) next) h.0,
           others id.tenure deal deals xs is none h.1,
         )
@@ -415,7 +415,7 @@ taken_good deal deals k consumers retired is no_past begun_by new no_read no_giv
 
 -- `AreGood` holds after a consumer's own command.
 own_good : (id : LeaseId) (deal : Deal) (deals : List Deal) (k : Known) (counter : ℕ) (consumers retired : List Known)
-    → next_command k.made (phase_of_known k) counter ≡ Some deal.what → IsAbout id.tenure deal.what
+    → next_command k.made (stage_of_known k) counter ≡ Some deal.what → IsAbout id.tenure deal.what
     → known_of id consumers ≡ Some k → AreGood deals consumers retired
     → AreGood (deal ∷ deals) (consumed id deal.answer consumers) retired
 own_good id deal deals k counter consumers retired next is found g = record {
@@ -503,8 +503,8 @@ finds p k (x ∷ xs) once h = head (p x) refl h (λ o g. finds p k xs o g)
           more (if x.made.tenure == k.made.tenure then 1 else 0) (times k.made.tenure xs) r.2,
         )
 
-gives_next : (made : Tenancy) (phase : Phase) (counter : ℕ) → is_giving_phase phase ≡ true
-    → next_command made phase counter ≡ Some (command.Give made.tenure)
+gives_next : (made : Tenancy) (stage : Stage) (counter : ℕ) → is_giving_stage stage ≡ true
+    → next_command made stage counter ≡ Some (command.Give made.tenure)
 gives_next made (Giving reach waiting asked lost) counter h = refl
 gives_next made _ counter h = absurd cc
 
@@ -563,7 +563,7 @@ finish_stopping : (deals : List Deal) (w : WorkerState) (o : Option Known) → f
 finish_stopping deals w None e g = finish_freeing w w.held
 finish_stopping deals w (Some k) e g =
     let f = finds is_giving k w.consumers (apart_consumers deals w g k.made.tenure) e in
-    ap (λ o. consumer_command w o) f.0 ∙ gives_next k.made (phase_of_known k) (counter_of (id_of k) w.held) f.1
+    ap (λ o. consumer_command w o) f.0 ∙ gives_next k.made (stage_of_known k) (counter_of (id_of k) w.held) f.1
 
 finish_chore : (deals : List Deal) (failover now : ℕ) (w : WorkerState) (round : Round)
     → AreGood deals w.consumers w.retired → IsFinishOk (chore_from failover now w round) w
@@ -673,7 +673,7 @@ consumer_good id deal deals w None e next g = absurd cc
 consumer_good id deal deals w (Some k) e next g =
     own_good id deal deals k (counter_of (id_of k) w.held) w.consumers w.retired next
     (subst (λ t. IsAbout t deal.what) (found_tenure id k w.consumers e)
-    (about k.made (phase_of_known k) (counter_of (id_of k) w.held) deal.what next)) e g
+    (about k.made (stage_of_known k) (counter_of (id_of k) w.held) deal.what next)) e g
 
 survey_good : (made : WorkerMade) (now : ℕ) (answer : Result Reply Refusal) (deals : List Deal) (w : WorkerState)
     → AreGood deals w.consumers w.retired

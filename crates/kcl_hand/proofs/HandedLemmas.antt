@@ -22,7 +22,7 @@ use Rattle.kcl_defs.specs.declared.consumer.Tenancy.{Tenancy}
 use Rattle.kcl_defs.specs.declared.consumer.WorkerMade.{WorkerMade}
 use Rattle.kcl_defs.specs.Lives.{deals_of, gives_after, gives_in, last_given, reads_after, reads_in, records_in}
 use Rattle.kcl_defs.specs.WorkerLives.{AreOfTenure, IsOfTenure, read_done}
-use Rattle.kcl_defs.specs.Workers.{phase_of_known}
+use Rattle.kcl_defs.specs.Workers.{stage_of_known}
 use Rattle.kcl_defs.proofs.DealLemmas.{new_tenures, of_tenure}
 use Rattle.kcl_defs.proofs.GiveLemmas.{AreGivesTaken, gives_taken}
 use Rattle.kcl_defs.proofs.GivenLemmas.{last_is, last_of}
@@ -128,7 +128,7 @@ own_tenure by h made T begun of =
 one_handed : (by : ℕ) (h : List Turn) → IsHistory h → (x : HandOff) → IsHandOk (deals_of by h) x
     → InStep (deals_of by h) (known_in x) → IsHandServed by h x → IsHandedOffIfFreed by h x
 one_handed by h lawful x ok step served = λ counter ended. record {
-  whole = served.whole (subst (λ s. IsGoing s (phase_of_known (known_in x))) ended ok.going);
+  whole = served.whole (subst (λ s. IsGoing s (stage_of_known (known_in x))) ended ok.going);
   marked = λ T r begun there.
       one_marked by h lawful x step ok.lease
       (subst (MarkOf x (deals_of by h) (last_given x.made (state_of x).past)) ended ok.mark)

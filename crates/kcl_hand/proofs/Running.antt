@@ -11,8 +11,8 @@ use Rattle.kds_defs.specs.Histories.{answer}
 use Rattle.kcl_defs.specs.declared.consumer.Ask.TheVariants as ask
 use Rattle.kcl_defs.specs.declared.consumer.Due.{Due}
 use Rattle.kcl_defs.specs.declared.consumer.WorkerMade.{WorkerMade}
-use Rattle.kcl_defs.specs.Consumers.{Answered, Called, Giving, Leaving, Losing, Over, Phase, due_call, over_at}
-use Rattle.kcl_defs.specs.Consumers.{phase_after}
+use Rattle.kcl_defs.specs.Consumers.{Answered, Called, Giving, Leaving, Losing, Over, Stage, due_call, over_at}
+use Rattle.kcl_defs.specs.Consumers.{stage_after}
 use Rattle.kcl_defs.specs.Lives.{last_given}
 use Rattle.kcl_defs.specs.Workers.{Release, released}
 use Rattle.kcl_hand.specs.declared.stand.Stand.{Stand}
@@ -60,30 +60,30 @@ deals_with_hand key made past r which since what answer is =
 
 -- ---- The hand-off ends
 
-pub record IsOnWay (s : HandState) (phase : Phase) (n : ℕ) : Type 0 where
-  pub going : IsGoing s.stand phase
-  pub leaving : IsLeaving phase
-  pub few_left : turns_left s.stand phase ≤ n
+pub record IsOnWay (s : HandState) (stage : Stage) (n : ℕ) : Type 0 where
+  pub going : IsGoing s.stand stage
+  pub leaving : IsLeaving stage
+  pub few_left : turns_left s.stand stage ≤ n
 
 abbrev OnWay : HandOff → ℕ → Type 0
-OnWay x n = IsOnWay (state_of x) (phase_after x.made (state_of x).past) n
+OnWay x n = IsOnWay (state_of x) (stage_after x.made (state_of x).past) n
 
 Q : HandOff → ℕ → HandState → Type 0
-Q x n s = IsOnWay s (phase_after x.made s.past) n × (due_call (phase_after x.made s.past) ≡ None)
+Q x n s = IsOnWay s (stage_after x.made s.past) n × (due_call (stage_after x.made s.past) ≡ None)
 
 -- The due call is made at the consumer.
-called_here : (x : HandOff) (n : ℕ) (s : HandState) → IsOnWay s (phase_after x.made s.past) n
-    → IsSome (due_call (phase_after x.made s.past)) → s.stand ≡ stand.Consumer
+called_here : (x : HandOff) (n : ℕ) (s : HandState) → IsOnWay s (stage_after x.made s.past) n
+    → IsSome (due_call (stage_after x.made s.past)) → s.stand ≡ stand.Consumer
     → Q x n (called_at x.held x.made ask.None s stand.Consumer)
 unfolding Q
 called_here x n s w due at =
     let past = Called ask.None ∷ s.past in
-    let f = called_few x.made ask.None x.held (last_given x.made past) (phase_after x.made s.past) w.leaving due in
-    let old : turns_left stand.Consumer (phase_after x.made s.past) ≤ n =
-    subst (λ k. turns_left k (phase_after x.made s.past) ≤ n) at w.few_left in (
+    let f = called_few x.made ask.None x.held (last_given x.made past) (stage_after x.made s.past) w.leaving due in
+    let old : turns_left stand.Consumer (stage_after x.made s.past) ≤ n =
+    subst (λ k. turns_left k (stage_after x.made s.past) ≤ n) at w.few_left in (
       record {
-        going = goes x.held (last_given x.made past) (phase_after x.made past) _ refl;
-        leaving = called_leaves x.made ask.None (phase_after x.made s.past) w.leaving;
+        going = goes x.held (last_given x.made past) (stage_after x.made past) _ refl;
+        leaving = called_leaves x.made ask.None (stage_after x.made s.past) w.leaving;
         few_left = omega (arith, f.1, old);
       },
       f.0,
@@ -94,59 +94,59 @@ called_way : (x : HandOff) (n : ℕ) → OnWay x n → (o : Option Due) → hand
 unfolding Q
 called_way x n w None e = (w, e)
 called_way x n w (Some due) e =
-    let is_due : IsSome (due_call (phase_after x.made (state_of x).past)) = subst IsSome (sym e) refl in
-    let at = at_its_consumer (state_of x).stand (phase_after x.made (state_of x).past) w.going is_due in
+    let is_due : IsSome (due_call (stage_after x.made (state_of x).past)) = subst IsSome (sym e) refl in
+    let at = at_its_consumer (state_of x).stand (stage_after x.made (state_of x).past) w.going is_due in
     subst (λ k. Q x n (called_at x.held x.made ask.None (state_of x) k)) (sym at)
     (called_here x n (state_of x) w is_due at)
 
 -- If no call is due and no command comes next, the hand-off has ended.
-stops : (x : HandOff) (phase : Phase) (s : Stand) → IsGoing s phase → IsLeaving phase → due_call phase ≡ None
-    → command_at x.held x.made phase s ≡ None → IsSome (left_at s)
+stops : (x : HandOff) (stage : Stage) (s : Stand) → IsGoing s stage → IsLeaving stage → due_call stage ≡ None
+    → command_at x.held x.made stage s ≡ None → IsSome (left_at s)
 stops x (Giving reach waiting asked lost) stand.Consumer going l due none = absurd cc
 stops x (Leaving why) stand.Consumer going l due none = absurd cc
 stops x (Over why) stand.Consumer going l due none = absurd cc
 stops x _ stand.Consumer going l due none = absurd l
-stops x phase (stand.Mark q) going l due none = absurd cc
-stops x phase (stand.Free counter) going l due none = absurd cc
-stops x phase (stand.Ended left) going l due none = refl
+stops x stage (stand.Mark q) going l due none = absurd cc
+stops x stage (stand.Free counter) going l due none = absurd cc
+stops x stage (stand.Ended left) going l due none = refl
 
 -- After an answer, fewer turns are left.
 answered_way : (x : HandOff) (n : ℕ) (s : HandState) (st : Stand) (what : Command) (a : Result Reply Refusal)
-    → s.stand ≡ st → IsOnWay s (phase_after x.made s.past) (suc n) → due_call (phase_after x.made s.past) ≡ None
-    → command_at x.held x.made (phase_after x.made s.past) st ≡ Some what
-    → IsOnWay (answered_at x.held x.made a s st) (phase_after x.made (answered_at x.held x.made a s st).past) n
+    → s.stand ≡ st → IsOnWay s (stage_after x.made s.past) (suc n) → due_call (stage_after x.made s.past) ≡ None
+    → command_at x.held x.made (stage_after x.made s.past) st ≡ Some what
+    → IsOnWay (answered_at x.held x.made a s st) (stage_after x.made (answered_at x.held x.made a s st).past) n
 answered_way x n s stand.Consumer what a at w due is =
     let past = Answered a ∷ s.past in
-    let phase = phase_after x.made s.past in
-    let going : over_at phase ≡ None = subst (λ k. IsGoing k phase) at w.going in
-    let f = answered_few x.made a x.held (last_given x.made past) phase w.leaving going due in
-    let old : turns_left stand.Consumer phase ≤ suc n = subst (λ k. turns_left k phase ≤ suc n) at w.few_left in
+    let stage = stage_after x.made s.past in
+    let going : over_at stage ≡ None = subst (λ k. IsGoing k stage) at w.going in
+    let f = answered_few x.made a x.held (last_given x.made past) stage w.leaving going due in
+    let old : turns_left stand.Consumer stage ≤ suc n = subst (λ k. turns_left k stage ≤ suc n) at w.few_left in
     record {
-      going = goes x.held (last_given x.made past) (phase_after x.made past) _ refl;
-      leaving = answered_leaves x.made a phase w.leaving;
+      going = goes x.held (last_given x.made past) (stage_after x.made past) _ refl;
+      leaving = answered_leaves x.made a stage w.leaving;
       few_left = omega arith;
     }
 answered_way x n s (stand.Mark q) what a at w due is =
-    let phase = phase_after x.made s.past in
-    let old : 2 ≤ suc n = subst (λ k. turns_left k phase ≤ suc n) at w.few_left in
+    let stage = stage_after x.made s.past in
+    let old : 2 ≤ suc n = subst (λ k. turns_left k stage ≤ suc n) at w.few_left in
     record {
-      going = marked_goes x.held a phase _ refl (subst (λ k. IsGoing k phase) at w.going);
+      going = marked_goes x.held a stage _ refl (subst (λ k. IsGoing k stage) at w.going);
       leaving = w.leaving;
-      few_left = omega (arith, marked_few x.held a phase, old);
+      few_left = omega (arith, marked_few x.held a stage, old);
     }
 answered_way x n s (stand.Free counter) what a at w due is =
-    let phase = phase_after x.made s.past in
-    let old : 1 ≤ suc n = subst (λ k. turns_left k phase ≤ suc n) at w.few_left in
+    let stage = stage_after x.made s.past in
+    let old : 1 ≤ suc n = subst (λ k. turns_left k stage ≤ suc n) at w.few_left in
     record {
-      going = freed_goes counter a phase _ refl (subst (λ k. IsGoing k phase) at w.going);
+      going = freed_goes counter a stage _ refl (subst (λ k. IsGoing k stage) at w.going);
       leaving = w.leaving;
-      few_left = omega (arith, freed_few counter a phase, old);
+      few_left = omega (arith, freed_few counter a stage, old);
     }
 answered_way x n s (stand.Ended left) what a at w due is = absurd cc
 
 -- If no turn is left, the hand-off has ended.
-none_left : (s : Stand) (phase : Phase) → turns_left s phase ≤ 0 → IsSome (left_at s)
-none_left (stand.Ended left) phase l = refl
+none_left : (s : Stand) (stage : Stage) → turns_left s stage ≤ 0 → IsSome (left_at s)
+none_left (stand.Ended left) stage l = refl
 none_left stand.Consumer (Giving reach waiting asked lost) l = absurd (omega arith)
 none_left _ _ l = absurd (omega arith)
 
@@ -158,7 +158,7 @@ ends_by : (n at by : ℕ) (h : List Turn) (x : HandOff) (o : Option Command) →
     (λ what. with_first h what at by
     (run_hand n at by (turn_of at by what ∷ h) (answered_by at by h x what)))).hand))
 ends_by n at by h x None is w due rest =
-    stops x (phase_after x.made (state_of x).past) (state_of x).stand w.going w.leaving due is
+    stops x (stage_after x.made (state_of x).past) (state_of x).stand w.going w.leaving due is
 ends_by n at by h x (Some what) is w due rest =
     rest (turn_of at by what ∷ h) (answered_by at by h x what)
     (answered_way x n (state_of x) (state_of x).stand what (answer h (turn_of at by what)) refl w due is)
@@ -167,7 +167,7 @@ ends : (n at by : ℕ) (h : List Turn) (x : HandOff) → OnWay x n
     → IsSome (hand_left (state_of (run_hand n at by h x).hand))
 ends zero at by h x w =
     let c = called_way x 0 w (hand_due x.made (state_of x)) refl in
-    none_left (state_of (called_up x)).stand (phase_after (called_up x).made (state_of (called_up x)).past) c.0.few_left
+    none_left (state_of (called_up x)).stand (stage_after (called_up x).made (state_of (called_up x)).past) c.0.few_left
 ends (suc n) at by h x w =
     let c = called_way x (suc n) w (hand_due x.made (state_of x)) refl in
     ends_by n at by h (called_up x) (hand_command (called_up x).held (called_up x).made (state_of (called_up x)))
@@ -184,7 +184,7 @@ all_end at by h r =
     let past = Losing ∷ r.known.past in
     let made = r.known.made in
     ends 3 at by h (hand_of r []) (record {
-      going = goes r.held (last_given made past) (phase_after made past) _ refl;
-      leaving = lost_leaves (phase_after made r.known.past);
-      few_left = few (stand_by r.held (last_given made past) (over_at (phase_after made past))) (phase_after made past);
+      going = goes r.held (last_given made past) (stage_after made past) _ refl;
+      leaving = lost_leaves (stage_after made r.known.past);
+      few_left = few (stand_by r.held (last_given made past) (over_at (stage_after made past))) (stage_after made past);
     })

@@ -11,7 +11,7 @@ use Rattle.kcl_defs.specs.Consumers.{calls_after}
 use Rattle.kcl_defs.specs.Lives.{Deal, deals_of, gives_in, reads_in, IsLifeAmong, IsWholeLife}
 use Rattle.kcl_defs.specs.Workers.{Chore, Consuming, Finishing, Known, Pending, Release, Released, WorkerEvent}
 use Rattle.kcl_defs.specs.Workers.{Got_answer, WorkerState, after_worker_event}
-use Rattle.kcl_defs.specs.Workers.{deals_with, id_of_held, is_over, known_of, leaving, phase_of_known, released}
+use Rattle.kcl_defs.specs.Workers.{deals_with, id_of_held, is_over, known_of, leaving, stage_of_known, released}
 use Rattle.kcl_defs.specs.Workers.{with_deal}
 use Rattle.kcl_defs.proofs.DealLemmas.{new_tenures}
 use Rattle.kcl_defs.proofs.GiveLemmas.{AreGivesTaken, gives_taken}
@@ -47,7 +47,7 @@ one_unrefused x (Hand_called asked) o deals is may taken s u = by (state_of x).s
 one_unrefused x (Hand_answered answer) None deals is may taken s u = absurd cc
 one_unrefused x (Hand_answered answer) (Some what) deals is may taken s u = by (state_of x).stand is
   where
-    by : (st : Stand) → command_at x.held x.made (phase_of_known (known_in x)) st ≡ Some what
+    by : (st : Stand) → command_at x.held x.made (stage_of_known (known_in x)) st ≡ Some what
         → IsUnrefused (record { made = x.made; past = (answered_at x.held x.made answer (state_of x) st).past })
     by stand.Consumer e = answered_unrefused deals (known_in x) x.held.counter what answer e taken.0 s u
     by _ e = u

@@ -6,11 +6,11 @@ use Rattle.kds_base.specs.declared.lease_key.ShardRef.{ShardRef}
 use Rattle.kcl_defs.specs.declared.consumer.Call.{Call}
 use Rattle.kcl_defs.specs.declared.consumer.Due.{Due}
 use Rattle.kcl_defs.specs.Consumers.{due_call}
-use Rattle.kcl_defs.specs.Workers.{Known, WorkerPast, is_due_known, is_nothing_held, is_stopping, phase_of_known}
+use Rattle.kcl_defs.specs.Workers.{Known, WorkerPast, is_due_known, is_nothing_held, is_stopping, stage_of_known}
 use Rattle.kcl_defs.specs.Workers.{worker_after}
 use Rattle.kcl_consumer.specs.Standing.{Standing}
 use Rattle.kcl_worker_lists.specs.Lists.{due_in, due_or}
-use Rattle.kcl_worker.proofs.Happenings.{phase_known}
+use Rattle.kcl_worker.proofs.Happenings.{stage_known}
 use Rattle.kcl_worker.proofs.Outlooks.{none_due}
 use Rattle.kcl_worker.specs.Standing.{ConsumersStand, StandsFor, WorkerStanding, is_due_in, is_giving_in, is_idle_in}
 
@@ -21,7 +21,7 @@ none_due_in stands [] [] none s = refl
 none_due_in stands [] (k ∷ ks) none s = absurd s
 none_due_in stands (c ∷ cs) [] none s = absurd s
 none_due_in stands (c ∷ cs) (k ∷ ks) none s =
-    head (due_call c.phase) (due_call (phase_of_known k)) (ap due_call (phase_known stands c k (s.0, s.1))) none
+    head (due_call c.stage) (due_call (stage_of_known k)) (ap due_call (stage_known stands c k (s.0, s.1))) none
     (λ n. none_due_in stands cs ks n s.2)
   where
     head : (o u : Option Due) → o ≡ u → cond (is_some u) (Some k) (find is_due_known ks) ≡ None

@@ -14,7 +14,7 @@ use Rattle.kcl_defs.specs.declared.consumer.Call.{Call}
 use Rattle.kcl_defs.specs.declared.consumer.Tenancy.{Tenancy}
 use Rattle.kcl_defs.specs.declared.consumer.WorkerMade.{WorkerMade}
 use Rattle.kcl_defs.specs.declared.plans.Held.{Held}
-use Rattle.kcl_defs.specs.Consumers.{Losing, Past, call_at, calls_after, due_call, phase_after, with_call}
+use Rattle.kcl_defs.specs.Consumers.{Losing, Past, call_at, calls_after, due_call, stage_after, with_call}
 use Rattle.kcl_defs.specs.Lives.{Deal, deals_of}
 use Rattle.kcl_defs.specs.WorkerLives.{MayHappen}
 use Rattle.kcl_defs.specs.Workers.{Release, Released, WorkerPast, id_of_held, released, worker_after}
@@ -135,9 +135,9 @@ module _ {P : Type 0} (stands : P → List Call → Type 0) (at : ℕ) (x y : Ha
           told = same_told start p before since along;
           added = λ calls s.
               let so_far = hand_calls h m before since calls in
-              let is : with_call (call_at m x.consumer.phase) so_far
+              let is : with_call (call_at m x.consumer.stage) so_far
               ≡ hand_calls y.held y.consumer.made before (event ∷ since) calls
-              = ap (λ f. with_call (call_at m f) so_far) along.stood.consumer.phase
+              = ap (λ f. with_call (call_at m f) so_far) along.stood.consumer.stage
               ∙ (λ i. hand_calls (sym held i) (sym made i) before (event ∷ since) calls) in
               subst (stands y.consumer.processor) is (adds so_far (along.added calls s));
         },
@@ -166,15 +166,15 @@ module _ {P : Type 0} (stands : P → List Call → Type 0) (at : ℕ) (x y : Ha
     (what : Command) (a : Result Reply Refusal)
     (held : y.held ≡ x.held) (made : y.consumer.made ≡ x.consumer.made) (processor : y.consumer.processor
     ≡ x.consumer.processor)
-    (next : Some what ≡ command_at x.held x.consumer.made x.consumer.phase x.stand) (adds : AddsHandAnswer stands a x y)
+    (next : Some what ≡ command_at x.held x.consumer.made x.consumer.stage x.stand) (adds : AddsHandAnswer stands a x y)
     (same : r.by ≡ q.by)
     (t : IsAnswered (record { by = q.by; at = at; what = what }) a q r) where
   command_is : (before : Past) (since : HandPast) → HandStandsFor stands x before since
       → Some what ≡ hand_command x.held x.consumer.made (hand_after x.held x.consumer.made before since)
   command_is before since st =
       let s = hand_after x.held x.consumer.made before since in
-      next ∙ ap (λ p. command_at x.held x.consumer.made p x.stand) st.consumer.phase
-      ∙ ap (command_at x.held x.consumer.made (phase_after x.consumer.made s.past)) st.stand
+      next ∙ ap (λ p. command_at x.held x.consumer.made p x.stand) st.consumer.stage
+      ∙ ap (command_at x.held x.consumer.made (stage_after x.consumer.made s.past)) st.stand
 
   -- The next command was answered.
   pub goes_answered : Goes stands at x y q r
@@ -273,7 +273,7 @@ module _ {P F : Type 0} (stands : P → List Call → Type 0) (at : ℕ) (key : 
   -- What the hand-off stands for after the release, with the state of its record.
   record Went (past : WorkerPast) : Type 0 where
     so_far : HasReleased stands at key w v p q past
-    phase : y.consumer.phase ≡ phase_after so_far.release.known.made (release_state so_far.release so_far.since).past
+    stage : y.consumer.stage ≡ stage_after so_far.release.known.made (release_state so_far.release so_far.since).past
     stand : y.stand ≡ (release_state so_far.release so_far.since).stand
     calls : stands y.consumer.processor
         (calls_after so_far.release.known.made (release_state so_far.release so_far.since).past)
@@ -325,8 +325,8 @@ module _ {P F : Type 0} (stands : P → List Call → Type 0) (at : ℕ) (key : 
           told = tells;
           served = λ joint e before. served_jointly (with_hand key since w.made joint) (tells joint e before);
         };
-        phase = along.stood.consumer.phase
-            ∙ (λ i. phase_after (is_made i) (hand_after (is_held i) (is_made i) before since).past);
+        stage = along.stood.consumer.stage
+            ∙ (λ i. stage_after (is_made i) (hand_after (is_held i) (is_made i) before since).past);
         stand = along.stood.stand ∙ (λ i. (hand_after (is_held i) (is_made i) before since).stand);
         calls = subst (λ m. stands y.consumer.processor (calls_after m (hand_after r.held m before since).past)) is_made
             (subst (λ g. stands y.consumer.processor
@@ -360,13 +360,13 @@ module _ {P F : Type 0} (stands : P → List Call → Type 0) (at : ℕ) (key : 
       → HandWasCut stands at key w v p q e past
   was_cut e (inl still) past st =
       let g = went past st in
-      inl (record { so_far = g.so_far; error = still.0; due = subst (λ z. IsSome (due_call z)) g.phase still.1 })
+      inl (record { so_far = g.so_far; error = still.0; due = subst (λ z. IsSome (due_call z)) g.stage still.1 })
   was_cut e (inr still) past st =
       let g = went past st in
       inr (record {
         so_far = g.so_far;
         error = still.error;
-        due = ap due_call (sym g.phase) ∙ still.due;
+        due = ap due_call (sym g.stage) ∙ still.due;
         going = ap left_at (sym g.stand) ∙ still.going;
         full = still.full;
       })

@@ -16,23 +16,23 @@ use Rattle.kcl_defs.specs.declared.consumer.Why.TheVariants as why
 use Rattle.kcl_defs.specs.declared.consumer.WorkerMade.{WorkerMade}
 use Rattle.kcl_defs.specs.declared.plans.Held.{Held}
 use Rattle.kcl_defs.specs.declared.plans.LeaseId.{LeaseId}
-use Rattle.kcl_defs.specs.Consumers.{Answered, Called, Giving, Leaving, Losing, Opening, Over, Phase, Starting}
+use Rattle.kcl_defs.specs.Consumers.{Answered, Called, Giving, Leaving, Losing, Opening, Over, Stage, Starting}
 use Rattle.kcl_defs.specs.Consumers.{after_answer, after_call, after_loss, due_call, over_at, was_handed}
 use Rattle.kcl_defs.specs.Workers.{Finishing, Freeing, Gave_command, Got_answer, Known, Pending, Stopped, WorkerPast}
 use Rattle.kcl_defs.specs.Workers.{WorkerState, absorbed, chore_from, consumed, freeing_chore, happens_to}
-use Rattle.kcl_defs.specs.Workers.{happens_to_first, id_of, id_of_held, is_due_known, is_giving, is_giving_phase}
+use Rattle.kcl_defs.specs.Workers.{happens_to_first, id_of, id_of_held, is_due_known, is_giving, is_giving_stage}
 use Rattle.kcl_defs.specs.Workers.{is_idle, is_nothing_held, is_over, is_stopping, next_pending, pending_chore}
-use Rattle.kcl_defs.specs.Workers.{phase_of_known, same_id, stopping_chore, with_event, without_held, worker_after}
+use Rattle.kcl_defs.specs.Workers.{stage_of_known, same_id, stopping_chore, with_event, without_held, worker_after}
 use Rattle.kcl_live.specs.Records.{with_calls}
 use Rattle.kcl_live.specs.Steps.{IsLost, IsStopped, turns_left}
 use Rattle.kcl_live.proofs.Bounds.{filter_less}
 
 abbrev AreLost : List Known → Type 0
-AreLost ks = AllByRecursion (λ k. IsLost (phase_of_known k)) ks
+AreLost ks = AllByRecursion (λ k. IsLost (stage_of_known k)) ks
 
 -- Each consumer that isn't over was told of its loss.
 abbrev AreLostOrOver : List Known → Type 0
-AreLostOrOver ks = AllByRecursion (λ k. is_over k ≡ false → IsLost (phase_of_known k)) ks
+AreLostOrOver ks = AllByRecursion (λ k. is_over k ≡ false → IsLost (stage_of_known k)) ks
 
 abbrev givings : List Known → ℕ
 givings ks = length (filter is_giving ks)
@@ -77,7 +77,7 @@ part_fewer t (k ∷ ks) = fewer_by (t k) k (filter t ks) ks (part_fewer t ks)
 
 -- ---- A stop
 
-after_loss_lost : (p : Phase) → is_some (over_at (after_loss p)) ≡ false → IsLost (after_loss p)
+after_loss_lost : (p : Stage) → is_some (over_at (after_loss p)) ≡ false → IsLost (after_loss p)
 after_loss_lost Opening h = absurd cc
 after_loss_lost Starting h = absurd cc
 after_loss_lost (Over why) h = absurd cc
@@ -88,7 +88,7 @@ after_loss_lost _ h = tt
 
 losing_lost : (ks : List Known) → AreLostOrOver (happens_to (λ k. true) Losing ks)
 losing_lost [] = tt
-losing_lost (k ∷ ks) = ((λ e. after_loss_lost (phase_of_known k) e), losing_lost ks)
+losing_lost (k ∷ ks) = ((λ e. after_loss_lost (stage_of_known k) e), losing_lost ks)
 
 pub stop_stops : (made : WorkerMade) (past : WorkerPast) → IsStopped (worker_after made (Stopped ∷ past))
 stop_stops made past =
@@ -101,8 +101,8 @@ stop_stops made past =
 -- ---- A call
 
 -- A lost consumer with a due call is leaving, and is over after the call.
-called_lost : (made : Tenancy) (a : Ask) (p : Phase) → IsLost p → is_some (due_call p) ≡ true
-    → (is_some (over_at (after_call made a p)) ≡ true) × (is_giving_phase (after_call made a p) ≡ false)
+called_lost : (made : Tenancy) (a : Ask) (p : Stage) → IsLost p → is_some (due_call p) ≡ true
+    → (is_some (over_at (after_call made a p)) ≡ true) × (is_giving_stage (after_call made a p) ≡ false)
 called_lost made a (Leaving why) l d = (refl, refl)
 called_lost made a (Giving reach waiting asked lost) l d = absurd cc
 called_lost made a _ l d = absurd l
@@ -112,7 +112,7 @@ calling_lost a [] all = tt
 calling_lost a (k ∷ ks) all =
     let called = with_event (Called a) k in
     let leaves : is_due_known k ≡ true → is_over called ≡ true =
-    λ due. (called_lost k.made a (phase_of_known k) all.0 due).0 in
+    λ due. (called_lost k.made a (stage_of_known k) all.0 due).0 in
     cond_both (is_due_known k) (called ∷ ks) (k ∷ happens_to_first is_due_known (Called a) ks) AreLostOrOver
     (λ due. ((λ over. absurd (apart (is_over called) (leaves due) over)), lost_or_over ks all.1))
     (λ quiet. ((λ over. all.0), calling_lost a ks all.1))
@@ -127,7 +127,7 @@ calling_fewer a (k ∷ ks) all = one (is_due_known k) refl (calling_fewer a ks a
         ≤ givings (k ∷ ks)
     one true e rest = omega (
       arith,
-      count_quiet (with_event (Called a) k) ks (called_lost k.made a (phase_of_known k) all.0 e).1,
+      count_quiet (with_event (Called a) k) ks (called_lost k.made a (stage_of_known k) all.0 e).1,
       no_less (is_giving k) k ks refl,
     )
     one false e rest = one_more (is_giving k) k (happens_to_first is_due_known (Called a) ks) ks refl rest
@@ -148,8 +148,8 @@ calls_stopped made (a ∷ asked) past s =
 -- ---- A turn
 
 -- A lost consumer without a due call has a batch to give, and leaves after the answer.
-answered_lost : (made : Tenancy) (a : Result Reply Refusal) (p : Phase) → IsLost p → is_some (due_call p) ≡ false
-    → IsLost (after_answer made a p) × (is_giving_phase (after_answer made a p) ≡ false) × (is_giving_phase p ≡ true)
+answered_lost : (made : Tenancy) (a : Result Reply Refusal) (p : Stage) → IsLost p → is_some (due_call p) ≡ false
+    → IsLost (after_answer made a p) × (is_giving_stage (after_answer made a p) ≡ false) × (is_giving_stage p ≡ true)
 answered_lost made (Ok reply) (Giving reach [] asked true) l d = (tt, refl, refl)
 answered_lost made (Ok reply) (Giving reach (f ∷ waiting) asked true) l d = (tt, refl, refl)
 answered_lost made (Err r) (Giving reach waiting asked true) l d = (tt, refl, refl)
@@ -176,7 +176,7 @@ giving_first : (a : Result Reply Refusal) (ks : List Known) (k : Known) → AreL
 giving_first a [] k all none found = absurd cc
 giving_first a (j ∷ js) k all none found =
     let quiet = first_quiet (is_due_known j) j (find is_due_known js) none in
-    let l = answered_lost j.made a (phase_of_known j) all.0 quiet in
+    let l = answered_lost j.made a (stage_of_known j) all.0 quiet in
     let same : j ≡ k = first_of k j (find is_giving js) (is_giving j) l.2 found in
     let own : same_id (id_of j) (id_of k) ≡ true = ap (λ x. same_id (id_of j) (id_of x)) (sym same)
     ∙ same_id_self (id_of j) in

@@ -111,14 +111,14 @@ Goes {P} stands at x y q r = (start : P) (p : Standing) (before : Past) (since :
 
 -- The next command of the hand-off, before which no call is due, became no turn, because the hall's history is full.
 pub record HasNoTurn {P : Type 0} (x : HandStanding P) (q : Standing) (e : TurnErr) : Type 0 where
-  pub due : due_call x.consumer.phase ≡ None
+  pub due : due_call x.consumer.stage ≡ None
   pub going : left_at x.stand ≡ None
   pub error : e ≡ failed.Spent
   pub full : length q.seen + 1 ≡ 2 ^ 64
 
 -- Memory ran out in the processor's call, which is still due, or the next command became no turn.
 abbrev pub StoodStill : {P : Type 0} → HandStanding P → Standing → TurnErr → Type 0
-StoodStill x q e = ((e ≡ failed.Memory) × IsSome (due_call x.consumer.phase)) ⊎ HasNoTurn x q e
+StoodStill x q e = ((e ≡ failed.Memory) × IsSome (due_call x.consumer.stage)) ⊎ HasNoTurn x q e
 
 -- ---- The worker with its hand-offs
 

@@ -4,9 +4,9 @@ use Rattle.std.specs.List.{AllByRecursion, filter}
 use Rattle.kds_defs.specs.declared.reply.Refusal.{Refusal}
 use Rattle.kds_defs.specs.declared.reply.Reply.{Reply}
 use Rattle.kcl_defs.specs.declared.consumer.Call.{Call}
-use Rattle.kcl_defs.specs.Consumers.{Giving, Leaving, Phase}
+use Rattle.kcl_defs.specs.Consumers.{Giving, Leaving, Stage}
 use Rattle.kcl_defs.specs.Workers.{AtStopping, Gave_command, Got_answer, WorkerPast, WorkerState, is_giving}
-use Rattle.kcl_defs.specs.Workers.{is_stopping, phase_of_known, worker_after}
+use Rattle.kcl_defs.specs.Workers.{is_stopping, stage_of_known, worker_after}
 use Rattle.kcl_worker.specs.Standing.{WorkerStanding}
 use Rattle.kds_turn.specs.Known.{turns_by}
 use Rattle.kds_turn.specs.Passes.{Standing}
@@ -27,8 +27,8 @@ pub record IsGoing {P F : Type 0} (stands : P → List Call → Type 0) (w : Wor
   pub alone : 0 < length p.own → turns_by p.by p.seen ≡ p.own
   pub going : is_stopping (worker_after w.made past).round ≡ false
 
--- The phase of a consumer that was told of its loss: a batch that was handed is to be given, or the consumer leaves.
-abbrev pub IsLost : Phase → Type 0
+-- The stage of a consumer that was told of its loss: a batch that was handed is to be given, or the consumer leaves.
+abbrev pub IsLost : Stage → Type 0
 IsLost (Giving reach waiting asked lost) = lost ≡ true
 IsLost (Leaving why) = Unit {0}
 IsLost _ = ⊥
@@ -40,7 +40,7 @@ turns_left s = length (filter is_giving s.consumers) + length s.held
 -- The worker was stopped, and all its consumers were told.
 pub record IsStopped (s : WorkerState) : Type 0 where
   pub round : s.round ≡ AtStopping
-  pub lost : AllByRecursion (λ k. IsLost (phase_of_known k)) s.consumers
+  pub lost : AllByRecursion (λ k. IsLost (stage_of_known k)) s.consumers
 
 -- The worker was stopped, and in the end it has at most `most` turns.
 pub record IsFinishing {P F : Type 0} (stands : P → List Call → Type 0) (w : WorkerStanding P F) (p : Standing)

@@ -26,11 +26,11 @@ use std::sync::Wait;
 fn call_one<P: Processor>(hand: &mut Handover<P>) -> Result<(), TurnErr>
     ensures held { hand.new.held ≡ hand.old.held }
     ensures made { hand.new.consumer.made ≡ hand.old.consumer.made }
-    ensures none_due { OnOk result (due_call hand.new.consumer.phase ≡ None) }
+    ensures none_due { OnOk result (due_call hand.new.consumer.stage ≡ None) }
     ensures few { OnOk result (turns_left_in hand.new ≤ turns_left_in hand.old) }
     ensures goes { (at : ℕ) (q : Standing) → Goes P.stands_for at hand.old hand.new q q }
     ensures error { IfErr result (λ e. e ≡ TurnErr.Memory) }
-    ensures left { OnErr result (IsSome (due_call hand.new.consumer.phase)) }
+    ensures left { OnErr result (IsSome (due_call hand.new.consumer.stage)) }
 {
     match hand.due() {
         Some(_) => match hand.call() {
@@ -51,7 +51,7 @@ fn answer_one<M: Machine, P: Processor, R: Wait>(
     at: Moment,
 ) -> Result<(), TurnErr>
     requires hall { pass.old.hall ≡ hall.now.id }
-    requires none_due { due_call hand.old.consumer.phase ≡ None }
+    requires none_due { due_call hand.old.consumer.stage ≡ None }
     requires going { left_at hand.old.stand ≡ None }
     ensures kept { IsSamePass pass.new pass.old }
     ensures held { hand.new.held ≡ hand.old.held }

@@ -7,8 +7,8 @@ use Rattle.std.proofs.lemmas.Bool.Decides.{nat_tests}
 use Rattle.std.proofs.lemmas.List.{set-set}
 use Rattle.std.proofs.lemmas.Option.{slice_get-get_or, slice_get_past}
 use Rattle.kds_defs.specs.declared.limits.TheConstants.{MOST_ACTOR}
-use Rattle.kcl_sim.specs.Standing.{EmployAll, Employs, IsFree, SimValue, Stepped, place_among}
-use Rattle.kcl_sim.specs.Workers.{Employed, employed_by, place_of}
+use Rattle.kcl_sim.specs.Standing.{EmployAll, Employs, IsFree, SimValue, Stepped, index_among}
+use Rattle.kcl_sim.specs.Workers.{Employed, employed_by, index_of}
 
 pub employ_length : (ws : List Stepped) (es : List Employed) → EmployAll ws es → length ws ≡ length es
 employ_length [] [] s = refl
@@ -46,41 +46,41 @@ employ_set (v ∷ ws) (d ∷ es) (suc place) w e s h = (s.0, employ_set ws es pl
 -- ---- Places
 
 nobody_by : (low within : Bool) (by count : ℕ) (es : List Employed) → count ≡ length es → nat_le by MOST_ACTOR ≡ low
-    → nat_lt (place_of by) count ≡ within
-    → (if low then None else (if within then Some (place_of by) else None)) ≡ None
-    → (if low then None else slice_get es (place_of by)) ≡ None
+    → nat_lt (index_of by) count ≡ within
+    → (if low then None else (if within then Some (index_of by) else None)) ≡ None
+    → (if low then None else slice_get es (index_of by)) ≡ None
 nobody_by true within by count es same l w h = refl
 nobody_by false true by count es same l w h = absurd cc
 nobody_by false false by count es same l w h =
-    let past : count ≤ place_of by = grind (arith, nat_tests) in
-    slice_get_past es (place_of by) (subst (λ n. n ≤ place_of by) same past)
+    let past : count ≤ index_of by = grind (arith, nat_tests) in
+    slice_get_past es (index_of by) (subst (λ n. n ≤ index_of by) same past)
 
 -- An actor without an index has no worker.
-pub nobody : (by count : ℕ) (es : List Employed) → count ≡ length es → place_among by count ≡ None
+pub nobody : (by count : ℕ) (es : List Employed) → count ≡ length es → index_among by count ≡ None
     → employed_by by es ≡ None
-nobody by count es same h = nobody_by (nat_le by MOST_ACTOR) (nat_lt (place_of by) count) by count es same refl refl h
+nobody by count es same h = nobody_by (nat_le by MOST_ACTOR) (nat_lt (index_of by) count) by count es same refl refl h
 
-placed_by : (low within : Bool) (by count place : ℕ) → nat_le by MOST_ACTOR ≡ low → nat_lt (place_of by) count ≡ within
-    → (if low then None else (if within then Some (place_of by) else None)) ≡ Some place
-    → (low ≡ false) × (place_of by ≡ place) × (place < count)
+placed_by : (low within : Bool) (by count place : ℕ) → nat_le by MOST_ACTOR ≡ low → nat_lt (index_of by) count ≡ within
+    → (if low then None else (if within then Some (index_of by) else None)) ≡ Some place
+    → (low ≡ false) × (index_of by ≡ place) × (place < count)
 placed_by true within by count place l w h = absurd cc
 placed_by false false by count place l w h = absurd cc
 placed_by false true by count place l w h =
-    let same : place_of by ≡ place = cc in
-    let lt : place_of by < count = grind (arith, nat_tests) in
+    let same : index_of by ≡ place = cc in
+    let lt : index_of by < count = grind (arith, nat_tests) in
     (refl, same, subst (λ n. n < count) same lt)
 
 -- The index that an actor has is within the list.
-placed : (by count place : ℕ) → place_among by count ≡ Some place → (nat_le by MOST_ACTOR ≡ false)
-    × (place_of by ≡ place) × (place < count)
-placed by count place h = placed_by (nat_le by MOST_ACTOR) (nat_lt (place_of by) count) by count place refl refl h
+placed : (by count place : ℕ) → index_among by count ≡ Some place → (nat_le by MOST_ACTOR ≡ false)
+    × (index_of by ≡ place) × (place < count)
+placed by count place h = placed_by (nat_le by MOST_ACTOR) (nat_lt (index_of by) count) by count place refl refl h
 
 -- An actor with an index has the worker there.
-pub somebody : (by count place : ℕ) (es : List Employed) → place_among by count ≡ Some place → (place_of by ≡ place)
+pub somebody : (by count place : ℕ) (es : List Employed) → index_among by count ≡ Some place → (index_of by ≡ place)
     × (employed_by by es ≡ slice_get es place)
 somebody by count place es h =
     let p = placed by count place h in
-    (p.1, ap (λ b. if b then None else slice_get es (place_of by)) p.0 ∙ ap (slice_get es) p.1)
+    (p.1, ap (λ b. if b then None else slice_get es (index_of by)) p.0 ∙ ap (slice_get es) p.1)
 
 -- What is found at an index within the list.
 pub got_there : (ws : List Stepped) (place : ℕ) (d w : Stepped) → place < length ws → w ≡ get_or ws place d
@@ -89,7 +89,7 @@ got_there ws place d w lt is = slice_get-get_or ws place d lt ∙ ap Some (sym i
 
 -- The worker at an actor's index, as the values show it.
 pub shown_there : (inside shown : SimValue) (by place : ℕ) (d w : Stepped) → inside ≡ shown
-    → place_among by (length shown.workers) ≡ Some place
+    → index_among by (length shown.workers) ≡ Some place
     → w ≡ get_or inside.workers place d → slice_get shown.workers place ≡ Some w
 shown_there inside shown by place d w is there got =
     let lt = subst (λ (v : SimValue). place < length v.workers) (sym is)

@@ -4,7 +4,7 @@ use Rattle.std.proofs.Common.{refl, sym, ap, subst, ◌∙◌, inr}
 use Rattle.std.specs.Prelude.{option_map, slice_get, slice_set}
 use Rattle.kds_base.specs.declared.lease_key.ShardRef.{ShardRef}
 use Rattle.kcl_defs.specs.declared.plans.Held.{Held}
-use Rattle.kcl_defs.specs.Consumers.{phase_after}
+use Rattle.kcl_defs.specs.Consumers.{stage_after}
 use Rattle.kcl_defs.specs.Workers.{Release, released, worker_after}
 use Rattle.kcl_consumer.specs.Standing.{Standing}
 use Rattle.kcl_hand.proofs.Handings.{lost_leaves}
@@ -20,8 +20,8 @@ use Rattle.kcl_worker.specs.Standing.{StandsFor as WorkerStands}
 use Rattle.kcl_sim.specs.Hands.{Handing, IsHandOf, RanFirst, RanToEnd}
 use Rattle.kcl_sim.specs.Keeping.{if_wanted}
 use Rattle.kcl_sim.specs.Output.{Ran, hand_output, history_at, run_text, with_handed, with_release}
-use Rattle.kcl_sim.specs.Standing.{EmployAll, Employs, GoesOn, MayHaveBroken, RunsSo, SimValue, Stepped, place_among}
-use Rattle.kcl_sim.specs.Workers.{Employed, place_of, release_by}
+use Rattle.kcl_sim.specs.Standing.{EmployAll, Employs, GoesOn, MayHaveBroken, RunsSo, SimValue, Stepped, index_among}
+use Rattle.kcl_sim.specs.Workers.{Employed, index_of, release_by}
 use Rattle.kcl_sim.proofs.Employing.{employ_length, nobody}
 use Rattle.kcl_sim.proofs.HandTelling.{worker_past_hand}
 use Rattle.kcl_sim.proofs.Running.{replaced, works}
@@ -50,8 +50,8 @@ released_so was now key h c v adds made maker held of_it begins e s =
         held = held ∙ r.held;
         made = of_it ∙ r.made;
         stands = stands;
-        leaving = subst IsLeaving (sym stands.consumer.phase)
-            (lost_leaves (phase_after v.consumer.made r.release.known.past));
+        leaving = subst IsLeaving (sym stands.consumer.stage)
+            (lost_leaves (stage_after v.consumer.made r.release.known.past));
       };
       worker = λ since. record {
         made = made ∙ s.made;
@@ -65,7 +65,7 @@ released_so was now key h c v adds made maker held of_it begins e s =
 pub nobody_hands : (wanted : Bool) (old new : SimValue) (ran : Ran) (at by : ℕ) (key : ShardRef) (before after : List ℕ)
     → RunsSo old ran
     → old.over ≡ false → new ≡ old
-    → place_among by (length old.workers) ≡ None
+    → index_among by (length old.workers) ≡ None
     → after ≡ before ++ if_wanted wanted (codes "none" ++ 10 ∷ [])
     → GoesOn wanted new ran (line.Hand at by key) before after
 nobody_hands wanted old new ran at by key before after s going same none wrote =
@@ -85,7 +85,7 @@ set_same (v ∷ ws) (suc place) w is = ap (λ us. v ∷ us) (set_same ws place w
 pub nothing_hands : (wanted : Bool) (old new : SimValue) (ran : Ran) (at by place : ℕ) (key : ShardRef)
     (was now : Stepped) (before after : List ℕ)
     → RunsSo old ran
-    → old.over ≡ false → place_among by (length old.workers) ≡ Some place
+    → old.over ≡ false → index_among by (length old.workers) ≡ Some place
     → slice_get old.workers place ≡ Some was → new ≡ record old { workers = slice_set old.workers place now }
     → now ≡ was → ReleasesNone Calls was key
     → after ≡ before ++ if_wanted wanted (codes "none" ++ 10 ∷ [])
@@ -113,7 +113,7 @@ nothing_hands wanted old new ran at by place key was now before after s going th
 pub hand_goes : (wanted : Bool) (old mid now new : SimValue) (ran : Ran) (at by place : ℕ) (key : ShardRef)
     (was next : Stepped) (v : Handing) (before after : List ℕ)
     → RunsSo old ran → old.over ≡ false
-    → place_among by (length old.workers) ≡ Some place → slice_get old.workers place ≡ Some was
+    → index_among by (length old.workers) ≡ Some place → slice_get old.workers place ≡ Some was
     → ((e : Employed) → Employs was e → IsReleased key e next v)
     → mid ≡ record old { workers = slice_set old.workers place next; over = true }
     → RanToEnd wanted at by mid now v before after → now.workers ≡ mid.workers
@@ -134,7 +134,7 @@ hand_goes wanted old mid now new ran at by place key was next v before after s g
           (record {
             history = ap (λ (z : SimValue). z.history) new_is ∙ t.history (hand_of r.release []) r.hand ∙
                 ap (λ h. (hand_run at by h (hand_of r.release [])).history) first;
-            workers = λ g. subst (λ ws. EmployAll ws (slice_set ran.workers (place_of by) x)) (sym workers)
+            workers = λ g. subst (λ ws. EmployAll ws (slice_set ran.workers (index_of by) x)) (sym workers)
                 (replaced old ran by place was next x w (r.worker run.hand.since));
           }));
       wrote = t.wrote (hand_of r.release []) r.hand
@@ -148,7 +148,7 @@ hand_goes wanted old mid now new ran at by place key was next v before after s g
 
 pub hand_may : (old mid new : SimValue) (ran : Ran) (at by place : ℕ) (key : ShardRef) (was next : Stepped)
     (v : Handing) → RunsSo old ran → old.over ≡ false
-    → place_among by (length old.workers) ≡ Some place → slice_get old.workers place ≡ Some was
+    → index_among by (length old.workers) ≡ Some place → slice_get old.workers place ≡ Some was
     → ((e : Employed) → Employs was e → IsReleased key e next v)
     → mid ≡ record old { workers = slice_set old.workers place next; over = true } → RanFirst at by mid new v
     → new.over ≡ true

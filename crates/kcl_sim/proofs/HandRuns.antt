@@ -10,7 +10,7 @@ use Rattle.kds_defs.specs.declared.reply.Reply.{Reply}
 use Rattle.kds_defs.specs.Histories.{answer}
 use Rattle.kcl_defs.specs.declared.consumer.Tenancy.{Tenancy}
 use Rattle.kcl_defs.specs.declared.plans.Held.{Held}
-use Rattle.kcl_defs.specs.Consumers.{Giving, Phase, due_call, phase_after}
+use Rattle.kcl_defs.specs.Consumers.{Giving, Stage, due_call, stage_after}
 use Rattle.kcl_defs.specs.Lives.{Deal}
 use Rattle.kcl_hand.specs.declared.stand.Stand.{Stand}
 use Rattle.kcl_hand.specs.declared.stand.Stand.TheVariants as stand
@@ -30,38 +30,38 @@ use Rattle.kcl_sim.proofs.Wanting.{joined, none_wanted}
 
 -- ---- A call and a command of a hand-off
 
--- The phase of the hand-off's consumer is the one of its record.
-pub phase_is : (v : Handing) (x : HandOff) → IsHandOf v x → v.consumer.phase ≡ phase_after x.made (state_of x).past
-phase_is v x s = s.stands.consumer.phase
-    ∙ (λ i. phase_after (s.made i) (hand_after (s.held i) (s.made i) x.before x.since).past)
+-- The stage of the hand-off's consumer is the one of its record.
+pub stage_is : (v : Handing) (x : HandOff) → IsHandOf v x → v.consumer.stage ≡ stage_after x.made (state_of x).past
+stage_is v x s = s.stands.consumer.stage
+    ∙ (λ i. stage_after (s.made i) (hand_after (s.held i) (s.made i) x.before x.since).past)
 
 pub stand_is : (v : Handing) (x : HandOff) → IsHandOf v x → v.stand ≡ (state_of x).stand
 stand_is v x s = s.stands.stand ∙ (λ i. (hand_after (s.held i) (s.made i) x.before x.since).stand)
 
-pub due_is : (v : Handing) (x : HandOff) → IsHandOf v x → due_call v.consumer.phase ≡ hand_due x.made (state_of x)
-due_is v x s = ap due_call (phase_is v x s)
+pub due_is : (v : Handing) (x : HandOff) → IsHandOf v x → due_call v.consumer.stage ≡ hand_due x.made (state_of x)
+due_is v x s = ap due_call (stage_is v x s)
 
 -- The next command is that of the record.
-pub next_is : (v : Handing) (x : HandOff) → IsHandOf v x → command_at v.held v.consumer.made v.consumer.phase v.stand
+pub next_is : (v : Handing) (x : HandOff) → IsHandOf v x → command_at v.held v.consumer.made v.consumer.stage v.stand
     ≡ hand_command x.held x.made (state_of x)
-next_is v x s = λ i. command_at (s.held i) (s.made i) (phase_is v x s i) (stand_is v x s i)
+next_is v x s = λ i. command_at (s.held i) (s.made i) (stage_is v x s i) (stand_is v x s i)
 
 -- After an answer, the consumer is still leaving.
 answered_leaves_at : (h : Held) (made : Tenancy) (a : Result Reply Refusal) (s : HandState) (st : Stand)
-    → IsLeaving (phase_after made s.past)
-    → IsLeaving (phase_after made (answered_at h made a s st).past)
-answered_leaves_at h made a s stand.Consumer l = answered_leaves made a (phase_after made s.past) l
+    → IsLeaving (stage_after made s.past)
+    → IsLeaving (stage_after made (answered_at h made a s st).past)
+answered_leaves_at h made a s stand.Consumer l = answered_leaves made a (stage_after made s.past) l
 answered_leaves_at h made a s _ l = l
 
 leaves_so : (w : Handing) (x : HandOff) → w.held ≡ x.held → w.consumer.made ≡ x.made
     → StandsFor Calls w x.before x.since
-    → IsLeaving (phase_after x.made (state_of x).past) → IsLeaving w.consumer.phase
+    → IsLeaving (stage_after x.made (state_of x).past) → IsLeaving w.consumer.stage
 leaves_so w x held made s l =
-    subst IsLeaving (sym (s.consumer.phase
-    ∙ (λ i. phase_after (made i) (hand_after (held i) (made i) x.before x.since).past))) l
+    subst IsLeaving (sym (s.consumer.stage
+    ∙ (λ i. stage_after (made i) (hand_after (held i) (made i) x.before x.since).past))) l
 
 hand_on : (w : Handing) (x : HandOff) → w.held ≡ x.held → w.consumer.made ≡ x.made → StandsFor Calls w x.before x.since
-    → IsLeaving (phase_after x.made (state_of x).past) → IsHandOf w x
+    → IsLeaving (stage_after x.made (state_of x).past) → IsHandOf w x
 hand_on w x held made s l = record { held = held; made = made; stands = s; leaving = leaves_so w x held made s l }
 
 -- If no call is due, none is made.
@@ -74,7 +74,7 @@ pub answered_on : (at by : ℕ) (h : List Turn) (what : Command) (a : Result Rep
     → w.consumer.made ≡ v.consumer.made → AddsHandAnswer Calls a v w → a ≡ answer h (raw_turn at by what)
     → (x : HandOff) → IsHandOf v x → IsHandOf w (answered_by at by h x what)
 answered_on at by h what a v w held made adds is x s =
-    let old : IsLeaving (phase_after x.made (state_of x).past) = subst IsLeaving (phase_is v x s) s.leaving in
+    let old : IsLeaving (stage_after x.made (state_of x).past) = subst IsLeaving (stage_is v x s) s.leaving in
     subst (λ z. IsHandOf w (record x { since = Hand_answered z ∷ x.since })) is
     (hand_on w (record x { since = Hand_answered a ∷ x.since }) (held ∙ s.held) (made ∙ s.made)
     (adds x.before x.since s.stands)
@@ -147,17 +147,17 @@ pub record UnderWay (wanted : Bool) (at by : ℕ) (old now : SimValue) (v w : Ha
   pub over : now.over ≡ old.over
   pub workers : now.workers ≡ old.workers
   pub told : now.told ≡ old.told
-  pub none_due : due_call w.consumer.phase ≡ None
+  pub none_due : due_call w.consumer.stage ≡ None
   pub rest : (x : HandOff) → IsHandOf v x → (y : HandOff) × IsHandOf w y
       × IsRest at by old.history x ran_of_it deals now.history y
 
-none_of : (w : Handing) (y : HandOff) → IsHandOf w y → due_call w.consumer.phase ≡ None
+none_of : (w : Handing) (y : HandOff) → IsHandOf w y → due_call w.consumer.stage ≡ None
     → hand_due y.made (state_of y) ≡ None
 none_of w y s none = sym (due_is w y s) ∙ none
 
 pub way_begins : (wanted : Bool) (at by : ℕ) (old now : SimValue) (v w : Handing) (text : List ℕ) → now ≡ old
     → text ≡ [] → turns_left_in v ≤ 3
-    → turns_left_in w ≤ turns_left_in v → due_call w.consumer.phase ≡ None
+    → turns_left_in w ≤ turns_left_in v → due_call w.consumer.stage ≡ None
     → ((x : HandOff) → IsHandOf v x → IsHandOf w (called_up x)) → UnderWay wanted at by old now v w text
 way_begins wanted at by old now v w text same empty few fewer none called = record {
   ran_of_it = 0;
@@ -181,7 +181,7 @@ pub way_goes : (wanted : Bool) (at by : ℕ) (old now new : SimValue) (v w u : H
     → UnderWay wanted at by old now v w text
     → MadeRound wanted at by now new w u text more → new.over ≡ now.over → new.workers ≡ now.workers
     → new.told ≡ now.told
-    → turns_left_in u < turns_left_in w → due_call u.consumer.phase ≡ None → UnderWay wanted at by old new v u more
+    → turns_left_in u < turns_left_in w → due_call u.consumer.stage ≡ None → UnderWay wanted at by old new v u more
 way_goes wanted at by old now new v w u text more way r over workers told fewer none = record {
   ran_of_it = way.ran_of_it + 1;
   deals = way.deals ++ deal_at at by now.history r.what ∷ [];
@@ -212,10 +212,10 @@ way_goes wanted at by old now new v w u text more way r over workers told fewer 
 -- ---- The hand-off has ended
 
 -- Once the hand-off has ended, no command comes next.
-ended_quiet : (h : Held) (made : Tenancy) (phase : Phase) (s : Stand) → IsSome (left_at s)
-    → command_at h made phase s ≡ None
-ended_quiet h made phase (stand.Ended left) over = refl
-ended_quiet h made phase _ over = absurd cc
+ended_quiet : (h : Held) (made : Tenancy) (stage : Stage) (s : Stand) → IsSome (left_at s)
+    → command_at h made stage s ≡ None
+ended_quiet h made stage (stand.Ended left) over = refl
+ended_quiet h made stage _ over = absurd cc
 
 -- The run of a hand-off that has ended is the whole run.
 whole_run : (wanted : Bool) (at by : ℕ) (old now : SimValue) (v w : Handing) (text : List ℕ)
@@ -229,7 +229,7 @@ whole_run wanted at by old now v w text way over x s =
     let left : ℕ = 3 - way.ran_of_it in
     let three : 3 ≡ way.ran_of_it + left = omega (arith, way.few) in
     let quiet : hand_command y.0.held y.0.made (state_of y.0) ≡ None =
-    sym (next_is w y.0 y.1) ∙ ended_quiet w.held w.consumer.made w.consumer.phase w.stand over in
+    sym (next_is w y.0 y.1) ∙ ended_quiet w.held w.consumer.made w.consumer.stage w.stand over in
     ap (λ m. run_hand m at by old.history x) three ∙ y.2 left ∙ ap (with_deals way.deals)
     (ends_so left at by now.history y.0 quiet (none_of w y.0 y.1 way.none_due))
 
@@ -268,8 +268,8 @@ broke_between wanted at by old now new v w text way same = record {
       same ∙ ap (λ r. r.history) (sym (y.2 0)) ∙ ap (λ m. (run_hand m at by old.history x).history) (sym none);
 }
 
-one_left : (s : Stand) (phase : Phase) → left_at s ≡ None → 1 ≤ turns_left s phase
-one_left (stand.Ended left) phase going = absurd cc
+one_left : (s : Stand) (stage : Stage) → left_at s ≡ None → 1 ≤ turns_left s stage
+one_left (stand.Ended left) stage going = absurd cc
 one_left stand.Consumer (Giving reach waiting asked lost) going = omega arith
 one_left _ _ going = omega arith
 
@@ -281,7 +281,7 @@ pub broke_after : (wanted : Bool) (at by : ℕ) (old now new : SimValue) (v w : 
 unfolding with_deals
 broke_after wanted at by old now new v w text way going r = record {
   ran_of_it = way.ran_of_it + 1;
-  few = omega (arith, way.few, one_left w.stand w.consumer.phase going);
+  few = omega (arith, way.few, one_left w.stand w.consumer.stage going);
   history = λ x s.
       let y = way.rest x s in
       r.history ∙ ap (λ o. (rounds 0 at by now.history y.0 o).history) (sym (r.next y.0 y.1))
@@ -302,13 +302,13 @@ broke_round wanted at by old now new v w text way going (inr r) =
 -- ---- One round
 
 -- The command that comes next is that of the record.
-comes_next : (v : Handing) (what : Command) → Some what ≡ command_at v.held v.consumer.made v.consumer.phase v.stand
+comes_next : (v : Handing) (what : Command) → Some what ≡ command_at v.held v.consumer.made v.consumer.stage v.stand
     → ComesNext v what
 comes_next v what is x s = sym (next_is v x s) ∙ sym is
 
 pub round_made : (wanted : Bool) (at by : ℕ) (old new : SimValue) (v mid w : Handing) (what : Command)
     (a : Result Reply Refusal) (before after : List ℕ)
-    → Some what ≡ command_at v.held v.consumer.made v.consumer.phase v.stand
+    → Some what ≡ command_at v.held v.consumer.made v.consumer.stage v.stand
     → new ≡ record old { history = raw_turn at by what ∷ old.history } → a ≡ answer old.history (raw_turn at by what)
     → mid.held ≡ v.held
     → mid.consumer.made ≡ v.consumer.made → AddsHandAnswer Calls a v mid

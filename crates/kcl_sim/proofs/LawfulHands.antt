@@ -8,7 +8,7 @@ use Rattle.kds_defs.specs.Lawful.{IsHistory, IsLawfulCommand, IsLimit}
 use Rattle.kcl_defs.specs.declared.consumer.Due.{Due}
 use Rattle.kcl_defs.specs.declared.consumer.Tenancy.{Tenancy}
 use Rattle.kcl_defs.specs.declared.plans.Held.{Held}
-use Rattle.kcl_defs.specs.Consumers.{Phase, phase_after}
+use Rattle.kcl_defs.specs.Consumers.{Stage, stage_after}
 use Rattle.kcl_defs.specs.Workers.{Known, Release, id_of_held, known_of, leaving, release_of, released, with_lease}
 use Rattle.kcl_hand.specs.declared.stand.Stand.{Stand}
 use Rattle.kcl_hand.specs.declared.stand.Stand.TheVariants as stand
@@ -22,7 +22,7 @@ use Rattle.kcl_sim.specs.Output.{Ran, history_at, part_of, with_handed, with_rel
 use Rattle.kcl_sim.specs.Workers.{Employed, employed_by, release_by, state_of as worker_state}
 use Rattle.kcl_sim.proofs.HandTelling.{rounds}
 use Rattle.kcl_sim.proofs.LawfulSteps.{AllLimits, AreBounded, HasLimit, IsBounded, bounded_by, found_limit}
-use Rattle.kcl_sim.proofs.LawfulSteps.{limits_after, phase_command, so_lawful}
+use Rattle.kcl_sim.proofs.LawfulSteps.{limits_after, stage_command, so_lawful}
 
 -- ---- What is released reads at most as many records as a Read may ask for
 
@@ -48,13 +48,13 @@ worker_limit e key r is h =
 
 -- ---- The commands of a hand-off
 
-stand_lawful : (h : Held) (made : Tenancy) (phase : Phase) (s : Stand) (what : Command)
-    → command_at h made phase s ≡ Some what → IsLimit made.limit
+stand_lawful : (h : Held) (made : Tenancy) (stage : Stage) (s : Stand) (what : Command)
+    → command_at h made stage s ≡ Some what → IsLimit made.limit
     → IsLawfulCommand what
-stand_lawful h made phase stand.Consumer what is limit = phase_command made phase h.counter what is limit
-stand_lawful h made phase (stand.Mark q) what is limit = so_lawful _ _ is tt
-stand_lawful h made phase (stand.Free counter) what is limit = so_lawful _ _ is tt
-stand_lawful h made phase (stand.Ended left) what is limit = absurd cc
+stand_lawful h made stage stand.Consumer what is limit = stage_command made stage h.counter what is limit
+stand_lawful h made stage (stand.Mark q) what is limit = so_lawful _ _ is tt
+stand_lawful h made stage (stand.Free counter) what is limit = so_lawful _ _ is tt
+stand_lawful h made stage (stand.Ended left) what is limit = absurd cc
 
 called_limit : (o : Option Due) (x : HandOff) → IsLimit x.made.limit → IsLimit (called_if o x).made.limit
 called_limit None x h = h
@@ -68,7 +68,7 @@ rounds_lawful : (n at by : ℕ) (h : List Turn) (x : HandOff) (o : Option Comman
 rounds_lawful n at by h x None is early limit past rest = past
 rounds_lawful n at by h x (Some what) is early limit past rest =
     rest (turn_of at by what ∷ h) (answered_by at by h x what) limit
-    ((early, stand_lawful x.held x.made (phase_after x.made (state_of x).past) (state_of x).stand what is limit), past)
+    ((early, stand_lawful x.held x.made (stage_after x.made (state_of x).past) (state_of x).stand what is limit), past)
 
 run_lawful : (n at by : ℕ) (h : List Turn) (x : HandOff) → at < 2 ^ 62 → IsLimit x.made.limit → IsHistory h
     → IsHistory (run_hand n at by h x).history

@@ -16,21 +16,21 @@ use Rattle.kcl_defs.specs.declared.plans.LeaseId.{LeaseId}
 use Rattle.kcl_defs.specs.declared.plans.SyncStep.{SyncStep}
 use Rattle.kcl_defs.specs.declared.plans.SyncStep.TheVariants.{Make, Cut}
 use Rattle.kcl_defs.specs.declared.plans.TakeStep.{TakeStep}
-use Rattle.kcl_defs.specs.Consumers.{Called, Event, Losing, Phase, Opening, Filling, Giving, Marking, MarkingEnd}
+use Rattle.kcl_defs.specs.Consumers.{Called, Event, Losing, Stage, Opening, Filling, Giving, Marking, MarkingEnd}
 use Rattle.kcl_defs.specs.Consumers.{next_command}
 use Rattle.kcl_defs.specs.Workers.{Chore, Consuming, Finishing, Freeing, Renewing, Surveying, Syncing, Taking, Known}
 use Rattle.kcl_defs.specs.Workers.{Pending, WorkerPast, WorkerState, Gave_command, Got_answer, Made_call, Stopped}
 use Rattle.kcl_defs.specs.Workers.{absorbed, after_chore, after_renewal, after_survey, after_take, chore_at, command_of}
 use Rattle.kcl_defs.specs.Workers.{consumer_command, counter_of, happens_to, happens_to_first, id_of, is_before_id}
 use Rattle.kcl_defs.specs.Workers.{is_due_known, is_over, known_of, next_pending, pending_chore, pending_of}
-use Rattle.kcl_defs.specs.Workers.{phase_of_known, same_id, sync_command, with_event, with_known, worker_after, Release}
+use Rattle.kcl_defs.specs.Workers.{stage_of_known, same_id, sync_command, with_event, with_known, worker_after, Release}
 use Rattle.kcl_defs.specs.Workers.{Released, id_of_held, released, without_known, without_release}
 use Rattle.kcl_script.specs.declared.line.Line.{Line}
 use Rattle.kcl_hand.specs.Joints.{worker_past}
 use Rattle.kcl_script.specs.declared.line.Line.TheVariants.{Api, Hand, Raw, Step, Stop, Worker}
 use Rattle.kcl_script.specs.Line.{IsLine}
 use Rattle.kcl_sim.specs.Output.{Ran, with_command, with_handed, with_line, with_release, with_step, with_stop}
-use Rattle.kcl_sim.specs.Workers.{Employed, all_called, command_at, employed_by, place_of, release_by, state_of}
+use Rattle.kcl_sim.specs.Workers.{Employed, all_called, command_at, employed_by, index_of, release_by, state_of}
 
 -- ---- The consumers of a worker read at most as many records as a Read may ask for
 
@@ -168,22 +168,22 @@ found_limit p (j ∷ ks) k is h = found_by (p j) j k _ is h.0 (λ more. found_li
 pub so_lawful : (a b : Command) → Some a ≡ Some b → IsLawfulCommand a → IsLawfulCommand b
 so_lawful a b is h = let e : a ≡ b = cc in subst IsLawfulCommand e h
 
-pub phase_command : (made : Tenancy) (p : Phase) (counter : ℕ) (what : Command)
+pub stage_command : (made : Tenancy) (p : Stage) (counter : ℕ) (what : Command)
     → next_command made p counter ≡ Some what → IsLimit made.limit
     → IsLawfulCommand what
-phase_command made Opening counter what is limit = so_lawful _ _ is tt
-phase_command made (Filling reach waiting) counter what is limit = so_lawful _ _ is limit
-phase_command made (Giving reach waiting asked lost) counter what is limit = so_lawful _ _ is tt
-phase_command made (Marking reach waiting to) counter what is limit = so_lawful _ _ is tt
-phase_command made MarkingEnd counter what is limit = so_lawful _ _ is tt
-phase_command made _ counter what is limit = absurd cc
+stage_command made Opening counter what is limit = so_lawful _ _ is tt
+stage_command made (Filling reach waiting) counter what is limit = so_lawful _ _ is limit
+stage_command made (Giving reach waiting asked lost) counter what is limit = so_lawful _ _ is tt
+stage_command made (Marking reach waiting to) counter what is limit = so_lawful _ _ is tt
+stage_command made MarkingEnd counter what is limit = so_lawful _ _ is tt
+stage_command made _ counter what is limit = absurd cc
 
 consumer_lawful : (w : WorkerState) (o : Option Known) (what : Command) → consumer_command w o ≡ Some what
     → ((k : Known) → o ≡ Some k → HasLimit k) → IsLawfulCommand what
 unfolding HasLimit
 consumer_lawful w None what is limits = absurd cc
 consumer_lawful w (Some k) what is limits =
-    phase_command k.made (phase_of_known k) (counter_of (id_of k) w.held) what is (limits k refl)
+    stage_command k.made (stage_of_known k) (counter_of (id_of k) w.held) what is (limits k refl)
 
 sync_lawful : (step : SyncStep) → IsLawfulCommand (sync_command step)
 sync_lawful (Make key from) = tt
@@ -250,13 +250,13 @@ by_some false place es e is h = bounded_at es place e is h
 
 -- The worker of an actor is bounded.
 pub bounded_by : (by : ℕ) (es : List Employed) (e : Employed) → employed_by by es ≡ Some e → AreBounded es → IsBounded e
-bounded_by by es e is h = by_some (nat_le by MOST_ACTOR) (place_of by) es e is h
+bounded_by by es e is h = by_some (nat_le by MOST_ACTOR) (index_of by) es e is h
 
 command_bounded : (ran : Ran) (at by : ℕ) (e : Employed) (o : Option Command) → IsBounded e → AreBounded ran.workers
     → AreBounded (with_command ran at by e o).workers
-command_bounded ran at by e None g h = bounded_set ran.workers (place_of by) e h g
+command_bounded ran at by e None g h = bounded_set ran.workers (index_of by) e h g
 command_bounded ran at by e (Some what) g h =
-    bounded_set ran.workers (place_of by) _ h (record { name = g.name; limit = g.limit })
+    bounded_set ran.workers (index_of by) _ h (record { name = g.name; limit = g.limit })
 
 step_bounded : (ran : Ran) (at by : ℕ) (o : Option Employed) → employed_by by ran.workers ≡ o → AreBounded ran.workers
     → AreBounded (with_step ran at by o).workers
@@ -271,14 +271,14 @@ stop_bounded : (ran : Ran) (by : ℕ) (o : Option Employed) → employed_by by r
 stop_bounded ran by None is h = h
 stop_bounded ran by (Some e) is h =
     let g = bounded_by by ran.workers e is h in
-    bounded_set ran.workers (place_of by) _ h (record { name = g.name; limit = g.limit })
+    bounded_set ran.workers (index_of by) _ h (record { name = g.name; limit = g.limit })
 
 release_bounded : (ran : Ran) (at by : ℕ) (key : ShardRef) (e : Employed) (o : Option Release) → IsBounded e
     → AreBounded ran.workers
     → AreBounded (with_release ran at by key e o).workers
 release_bounded ran at by key e None g h = h
 release_bounded ran at by key e (Some r) g h =
-    bounded_set ran.workers (place_of by) _ h (record { name = g.name; limit = g.limit })
+    bounded_set ran.workers (index_of by) _ h (record { name = g.name; limit = g.limit })
 
 hand_bounded : (ran : Ran) (at by : ℕ) (key : ShardRef) (o : Option Employed) → employed_by by ran.workers ≡ o
     → AreBounded ran.workers

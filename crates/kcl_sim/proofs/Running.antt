@@ -17,8 +17,8 @@ use Rattle.kcl_sim.specs.Output.{Ran, command_output, raw_turn, step_output, sto
 use Rattle.kcl_sim.specs.Output.{with_stop}
 use Rattle.kcl_sim.specs.Standing.{ChangedAt, EmployAll, Employs, GoesOn, HasAsked, IsFree, MayHaveRun, RunsSo}
 use Rattle.kcl_sim.specs.Standing.{SimValue, StepsAt, Stepped, TookAnswer, TurnRan, employed_after, history_after}
-use Rattle.kcl_sim.specs.Standing.{place_among}
-use Rattle.kcl_sim.specs.Workers.{Employed, actor_at, all_called, command_at, employed_by, hired, place_of, stopped}
+use Rattle.kcl_sim.specs.Standing.{index_among}
+use Rattle.kcl_sim.specs.Workers.{Employed, actor_at, all_called, command_at, employed_by, hired, index_of, stopped}
 use Rattle.kcl_sim.proofs.Employing.{employ_at, employ_length, employ_more, employ_set, got_set, got_there, lent_again}
 use Rattle.kcl_sim.proofs.Employing.{nobody, set_again, somebody}
 
@@ -59,7 +59,7 @@ hired_goes wanted old new ran w at name by kind from before after s going is mad
 
 pub nobody_stops : (wanted : Bool) (old new : SimValue) (ran : Ran) (at by : ℕ) (before after : List ℕ) → RunsSo old ran
     → old.over ≡ false → new ≡ old
-    → place_among by (length old.workers) ≡ None
+    → index_among by (length old.workers) ≡ None
     → after ≡ before ++ if_wanted wanted (codes "none" ++ 10 ∷ [])
     → GoesOn wanted new ran (line.Stop at by) before after
 nobody_stops wanted old new ran at by before after s going same none wrote =
@@ -73,7 +73,7 @@ nobody_stops wanted old new ran at by before after s going same none wrote =
 
 pub nobody_steps : (wanted : Bool) (old new : SimValue) (ran : Ran) (at by : ℕ) (before after : List ℕ) → RunsSo old ran
     → old.over ≡ false → new ≡ old
-    → place_among by (length old.workers) ≡ None
+    → index_among by (length old.workers) ≡ None
     → after ≡ before ++ if_wanted wanted (codes "none" ++ 10 ∷ [])
     → GoesOn wanted new ran (line.Step at by) before after
 nobody_steps wanted old new ran at by before after s going same none wrote =
@@ -93,10 +93,10 @@ pub record Works (old : SimValue) (ran : Ran) (by place : ℕ) (was : Stepped) :
   pub is : employed_by by ran.workers ≡ Some e
   pub employs : Employs was e
   pub all : EmployAll old.workers ran.workers
-  pub at_place : place_of by ≡ place
+  pub at_place : index_of by ≡ place
 
 pub works : (old : SimValue) (ran : Ran) (by place : ℕ) (was : Stepped) → RunsSo old ran → old.over ≡ false
-    → place_among by (length old.workers) ≡ Some place → slice_get old.workers place ≡ Some was
+    → index_among by (length old.workers) ≡ Some place → slice_get old.workers place ≡ Some was
     → Works old ran by place was
 works old ran by place was s going there stood =
     let all = s.workers going in
@@ -107,14 +107,14 @@ works old ran by place was s going there stood =
 -- `EmployAll` holds after another worker took this place.
 pub replaced : (old : SimValue) (ran : Ran) (by place : ℕ) (was new : Stepped) (d : Employed)
     → Works old ran by place was → Employs new d
-    → EmployAll (slice_set old.workers place new) (slice_set ran.workers (place_of by) d)
+    → EmployAll (slice_set old.workers place new) (slice_set ran.workers (index_of by) d)
 replaced old ran by place was new d w h =
     subst (λ n. EmployAll (slice_set old.workers place new) (slice_set ran.workers n d)) (sym w.at_place)
     (employ_set old.workers ran.workers place new d w.all h)
 
 pub stop_goes : (wanted : Bool) (old new : SimValue) (ran : Ran) (at by place : ℕ) (was now : Stepped)
     (before after : List ℕ) → RunsSo old ran
-    → old.over ≡ false → place_among by (length old.workers) ≡ Some place → slice_get old.workers place ≡ Some was
+    → old.over ≡ false → index_among by (length old.workers) ≡ Some place → slice_get old.workers place ≡ Some was
     → new ≡ record old { workers = slice_set old.workers place now }
     → ((e : Employed) → Employs was e → Employs now (stopped e))
     → after ≡ before ++ if_wanted wanted (codes "stopping" ++ 10 ∷ [])
@@ -139,14 +139,14 @@ same_employed h ran at by o e is v s = subst (λ k. Employs v (employed_after k 
 
 step_made : (new : SimValue) (ran : Ran) (at by place : ℕ) (e : Employed) (o : Option Command)
     → new.history ≡ history_after ran.history at by o
-    → EmployAll new.workers (slice_set ran.workers (place_of by) (employed_after ran.history at by o e))
+    → EmployAll new.workers (slice_set ran.workers (index_of by) (employed_after ran.history at by o e))
     → RunsSo new (with_command ran at by (all_called e) o)
 step_made new ran at by place e None history workers = record { history = history; workers = λ g. workers }
 step_made new ran at by place e (Some what) history workers = record { history = history; workers = λ g. workers }
 
 pub step_goes : (wanted : Bool) (old new : SimValue) (ran : Ran) (at by place : ℕ) (before after : List ℕ)
     → RunsSo old ran → old.over ≡ false
-    → place_among by (length old.workers) ≡ Some place
+    → index_among by (length old.workers) ≡ Some place
     → StepsAt wanted at by place old new before after → new.over ≡ false
     → GoesOn wanted new ran (line.Step at by) before after
 step_goes wanted old new ran at by place before after s going there t still =
@@ -157,8 +157,8 @@ step_goes wanted old new ran at by place before after s going there t still =
     let now_so : Employs c.is (employed_after ran.history at by t.what w.e) =
     same_employed old.history ran at by t.what w.e s.history c.is f.1 in
     let all : EmployAll new.workers
-    (slice_set ran.workers (place_of by) (employed_after ran.history at by t.what w.e)) =
-    subst (λ ws. EmployAll ws (slice_set ran.workers (place_of by) (employed_after ran.history at by t.what w.e)))
+    (slice_set ran.workers (index_of by) (employed_after ran.history at by t.what w.e)) =
+    subst (λ ws. EmployAll ws (slice_set ran.workers (index_of by) (employed_after ran.history at by t.what w.e)))
     (sym c.stands) (replaced old ran by place c.was c.is _ w now_so) in
     record {
       made = subst (λ o. RunsSo new (with_step ran at by o)) (sym w.is)
@@ -174,7 +174,7 @@ step_goes wanted old new ran at by place before after s going there t still =
 -- ---- Out of memory
 
 pub step_may : (old new : SimValue) (ran : Ran) (at by place : ℕ) → RunsSo old ran → old.over ≡ false
-    → place_among by (length old.workers) ≡ Some place → new.over ≡ true
+    → index_among by (length old.workers) ≡ Some place → new.over ≡ true
     → (new.history ≡ old.history) ⊎ TurnRan at by place old new → MayHaveRun new ran (line.Step at by)
 step_may old new ran at by place s going there over (inl same) =
     inl (record { history = same ∙ s.history; workers = λ g. absurd (apart new.over over g) })

@@ -31,7 +31,7 @@ use Rattle.kcl_hand.specs.Twice.{IsHandedOffIfFreed, IsNeverReadAgain}
 use Rattle.kcl_defs.specs.Workers.{Chore, Gave_command, Known, Made_call, Pending, Renewing, Release, Surveying, Taking}
 use Rattle.kcl_defs.specs.Workers.{WorkerState}
 use Rattle.kcl_defs.specs.Workers.{absorbed, after_chore, after_renewal, after_survey, after_take}
-use Rattle.kcl_defs.specs.Workers.{is_due_known, is_idle, next_pending, phase_of_known, released, with_deal}
+use Rattle.kcl_defs.specs.Workers.{is_due_known, is_idle, next_pending, stage_of_known, released, with_deal}
 use Rattle.kcl_defs.specs.Workers.{worker_after}
 use Rattle.kcl_defs.proofs.StepLemmas.{others_turn}
 use Rattle.kcl_proc.specs.declared.stock.Kind.{Kind}
@@ -42,7 +42,7 @@ use Rattle.kcl_sim.specs.Output.{Ran, fresh, raw_turn, requested, with_command, 
 use Rattle.kcl_sim.specs.Output.{with_schedule, with_step, with_stop}
 use Rattle.kcl_sim.specs.Serving.{AreAllServed, AreHandedOff, AreNeverReadAgain}
 use Rattle.kcl_sim.specs.Workers.{Employed, actor_at, all_called, answered, ask_in, command_at, employed_by, hired}
-use Rattle.kcl_sim.specs.Workers.{place_of, release_by, state_of, stopped, with_calls}
+use Rattle.kcl_sim.specs.Workers.{index_of, release_by, state_of, stopped, with_calls}
 use Rattle.kcl_sim.proofs.HandTelling.{of_another_run, released_free, run_tells, worker_past_hand}
 
 -- The actor's turns are those of the worker's record, and no command of the worker waits.
@@ -74,7 +74,7 @@ calls_follow : (made : WorkerMade) (kind : Kind) (ks : List Known) (past : Joint
     → Follows made past (with_calls kind ks past)
 calls_follow made kind [] past orderly free = record { orderly = orderly; deals = refl; free = free }
 calls_follow made kind (k ∷ ks) past orderly free =
-    let due = calls_follow made kind ks (Of_worker (Made_call (ask_in kind (phase_of_known k))) ∷ past) (
+    let due = calls_follow made kind ks (Of_worker (Made_call (ask_in kind (stage_of_known k))) ∷ past) (
       free,
       orderly,
     ) free in
@@ -254,26 +254,26 @@ handed ran h p x lt t own others = record {
 
 -- The worker of an actor is at the actor's index.
 placed_by : (low : Bool) (by : ℕ) (es : List Employed) (e : Employed) → nat_le by MOST_ACTOR ≡ low
-    → (if low then None else slice_get es (place_of by)) ≡ Some e
-    → (by ≡ actor_at (place_of by)) × (slice_get es (place_of by) ≡ Some e)
+    → (if low then None else slice_get es (index_of by)) ≡ Some e
+    → (by ≡ actor_at (index_of by)) × (slice_get es (index_of by) ≡ Some e)
 placed_by true by es e l is = absurd cc
 placed_by false by es e l is = (high by l, is)
   where
-    high : (n : ℕ) → nat_le n MOST_ACTOR ≡ false → n ≡ actor_at (place_of n)
+    high : (n : ℕ) → nat_le n MOST_ACTOR ≡ false → n ≡ actor_at (index_of n)
     high n h = grind (arith, nat_tests)
 
-placed : (by : ℕ) (es : List Employed) (e : Employed) → employed_by by es ≡ Some e → (by ≡ actor_at (place_of by))
-    × (slice_get es (place_of by) ≡ Some e)
+placed : (by : ℕ) (es : List Employed) (e : Employed) → employed_by by es ≡ Some e → (by ≡ actor_at (index_of by))
+    × (slice_get es (index_of by) ≡ Some e)
 placed by es e is = placed_by (nat_le by MOST_ACTOR) by es e refl is
 
 command_told : (ran : Ran) (at by : ℕ) (e : Employed) (o : Option Command) → command_at at e ≡ o
-    → by ≡ actor_at (place_of by) → place_of by < length ran.workers → AreTold ran
+    → by ≡ actor_at (index_of by) → index_of by < length ran.workers → AreTold ran
     → IsTold ran.history by e → AreTold (with_command ran at by e o)
 command_told ran at by e None next own lt t told =
-    kept ran (place_of by) e t (subst (λ n. IsTold ran.history n e) own told)
+    kept ran (index_of by) e t (subst (λ n. IsTold ran.history n e) own told)
 command_told ran at by e (Some what) next own lt t told =
     let turn = raw_turn at by what in
-    turned ran turn (place_of by) (answered at (answer ran.history turn) e) own lt t
+    turned ran turn (index_of by) (answered at (answer ran.history turn) e) own lt t
     (subst (λ n. IsTold (turn ∷ ran.history) n (answered at (answer ran.history turn) e)) own
     (told_answered ran.history at by e what next told))
 
@@ -282,30 +282,30 @@ step_told : (ran : Ran) (at by : ℕ) (o : Option Employed) → employed_by by r
 step_told ran at by None is t = t
 step_told ran at by (Some e) is t =
     let p = placed by ran.workers e is in
-    let told = subst (λ n. IsTold ran.history n e) (sym p.0) (t.each (place_of by) e p.1) in
+    let told = subst (λ n. IsTold ran.history n e) (sym p.0) (t.each (index_of by) e p.1) in
     command_told ran at by (all_called e) (command_at at (all_called e)) refl p.0
-    (slice_get_within ran.workers (place_of by) e p.1) t (told_called ran.history by e told)
+    (slice_get_within ran.workers (index_of by) e p.1) t (told_called ran.history by e told)
 
 stop_told : (ran : Ran) (by : ℕ) (o : Option Employed) → employed_by by ran.workers ≡ o → AreTold ran
     → AreTold (with_stop ran by o)
 stop_told ran by None is t = t
 stop_told ran by (Some e) is t =
     let p = placed by ran.workers e is in
-    kept ran (place_of by) (stopped e) t
-    (told_stopped ran.history (actor_at (place_of by)) e (t.each (place_of by) e p.1))
+    kept ran (index_of by) (stopped e) t
+    (told_stopped ran.history (actor_at (index_of by)) e (t.each (index_of by) e p.1))
 
 release_told : (ran : Ran) (at by : ℕ) (key : ShardRef) (e : Employed) (o : Option Release)
-    → release_by key (Some e) ≡ o → by ≡ actor_at (place_of by)
-    → place_of by < length ran.workers → AreTold ran
+    → release_by key (Some e) ≡ o → by ≡ actor_at (index_of by)
+    → index_of by < length ran.workers → AreTold ran
     → IsTold ran.history by e → AreTold (with_release ran at by key e o)
 release_told ran at by key e None which own lt t told = t
 release_told ran at by key e (Some r) which own lt t told =
     let run = hand_run at by ran.history (hand_of r []) in
     let x : Employed = record e { past = with_hand key run.hand.since e.made e.past } in
-    handed ran run.history (place_of by) x lt t
+    handed ran run.history (index_of by) x lt t
     (subst (λ n. IsTold run.history n x) own (told_handed ran.history at by key e r which told))
     (λ q other. of_another_run 3 at by (actor_at q) (λ h what. others_turn (actor_at q) (turn_of at by what) h
-    (ap (λ n. n == actor_at q) own ∙ apart (place_of by) q other)) ran.history (hand_of r []))
+    (ap (λ n. n == actor_at q) own ∙ apart (index_of by) q other)) ran.history (hand_of r []))
 
 hand_told : (ran : Ran) (at by : ℕ) (key : ShardRef) (o : Option Employed) → employed_by by ran.workers ≡ o
     → AreTold ran
@@ -313,8 +313,8 @@ hand_told : (ran : Ran) (at by : ℕ) (key : ShardRef) (o : Option Employed) →
 hand_told ran at by key None is t = t
 hand_told ran at by key (Some e) is t =
     let p = placed by ran.workers e is in
-    let told = subst (λ n. IsTold ran.history n e) (sym p.0) (t.each (place_of by) e p.1) in
-    release_told ran at by key e (release_by key (Some e)) refl p.0 (slice_get_within ran.workers (place_of by) e p.1)
+    let told = subst (λ n. IsTold ran.history n e) (sym p.0) (t.each (index_of by) e p.1) in
+    release_told ran at by key e (release_by key (Some e)) refl p.0 (slice_get_within ran.workers (index_of by) e p.1)
     t told
 
 -- What is found at an index of a list with one more worker.

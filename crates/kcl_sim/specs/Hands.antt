@@ -23,7 +23,7 @@ pub record IsHandOf (v : Handing) (x : HandOff) : Type 0 where
   pub held : v.held ≡ x.held
   pub made : v.consumer.made ≡ x.made
   pub stands : StandsFor Calls v x.before x.since
-  pub leaving : IsLeaving v.consumer.phase
+  pub leaving : IsLeaving v.consumer.stage
 
 -- The command `what` of the actor `by` at the moment `at` after the history `h`, with its answer.
 abbrev pub deal_at : ℕ → ℕ → List Turn → Command → Deal

@@ -15,7 +15,7 @@ use Rattle.kds_defs.specs.declared.command.Command.{Command}
 use Rattle.kds_defs.specs.Histories.{answer}
 use Rattle.kcl_sim.specs.Keeping.{AddsText, if_wanted}
 use Rattle.kcl_sim.specs.Output.{Ran, command_output, output_of, part_of, raw_turn, with_line}
-use Rattle.kcl_sim.specs.Workers.{Employed, all_called, answered, command_at, place_of}
+use Rattle.kcl_sim.specs.Workers.{Employed, all_called, answered, command_at, index_of}
 
 -- A worker whose processors are ready-made ones.
 abbrev pub Stepped : Type 0
@@ -99,9 +99,9 @@ pub record GrowsFew (old new : List Turn) : Type 0 where
 -- ---- Steps
 
 -- The index of the worker of the actor `by` among `count` workers, if the actor has one.
-abbrev pub place_among : ℕ → ℕ → Option ℕ
-place_among by count =
-    if nat_le by MOST_ACTOR then None else (if nat_lt (place_of by) count then Some (place_of by) else None)
+abbrev pub index_among : ℕ → ℕ → Option ℕ
+index_among by count =
+    if nat_le by MOST_ACTOR then None else (if nat_lt (index_of by) count then Some (index_of by) else None)
 
 -- The worker of the record `e` was asked for a command at the moment `at`, and waits for the answer.
 pub record HasAsked (at : ℕ) (w : Stepped) (e : Employed) : Type 0 where

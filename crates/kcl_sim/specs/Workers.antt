@@ -11,9 +11,9 @@ use Rattle.kds_defs.specs.declared.reply.Reply.{Reply}
 use Rattle.kcl_defs.specs.declared.consumer.Ask.{Ask}
 use Rattle.kcl_defs.specs.declared.consumer.Ask.TheVariants as ask
 use Rattle.kcl_defs.specs.declared.consumer.WorkerMade.{WorkerMade}
-use Rattle.kcl_defs.specs.Consumers.{Phase, Holding, first_batch}
+use Rattle.kcl_defs.specs.Consumers.{Stage, Holding, first_batch}
 use Rattle.kcl_defs.specs.Workers.{Known, Release, WorkerState, Made_call, Gave_command, Got_answer, Stopped}
-use Rattle.kcl_defs.specs.Workers.{is_due_known, is_idle, next_pending, phase_of_known, released, usual_settings}
+use Rattle.kcl_defs.specs.Workers.{is_due_known, is_idle, next_pending, stage_of_known, released, usual_settings}
 use Rattle.kcl_hand.specs.Joints.{JointPast, Of_worker, worker_in}
 use Rattle.kcl_proc.specs.declared.stock.Kind.{Kind}
 use Rattle.kcl_proc.specs.Stocks.{asked_of}
@@ -42,21 +42,21 @@ hired name kind from = record {
 abbrev pub actor_at : ℕ → ℕ
 actor_at place = MOST_ACTOR + 1 + place
 
-abbrev pub place_of : ℕ → ℕ
-place_of by = by - (MOST_ACTOR + 1)
+abbrev pub index_of : ℕ → ℕ
+index_of by = by - (MOST_ACTOR + 1)
 
 -- The worker of the actor `by`, if the actor is a worker's.
 abbrev pub employed_by : ℕ → List Employed → Option Employed
-employed_by by workers = if nat_le by MOST_ACTOR then None else slice_get workers (place_of by)
+employed_by by workers = if nat_le by MOST_ACTOR then None else slice_get workers (index_of by)
 
 -- The workers after that of the actor `by` became `e`.
 abbrev pub with_employed : ℕ → Employed → List Employed → List Employed
-with_employed by e workers = slice_set workers (place_of by) e
+with_employed by e workers = slice_set workers (index_of by) e
 
 -- ---- What happens to a worker
 
 -- What a processor of the kind asks for if it is called. Only after a batch that it is handed does it ask for anything.
-abbrev pub ask_in : Kind → Phase → Ask
+abbrev pub ask_in : Kind → Stage → Ask
 ask_in kind (Holding reach waiting) = asked_of kind (first_batch waiting)
 ask_in kind _ = ask.None
 
@@ -65,7 +65,7 @@ abbrev pub with_calls : Kind → List Known → JointPast → JointPast
 with_calls kind [] past = past
 with_calls kind (k ∷ known) past =
     if is_due_known k
-    then with_calls kind known (Of_worker (Made_call (ask_in kind (phase_of_known k))) ∷ past)
+    then with_calls kind known (Of_worker (Made_call (ask_in kind (stage_of_known k))) ∷ past)
     else with_calls kind known past
 
 -- The worker after every due call was made.

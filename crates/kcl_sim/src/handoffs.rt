@@ -28,7 +28,7 @@ use std::alloc::Global;
 /// Makes the processor call that is due in the hand-off, if any.
 fn call_hand(hand: &mut Handover<Stock>) -> Result<(), Memory>
     ensures few { turns_left_in hand.new ≤ turns_left_in hand.old }
-    ensures none_due { OnOk result (due_call hand.new.consumer.phase ≡ None) }
+    ensures none_due { OnOk result (due_call hand.new.consumer.stage ≡ None) }
     ensures called { OnOk result ((x : HandOff) → IsHandOf hand.old x → IsHandOf hand.new (called_up x)) }
 {
     match hand.due() {
@@ -74,13 +74,13 @@ impl<M: Machine, K: Keep> Sim<M, K> {
         text: &mut Octets,
     ) -> Result<(), Memory>
         requires early { at < 2 ^ 62 }
-        requires none_due { due_call hand.old.consumer.phase ≡ None }
+        requires none_due { due_call hand.old.consumer.stage ≡ None }
         requires going { left_at hand.old.stand ≡ None }
         ensures over { self.new.over ≡ self.old.over }
         ensures workers { self.new.workers ≡ self.old.workers }
         ensures told { self.new.told ≡ self.old.told }
         ensures fewer { OnOk result (turns_left_in hand.new < turns_left_in hand.old) }
-        ensures none_due { OnOk result (due_call hand.new.consumer.phase ≡ None) }
+        ensures none_due { OnOk result (due_call hand.new.consumer.stage ≡ None) }
         ensures made { OnOk result (MadeRound K.wanted at by self.old self.new hand.old hand.new text.old text.new) }
         ensures breaks { OnErr result ((self.new.history ≡ self.old.history)
             ⊎ RanCommand at by self.old self.new hand.old) }

@@ -11,7 +11,7 @@ ghost use Rattle.kcl_script.specs.declared.line.Line.TheVariants as line;
 ghost use Rattle.kcl_sim.specs.Output.{Ran, command_output, raw_turn};
 ghost use Rattle.kcl_sim.specs.Keeping.{if_wanted};
 ghost use Rattle.kcl_sim.specs.Standing.{ChangedAt, Employs, GoesOn, HasAsked, IsFree, MayHaveRun, RunsSo, StepsAt};
-ghost use Rattle.kcl_sim.specs.Standing.{TookAnswer, TurnRan, place_among};
+ghost use Rattle.kcl_sim.specs.Standing.{TookAnswer, TurnRan, index_among};
 ghost use Rattle.kcl_sim.specs.Workers.{Employed, answered, stopped};
 
 use crate::keep::Keep;
@@ -69,7 +69,7 @@ impl<M: Machine, K: Keep> Sim<M, K> {
 
     /// Returns the index of the worker that is the actor `by`, or `None` if no worker is this actor.
     pub(crate) fn index_of(&self, by: u32) -> Option<usize>
-        ensures { result ≡ place_among by (length self.now.workers) }
+        ensures { result ≡ index_among by (length self.now.workers) }
     {
         if by <= MOST_ACTOR {
             return None;

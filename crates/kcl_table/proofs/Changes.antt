@@ -11,7 +11,7 @@ use Rattle.kds_defs.specs.Leases.{is_other, taken_row}
 use Rattle.kds_defs.proofs.Keys.{after_else, before_else, not_before_after, not_same, same_ref}
 use Rattle.kcl_table.specs.declared.writes.Change.{Change}
 use Rattle.kcl_table.specs.declared.writes.Change.TheVariants.{Renewed, Freed}
-use Rattle.kcl_table.specs.Rows.{AreCounted, AreInOrder, IsBeforeAll, IsTable, changed, place_of, row_of, with_row}
+use Rattle.kcl_table.specs.Rows.{AreCounted, AreInOrder, IsBeforeAll, IsTable, changed, index_of, row_of, with_row}
 use Rattle.kcl_table.specs.Rows.{without_row}
 use Rattle.kcl_table.specs.Writes.{written_row}
 use Rattle.kcl_table.proofs.Places.{absent, before_all}
@@ -86,10 +86,10 @@ puts f key r row rs counted h is keeps =
 
 set_here : (row x : Row) (rs : List Row) (b d : Bool) → is_before x.key row.key ≡ b → same_key x.key row.key ≡ d
     → AreInOrder (x ∷ rs) → ((if d then Some x else row_of rs row.key) ≡ None → ⊥)
-    → ((row_of rs row.key ≡ None → ⊥) → (place_of row.key rs < length rs)
-    × (slice_set rs (place_of row.key rs) row ≡ changed (λ _. row) row.key rs))
-    → ((if b then suc (place_of row.key rs) else 0) < suc (length rs))
-    × (slice_set (x ∷ rs) (if b then suc (place_of row.key rs) else 0) row
+    → ((row_of rs row.key ≡ None → ⊥) → (index_of row.key rs < length rs)
+    × (slice_set rs (index_of row.key rs) row ≡ changed (λ _. row) row.key rs))
+    → ((if b then suc (index_of row.key rs) else 0) < suc (length rs))
+    × (slice_set (x ∷ rs) (if b then suc (index_of row.key rs) else 0) row
     ≡ (if d then row ∷ rs else x ∷ changed (λ _. row) row.key rs))
 set_here row x rs true true before same order there rest =
     absurd (apart (same_key x.key row.key) same (not_same x.key row.key before))
@@ -100,7 +100,7 @@ set_here row x rs false false before same order there rest =
     absurd (there (absent row.key rs (before_all row.key x.key rs (after_else x.key row.key before same) order.0)))
 
 pub set_is : (row : Row) (rs : List Row) → AreInOrder rs → (row_of rs row.key ≡ None → ⊥)
-    → (place_of row.key rs < length rs) × (slice_set rs (place_of row.key rs) row ≡ changed (λ _. row) row.key rs)
+    → (index_of row.key rs < length rs) × (slice_set rs (index_of row.key rs) row ≡ changed (λ _. row) row.key rs)
 set_is row [] order there = absurd (there refl)
 set_is row (x ∷ rs) order there =
     set_here row x rs (is_before x.key row.key) (same_key x.key row.key) refl refl order there (set_is row rs order.1)
@@ -144,8 +144,8 @@ none_of key x rs true same h = absurd (no x h)
 none_of key x rs false same h = (refl, h)
 
 insert_here : (new x : Row) (rs : List Row) (b : Bool) → is_before x.key new.key ≡ b → same_key x.key new.key ≡ false
-    → insert rs (place_of new.key rs) new ≡ with_row new rs
-    → insert (x ∷ rs) (if b then suc (place_of new.key rs) else 0) new
+    → insert rs (index_of new.key rs) new ≡ with_row new rs
+    → insert (x ∷ rs) (if b then suc (index_of new.key rs) else 0) new
     ≡ (if is_before new.key x.key then new ∷ x ∷ rs else x ∷ with_row new rs)
 insert_here new x rs true before same rest =
     ap (λ ys. x ∷ ys) rest
@@ -154,7 +154,7 @@ insert_here new x rs false before same rest =
     ap (λ e. if e then new ∷ x ∷ rs else x ∷ with_row new rs) (sym (after_else x.key new.key before same))
 
 pub insert_is : (new : Row) (rs : List Row) → row_of rs new.key ≡ None
-    → insert rs (place_of new.key rs) new ≡ with_row new rs
+    → insert rs (index_of new.key rs) new ≡ with_row new rs
 insert_is new [] h = refl
 insert_is new (x ∷ rs) h =
     let n = none_of new.key x rs (same_key x.key new.key) refl h in
@@ -192,9 +192,9 @@ table_with new (x ∷ rs) h counted table =
 
 remove_here : (key : ShardRef) (x r : Row) (rs : List Row) (b d : Bool) → is_before x.key key ≡ b
     → same_key x.key key ≡ d → AreInOrder (x ∷ rs) → (if d then Some x else row_of rs key) ≡ Some r
-    → (row_of rs key ≡ Some r → (place_of key rs < length rs) × (remove rs (place_of key rs) ≡ without_row key rs))
-    → ((if b then suc (place_of key rs) else 0) < suc (length rs))
-    × (remove (x ∷ rs) (if b then suc (place_of key rs) else 0) ≡ (if d then rs else x ∷ without_row key rs))
+    → (row_of rs key ≡ Some r → (index_of key rs < length rs) × (remove rs (index_of key rs) ≡ without_row key rs))
+    → ((if b then suc (index_of key rs) else 0) < suc (length rs))
+    × (remove (x ∷ rs) (if b then suc (index_of key rs) else 0) ≡ (if d then rs else x ∷ without_row key rs))
 remove_here key x r rs true true before same order h rest =
     absurd (apart (same_key x.key key) same (not_same x.key key before))
 remove_here key x r rs true false before same order h rest = let g = rest h in
@@ -207,7 +207,7 @@ remove_here key x r rs false false before same order h rest =
     none_some r h = cc
 
 pub remove_is : (key : ShardRef) (r : Row) (rs : List Row) → AreInOrder rs → row_of rs key ≡ Some r
-    → (place_of key rs < length rs) × (remove rs (place_of key rs) ≡ without_row key rs)
+    → (index_of key rs < length rs) × (remove rs (index_of key rs) ≡ without_row key rs)
 remove_is key r [] order h = absurd cc
 remove_is key r (x ∷ rs) order h =
     remove_here key x r rs (is_before x.key key) (same_key x.key key) refl refl order h (remove_is key r rs order.1)

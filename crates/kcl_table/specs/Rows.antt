@@ -43,9 +43,9 @@ IsTable rs = AreInOrder rs × AreCounted rs
 
 -- The number of rows that come before a key. This is the index of the key's row, or the index at which it would be
 -- inserted.
-abbrev pub place_of : ShardRef → List Row → ℕ
-place_of key [] = 0
-place_of key (r ∷ rs) = if is_before r.key key then suc (place_of key rs) else 0
+abbrev pub index_of : ShardRef → List Row → ℕ
+index_of key [] = 0
+index_of key (r ∷ rs) = if is_before r.key key then suc (index_of key rs) else 0
 
 -- The row at that index, if it is the key's.
 abbrev pub if_key : ShardRef → Option Row → Option Row

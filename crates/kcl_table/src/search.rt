@@ -1,7 +1,7 @@
 //! Finds the row with a given key among the rows of the lease table.
 ghost use Rattle.std.specs.Prelude.{◌≡◌, ◌≤◌, length, slice_get};
 ghost use Rattle.std.specs.Option.{option_map};
-ghost use Rattle.kcl_table.specs.Rows.{AreInOrder, if_key, place_of, row_of};
+ghost use Rattle.kcl_table.specs.Rows.{AreInOrder, if_key, index_of, row_of};
 
 use kds_base::ShardRef;
 use kds_defs::{Row, is_before};
@@ -10,7 +10,7 @@ use kds_defs::{Row, is_before};
 /// belongs.
 pub fn index_of(rows: &[Row], key: &ShardRef) -> usize
     requires { AreInOrder rows.now }
-    ensures value { result ≡ place_of key.now rows.now }
+    ensures value { result ≡ index_of key.now rows.now }
     ensures within { result ≤ length rows.now }
 {
     rows.partition_point(|row| is_before(&row.key, key))

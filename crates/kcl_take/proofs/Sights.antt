@@ -12,7 +12,7 @@ use Rattle.kds_defs.specs.declared.reply.Row.{Row}
 use Rattle.kds_defs.specs.Keys.{is_before, same_key}
 use Rattle.kds_defs.proofs.Keys.{same_ref, before_both, not_same, not_same_after, after_else}
 use Rattle.kcl_defs.specs.Plans.{after_row, after_rows, seen_at, with_sight}
-use Rattle.kcl_take.specs.Notes.{AreInOrder, IsBeforeAll, first_note, if_key, noted, noted_all, place_of}
+use Rattle.kcl_take.specs.Notes.{AreInOrder, IsBeforeAll, first_note, if_key, noted, noted_all, index_of}
 
 -- ---- Keys
 
@@ -42,16 +42,16 @@ partitioned key (s ∷ xs) order (suc i) (suc j) d le within is =
     partitioned key xs order.1 i j d (omega arith) (omega arith) is
 
 pub place_is : (key : ShardRef) (xs : List Seen) (i : ℕ) → i ≤ length xs
-    → IsPartitionPoint (λ s. comes_before key s ≡ true) (λ s. comes_before key s ≡ false) xs i → i ≡ place_of key xs
+    → IsPartitionPoint (λ s. comes_before key s ≡ true) (λ s. comes_before key s ≡ false) xs i → i ≡ index_of key xs
 place_is key [] i le h = omega arith
 place_is key (s ∷ xs) zero le h =
-    ap (λ b. if b then suc (place_of key xs) else 0) (sym (h.1 0 s (omega arith) (omega arith)))
+    ap (λ b. if b then suc (index_of key xs) else 0) (sym (h.1 0 s (omega arith) (omega arith)))
 place_is key (s ∷ xs) (suc i) le h =
     let rest = place_is key xs i (omega arith) (
       λ k d low high. h.0 (suc k) d (omega arith) (omega arith),
       λ k d low high. h.1 (suc k) d (omega arith) (omega arith),
     ) in
-    ap suc rest ∙ ap (λ b. if b then suc (place_of key xs) else 0) (sym (h.0 0 s (omega arith) (omega arith)))
+    ap suc rest ∙ ap (λ b. if b then suc (index_of key xs) else 0) (sym (h.0 0 s (omega arith) (omega arith)))
 
 absent : (key : ShardRef) (xs : List Seen) → IsBeforeAll key xs → seen_at xs key ≡ None
 absent key [] all = refl
@@ -60,8 +60,8 @@ absent key (s ∷ xs) all = ap (λ b. if b then Some s else seen_at xs key) (not
 
 seen_here : (key : ShardRef) (s : Seen) (xs : List Seen) (b d : Bool) → is_before s.key key ≡ b → same_key s.key key ≡ d
     → AreInOrder (s ∷ xs)
-    → seen_at xs key ≡ if_key key (slice_get xs (place_of key xs))
-    → (if d then Some s else seen_at xs key) ≡ if_key key (slice_get (s ∷ xs) (if b then suc (place_of key xs) else 0))
+    → seen_at xs key ≡ if_key key (slice_get xs (index_of key xs))
+    → (if d then Some s else seen_at xs key) ≡ if_key key (slice_get (s ∷ xs) (if b then suc (index_of key xs) else 0))
 seen_here key s xs true true before same order rest =
     absurd (apart (same_key s.key key) same (not_same s.key key before))
 seen_here key s xs true false before same order rest = rest
@@ -71,7 +71,7 @@ seen_here key s xs false false before same order rest =
     ∙ ap (λ d. if d then Some s else None) (sym same)
 
 pub seen_there : (key : ShardRef) (xs : List Seen) → AreInOrder xs
-    → seen_at xs key ≡ if_key key (slice_get xs (place_of key xs))
+    → seen_at xs key ≡ if_key key (slice_get xs (index_of key xs))
 seen_there key [] order = refl
 seen_there key (s ∷ xs) order =
     seen_here key s xs (is_before s.key key) (same_key s.key key) refl refl order (seen_there key xs order.1)
@@ -92,12 +92,12 @@ differ a b h = grind (arith, nat_tests, h)
 
 -- A note with another counter is replaced.
 set_here : (first s x : Seen) (xs : List Seen) (b : Bool)
-    → if_key first.key (slice_get (x ∷ xs) (if b then suc (place_of first.key xs) else 0)) ≡ Some s
+    → if_key first.key (slice_get (x ∷ xs) (if b then suc (index_of first.key xs) else 0)) ≡ Some s
     → (s.counter ≡ first.counter → ⊥)
-    → (if_key first.key (slice_get xs (place_of first.key xs)) ≡ Some s → (place_of first.key xs < length xs)
-    × (slice_set xs (place_of first.key xs) first ≡ noted first xs))
-    → ((if b then suc (place_of first.key xs) else 0) < suc (length xs))
-    × (slice_set (x ∷ xs) (if b then suc (place_of first.key xs) else 0) first
+    → (if_key first.key (slice_get xs (index_of first.key xs)) ≡ Some s → (index_of first.key xs < length xs)
+    × (slice_set xs (index_of first.key xs) first ≡ noted first xs))
+    → ((if b then suc (index_of first.key xs) else 0) < suc (length xs))
+    × (slice_set (x ∷ xs) (if b then suc (index_of first.key xs) else 0) first
     ≡ (if b then x ∷ noted first xs else if same_key x.key first.key then
     (if x.counter == first.counter then x else first) ∷ xs else first ∷ x ∷ xs))
 set_here first s x xs true h other rest = let g = rest h in (omega (arith, g.0), ap (λ ys. x ∷ ys) g.1)
@@ -109,18 +109,18 @@ set_here first s x xs false h other rest = (omega arith, here (same_key x.key fi
         (sym (differ x.counter first.counter (λ e. other (ap (λ (y : Seen). y.counter) (sym (same_some x s h)) ∙ e))))
     here false h = absurd (none_some s h)
 
-pub set_is : (first s : Seen) (xs : List Seen) → if_key first.key (slice_get xs (place_of first.key xs)) ≡ Some s
+pub set_is : (first s : Seen) (xs : List Seen) → if_key first.key (slice_get xs (index_of first.key xs)) ≡ Some s
     → (s.counter ≡ first.counter → ⊥)
-    → (place_of first.key xs < length xs) × (slice_set xs (place_of first.key xs) first ≡ noted first xs)
+    → (index_of first.key xs < length xs) × (slice_set xs (index_of first.key xs) first ≡ noted first xs)
 set_is first s [] h other = absurd (none_some s h)
 set_is first s (x ∷ xs) h other =
     set_here first s x xs (is_before x.key first.key) h other (λ g. set_is first s xs g other)
 
 -- A note with the same counter stays.
 kept_here : (first s x : Seen) (xs : List Seen) (b : Bool)
-    → if_key first.key (slice_get (x ∷ xs) (if b then suc (place_of first.key xs) else 0)) ≡ Some s
+    → if_key first.key (slice_get (x ∷ xs) (if b then suc (index_of first.key xs) else 0)) ≡ Some s
     → s.counter ≡ first.counter
-    → (if_key first.key (slice_get xs (place_of first.key xs)) ≡ Some s → xs ≡ noted first xs)
+    → (if_key first.key (slice_get xs (index_of first.key xs)) ≡ Some s → xs ≡ noted first xs)
     → x ∷ xs ≡ (if b then x
     ∷ noted first xs else if same_key x.key first.key then (if x.counter == first.counter then x else first)
     ∷ xs else first ∷ x ∷ xs)
@@ -133,7 +133,7 @@ kept_here first s x xs false h same rest = here (same_key x.key first.key) h
         (sym (same_then x.counter first.counter (ap (λ (y : Seen). y.counter) (same_some x s h) ∙ same)))
     here false h = absurd (none_some s h)
 
-pub kept_is : (first s : Seen) (xs : List Seen) → if_key first.key (slice_get xs (place_of first.key xs)) ≡ Some s
+pub kept_is : (first s : Seen) (xs : List Seen) → if_key first.key (slice_get xs (index_of first.key xs)) ≡ Some s
     → s.counter ≡ first.counter
     → xs ≡ noted first xs
 kept_is first s [] h same = absurd (none_some s h)
@@ -142,10 +142,10 @@ kept_is first s (x ∷ xs) h same =
 
 -- If there is no note, the first one is inserted.
 insert_here : (first x : Seen) (xs : List Seen) (b : Bool)
-    → if_key first.key (slice_get (x ∷ xs) (if b then suc (place_of first.key xs) else 0)) ≡ None
-    → (if_key first.key (slice_get xs (place_of first.key xs)) ≡ None
-    → insert xs (place_of first.key xs) first ≡ noted first xs)
-    → insert (x ∷ xs) (if b then suc (place_of first.key xs) else 0) first
+    → if_key first.key (slice_get (x ∷ xs) (if b then suc (index_of first.key xs) else 0)) ≡ None
+    → (if_key first.key (slice_get xs (index_of first.key xs)) ≡ None
+    → insert xs (index_of first.key xs) first ≡ noted first xs)
+    → insert (x ∷ xs) (if b then suc (index_of first.key xs) else 0) first
     ≡ (if b then x ∷ noted first xs else if same_key x.key first.key then
     (if x.counter == first.counter then x else first) ∷ xs else first ∷ x ∷ xs)
 insert_here first x xs true h rest = ap (λ ys. x ∷ ys) (rest h)
@@ -156,8 +156,8 @@ insert_here first x xs false h rest = here (same_key x.key first.key) h
     here true h = absurd (some_none x h)
     here false h = refl
 
-pub insert_is : (first : Seen) (xs : List Seen) → if_key first.key (slice_get xs (place_of first.key xs)) ≡ None
-    → insert xs (place_of first.key xs) first ≡ noted first xs
+pub insert_is : (first : Seen) (xs : List Seen) → if_key first.key (slice_get xs (index_of first.key xs)) ≡ None
+    → insert xs (index_of first.key xs) first ≡ noted first xs
 insert_is first [] h = refl
 insert_is first (x ∷ xs) h = insert_here first x xs (is_before x.key first.key) h (insert_is first xs)
 

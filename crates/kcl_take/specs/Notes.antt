@@ -21,9 +21,9 @@ AreInOrder (s ∷ seen) = IsBeforeAll s.key seen × AreInOrder seen
 
 -- The number of notes that come before a key. This is the index of the note on the key's row, or the index at which
 -- such a note would be inserted.
-abbrev pub place_of : ShardRef → List Seen → ℕ
-place_of key [] = 0
-place_of key (s ∷ seen) = if is_before s.key key then suc (place_of key seen) else 0
+abbrev pub index_of : ShardRef → List Seen → ℕ
+index_of key [] = 0
+index_of key (s ∷ seen) = if is_before s.key key then suc (index_of key seen) else 0
 
 -- The note at that index, if it is on the row of the key.
 abbrev pub if_key : ShardRef → Option Seen → Option Seen

@@ -3,7 +3,7 @@
 ghost use Rattle.std.specs.Prelude.{◌≡◌, ◌≤◌, [], length, slice_get, IfOk, OnOk, OnErr};
 ghost use Rattle.kds_base.specs.declared.lease_key.ShardRef.{ShardRef};
 ghost use Rattle.kcl_defs.specs.Plans.{after_rows, is_expired_since, seen_at};
-ghost use Rattle.kcl_take.specs.Notes.{AreInOrder, first_note, if_key, noted, noted_all, place_of};
+ghost use Rattle.kcl_take.specs.Notes.{AreInOrder, first_note, if_key, noted, noted_all, index_of};
 
 use kcl_defs::Seen;
 use kds_base::{Memory, Moment, ShardRef};
@@ -46,7 +46,7 @@ fn first_note(r: &Row, now: Moment) -> Seen
 /// with the key `key` belongs.
 fn index_of(seen: &[Seen], key: &ShardRef) -> usize
     requires { AreInOrder seen.now }
-    ensures value { result ≡ place_of key.now seen.now }
+    ensures value { result ≡ index_of key.now seen.now }
     ensures within { result ≤ length seen.now }
 {
     seen.partition_point(|s| is_before(&s.key, key))

@@ -14,10 +14,10 @@ use Rattle.kcl_defs.specs.Consumers.{Losing}
 use Rattle.kcl_defs.specs.Workers.{AtConsumers, AtRenewals, AtSync, Chore, Consuming, Finishing, Freeing, Got_answer}
 use Rattle.kcl_defs.specs.Workers.{Known, Pending, Renewing, Round, WorkerPast, WorkerState, absorbed, after_chore}
 use Rattle.kcl_defs.specs.Workers.{after_renewal, consumed, happens_to, held_after, held_unless_over, id_of, id_of_held}
-use Rattle.kcl_defs.specs.Workers.{known_of, phase_in, same_id, settled, without_held, worker_after}
+use Rattle.kcl_defs.specs.Workers.{known_of, stage_in, same_id, settled, without_held, worker_after}
 use Rattle.kcl_consumer.specs.Standing.{Standing}
 use Rattle.kcl_worker_lists.specs.Changes.{answered_among, held_in, kept_unless_over, live_among, lost_among, one_of}
-use Rattle.kcl_worker_lists.specs.Changes.{phase_or_opening, retired_among}
+use Rattle.kcl_worker_lists.specs.Changes.{stage_or_opening, retired_among}
 use Rattle.kcl_worker.specs.Standing.{settled_in}
 use Rattle.kcl_worker_lists.specs.Lists.{Retirement}
 use Rattle.kcl_worker.specs.Standing.{ConsumersStand, RetirementsStand, ShowsState, StandsFor, WorkerStanding}
@@ -110,18 +110,18 @@ finished_shows stands w s id answer h = record {
   retired = h.retired;
 }
 
--- The consumer of a lease is in the same phase in the code's list and in the record.
-phase_found : {P : Type 0} (o : Option (Standing P)) (k : Option Known) → IsFoundSo o k
-    → phase_or_opening o ≡ phase_in k
-phase_found None None f = refl
-phase_found (Some c) (Some k) f = f.1
-phase_found None (Some k) f = absurd f
-phase_found (Some c) None f = absurd f
+-- The consumer of a lease is in the same stage in the code's list and in the record.
+stage_found : {P : Type 0} (o : Option (Standing P)) (k : Option Known) → IsFoundSo o k
+    → stage_or_opening o ≡ stage_in k
+stage_found None None f = refl
+stage_found (Some c) (Some k) f = f.1
+stage_found None (Some k) f = absurd f
+stage_found (Some c) None f = absurd f
 
 kept_found : {P : Type 0} (id : LeaseId) (o : Option (Standing P)) (k : Option Known) (held : List Held) → IsFoundSo o k
     → kept_unless_over id o held ≡ held_unless_over id k held
 kept_found id None None held f = refl
-kept_found id (Some c) (Some k) held f = ap (λ p. kept_unless_over id (Some (record c { phase = p })) held) f.1
+kept_found id (Some c) (Some k) held f = ap (λ p. kept_unless_over id (Some (record c { stage = p })) held) f.1
 kept_found id None (Some k) held f = absurd f
 kept_found id (Some c) None held f = absurd f
 
@@ -145,13 +145,13 @@ consumed_shows stands w s now id answer h =
       seen = h.seen;
       held =
           ap (λ hs. kept_unless_over id (one_of id (answered_among id answer w.consumers))
-          (held_after now id (phase_or_opening (one_of id w.consumers)) answer hs)) h.held
+          (held_after now id (stage_or_opening (one_of id w.consumers)) answer hs)) h.held
           ∙ ap (λ p. kept_unless_over id (one_of id (answered_among id answer w.consumers))
           (held_after now id p answer s.held))
-          (phase_found (one_of id w.consumers) (known_of id s.consumers) first)
+          (stage_found (one_of id w.consumers) (known_of id s.consumers) first)
           ∙ kept_found id (one_of id (answered_among id answer w.consumers))
           (known_of id (consumed id answer s.consumers))
-          (held_after now id (phase_in (known_of id s.consumers)) answer s.held) last;
+          (held_after now id (stage_in (known_of id s.consumers)) answer s.held) last;
       consumers = after;
       retired = h.retired;
     }

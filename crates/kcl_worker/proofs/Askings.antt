@@ -8,7 +8,7 @@ use Rattle.kcl_defs.specs.declared.plans.LeaseId.{LeaseId}
 use Rattle.kds_defs.specs.declared.reply.Refusal.{Refusal}
 use Rattle.kds_defs.specs.declared.reply.Reply.{Reply}
 use Rattle.kds_defs.specs.declared.reply.Stored.{Stored}
-use Rattle.kcl_defs.specs.Consumers.{Phase, Opening, Starting, Filling, Holding, Giving, Marking, Ending, MarkingEnd}
+use Rattle.kcl_defs.specs.Consumers.{Stage, Opening, Starting, Filling, Holding, Giving, Marking, Ending, MarkingEnd}
 use Rattle.kcl_defs.specs.Consumers.{Leaving, Over, due_call}
 use Rattle.kcl_defs.specs.Workers.{Known, is_before_id, is_due_known, same_id}
 use Rattle.kcl_consumer.specs.Standing.{HasAsked, Standing}
@@ -18,7 +18,7 @@ use Rattle.kcl_worker_lists.specs.Changes.{live_among, lost_among, lost_in, with
 use Rattle.kcl_worker_lists.specs.Lists.{id_in}
 use Rattle.kcl_worker_lists.specs.Lists.{is_due}
 use Rattle.kcl_worker.specs.Standing.{ConsumersStand}
-use Rattle.kcl_worker.proofs.Happenings.{phase_known}
+use Rattle.kcl_worker.proofs.Happenings.{stage_known}
 
 pub within_lost : {P : Type 0} (asks : P → List Stored → Ask → Type 0) (may : List Stored → Ask → Type 0) (t : LeaseId
     → Bool) (cs : List (Standing P)) → AskWithin asks may cs → AskWithin asks may (lost_among t cs)
@@ -107,9 +107,9 @@ within_uncalled stands asks may old new f w =
     subst (AskWithin asks may) (sym f.is)
     (steady_among asks may f.before f.behind f.one f.same f.has.steady (subst (AskWithin asks may) f.was w))
 
-is_ask : {P : Type 0} (asks : P → List Stored → Ask → Type 0) (may : List Stored → Ask → Type 0) (p : P) (phase : Phase)
-    (asked : Ask) → HasAsked asks p phase asked → ((batch : List Stored) (a : Ask) → asks p batch a → may batch a)
-    → IsAsk may phase asked
+is_ask : {P : Type 0} (asks : P → List Stored → Ask → Type 0) (may : List Stored → Ask → Type 0) (p : P) (stage : Stage)
+    (asked : Ask) → HasAsked asks p stage asked → ((batch : List Stored) (a : Ask) → asks p batch a → may batch a)
+    → IsAsk may stage asked
 is_ask asks may p Opening asked h f = h
 is_ask asks may p Starting asked h f = h
 is_ask asks may p (Filling reach waiting) asked h f = h
@@ -123,20 +123,20 @@ is_ask asks may p (Over why) asked h f = h
 
 ask_among : {P : Type 0} (stands : P → List Call → Type 0) (asks : P → List Stored → Ask → Type 0) (may : List Stored
     → Ask → Type 0) (asked : Ask) (before behind : List (Standing P)) (one : Standing P) (ks : List Known)
-    → AllByRecursion (λ c. is_due c ≡ false) before → is_due one ≡ true → HasAsked asks one.processor one.phase asked
+    → AllByRecursion (λ c. is_due c ≡ false) before → is_due one ≡ true → HasAsked asks one.processor one.stage asked
     → AskWithin asks may (before ++ (one ∷ behind)) → ConsumersStand stands (before ++ (one ∷ behind)) ks
     → IsAskOf may (find is_due_known ks) asked
 ask_among stands asks may asked [] behind one [] none due has w s = absurd s
 ask_among stands asks may asked [] behind one (k ∷ ks) none due has w s =
-    head (is_due_known k) (sym due ∙ ap (λ p. is_some (due_call p)) (phase_known stands one k (s.0, s.1)))
+    head (is_due_known k) (sym due ∙ ap (λ p. is_some (due_call p)) (stage_known stands one k (s.0, s.1)))
   where
     head : (b : Bool) → true ≡ b → IsAskOf may (cond b (Some k) (find is_due_known ks)) asked
-    head true e = subst (λ p. IsAsk may p asked) (phase_known stands one k (s.0, s.1))
-        (is_ask asks may one.processor one.phase asked has w.0)
+    head true e = subst (λ p. IsAsk may p asked) (stage_known stands one k (s.0, s.1))
+        (is_ask asks may one.processor one.stage asked has w.0)
     head false e = absurd cc
 ask_among stands asks may asked (c ∷ before) behind one [] none due has w s = absurd s
 ask_among stands asks may asked (c ∷ before) behind one (k ∷ ks) none due has w s =
-    head (is_due_known k) (sym none.0 ∙ ap (λ p. is_some (due_call p)) (phase_known stands c k (s.0, s.1)))
+    head (is_due_known k) (sym none.0 ∙ ap (λ p. is_some (due_call p)) (stage_known stands c k (s.0, s.1)))
     (ask_among stands asks may asked before behind one ks none.1 due has w.1 s.2)
   where
     head : (b : Bool) → false ≡ b → IsAskOf may (find is_due_known ks) asked

@@ -7,14 +7,14 @@ use Rattle.kds_defs.specs.declared.reply.Stored.{Stored}
 use Rattle.kcl_defs.specs.declared.consumer.Ask.{Ask}
 use Rattle.kcl_defs.specs.declared.consumer.Call.{Call}
 use Rattle.kcl_defs.specs.declared.consumer.Tenancy.{Tenancy}
-use Rattle.kcl_defs.specs.Consumers.{Phase, Opening, Starting, Filling, Holding, Giving, Marking, Ending, MarkingEnd}
+use Rattle.kcl_defs.specs.Consumers.{Stage, Opening, Starting, Filling, Holding, Giving, Marking, Ending, MarkingEnd}
 use Rattle.kcl_defs.specs.Consumers.{Leaving, Over, after_call, due_call}
 use Rattle.kcl_consumer.specs.Standing.{Standing}
 use Rattle.kcl_worker_lists.specs.Changes.{FirstCalled, is_over_in, live_among}
 use Rattle.kcl_worker_lists.specs.Lists.{due_count, is_due}
 
 -- After its call, a processor has no call that is due.
-pub not_again : (made : Tenancy) (a : Ask) (p : Phase) → is_some (due_call p) ≡ true
+pub not_again : (made : Tenancy) (a : Ask) (p : Stage) → is_some (due_call p) ≡ true
     → is_some (due_call (after_call made a p)) ≡ false
 not_again made a Opening h = absurd cc
 not_again made a Starting h = refl
@@ -69,7 +69,7 @@ pub fewer_due : {P : Type 0} (stands : P → List Call → Type 0) (asks : P →
     → settled ≡ live_among new → due_count settled < due_count old
 fewer_due stands asks asked old new settled f is =
     let quiet : is_due f.called ≡ false =
-    ap (λ p. is_some (due_call p)) f.has.phase ∙ not_again f.one.made asked f.one.phase f.due in
+    ap (λ p. is_some (due_call p)) f.has.stage ∙ not_again f.one.made asked f.one.stage f.due in
     omega (
       arith,
       ap due_count is,

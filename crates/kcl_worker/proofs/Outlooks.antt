@@ -16,12 +16,12 @@ use Rattle.kcl_defs.specs.declared.plans.Held.{Held}
 use Rattle.kcl_defs.specs.declared.plans.LeaseId.{LeaseId}
 use Rattle.kcl_defs.specs.declared.plans.SyncStep.{SyncStep}
 use Rattle.kcl_defs.specs.declared.plans.TakeStep.{TakeStep}
-use Rattle.kcl_defs.specs.Consumers.{Phase, due_call, next_command, over_at, phase_after}
+use Rattle.kcl_defs.specs.Consumers.{Stage, due_call, next_command, over_at, stage_after}
 use Rattle.kcl_defs.specs.Workers.{Known, WorkerState, WorkerPast, Gave_command, Pending, Round, AtStopping, Surveying}
 use Rattle.kcl_defs.specs.Workers.{Consuming, Finishing, Freeing, chore_from, consumer_chore, consumer_command}
-use Rattle.kcl_defs.specs.Workers.{counter_of, freeing_chore, from_consumers, id_of, is_giving, is_giving_phase}
+use Rattle.kcl_defs.specs.Workers.{counter_of, freeing_chore, from_consumers, id_of, is_giving, is_giving_stage}
 use Rattle.kcl_defs.specs.Workers.{is_nothing_held, is_past, is_stopping, known_of, next_pending, pending_chore}
-use Rattle.kcl_defs.specs.Workers.{pending_of, phase_of_known, same_id, stopping_chore, worker_after}
+use Rattle.kcl_defs.specs.Workers.{pending_of, stage_of_known, same_id, stopping_chore, worker_after}
 use Rattle.kcl_consumer.specs.Standing.{Standing}
 use Rattle.kcl_worker.specs.declared.round.Asked.{Asked}
 use Rattle.kcl_worker.specs.declared.round.Asked.TheVariants as asked
@@ -31,30 +31,30 @@ use Rattle.kcl_worker.specs.Parts.{chore_of}
 use Rattle.kcl_worker_lists.specs.Lists.{due_in, due_or, is_due}
 use Rattle.kcl_worker.specs.Standing.{ConsumersStand, ShowsState, StandsFor, WorkerStanding, is_due_in, is_giving_in}
 use Rattle.kcl_worker.specs.Standing.{is_idle_in}
-use Rattle.kcl_worker.proofs.Happenings.{phase_known}
+use Rattle.kcl_worker.proofs.Happenings.{stage_known}
 
 -- ---- The same consumer is found in the code's list and in the record
 
 abbrev pub IsFoundSo : {P : Type 0} → Option (Standing P) → Option Known → Type 0
 IsFoundSo None None = Unit {0}
-IsFoundSo (Some c) (Some k) = (c.made ≡ k.made) × (c.phase ≡ phase_of_known k)
+IsFoundSo (Some c) (Some k) = (c.made ≡ k.made) × (c.stage ≡ stage_of_known k)
 IsFoundSo None (Some k) = ⊥
 IsFoundSo (Some c) None = ⊥
 
-pub found_so : {P : Type 0} (stands : P → List Call → Type 0) (t : LeaseId → Phase → Bool) (cs : List (Standing P))
+pub found_so : {P : Type 0} (stands : P → List Call → Type 0) (t : LeaseId → Stage → Bool) (cs : List (Standing P))
     (ks : List Known) → ConsumersStand stands cs ks
-    → IsFoundSo (find (λ c. t (id_in c) c.phase) cs) (find (λ k. t (id_of k) (phase_of_known k)) ks)
+    → IsFoundSo (find (λ c. t (id_in c) c.stage) cs) (find (λ k. t (id_of k) (stage_of_known k)) ks)
 found_so stands t [] [] s = tt
 found_so stands t (c ∷ cs) (k ∷ ks) s =
-    let same : c.phase ≡ phase_of_known k = s.1.phase ∙ ap (λ m. phase_after m k.past) s.0 in
-    let e : t (id_in c) c.phase ≡ t (id_of k) (phase_of_known k) =
-    ap (λ m. t (record { key = m.key; tenure = m.tenure }) c.phase) s.0 ∙ ap (λ p. t (id_of k) p) same in
-    head (t (id_in c) c.phase) (t (id_of k) (phase_of_known k)) e (s.0, same) (found_so stands t cs ks s.2)
+    let same : c.stage ≡ stage_of_known k = s.1.stage ∙ ap (λ m. stage_after m k.past) s.0 in
+    let e : t (id_in c) c.stage ≡ t (id_of k) (stage_of_known k) =
+    ap (λ m. t (record { key = m.key; tenure = m.tenure }) c.stage) s.0 ∙ ap (λ p. t (id_of k) p) same in
+    head (t (id_in c) c.stage) (t (id_of k) (stage_of_known k)) e (s.0, same) (found_so stands t cs ks s.2)
   where
-    head : (a b : Bool) → a ≡ b → (c.made ≡ k.made) × (c.phase ≡ phase_of_known k)
-        → IsFoundSo (find (λ c. t (id_in c) c.phase) cs) (find (λ k. t (id_of k) (phase_of_known k)) ks)
-        → IsFoundSo (cond a (Some c) (find (λ c. t (id_in c) c.phase) cs))
-        (cond b (Some k) (find (λ k. t (id_of k) (phase_of_known k)) ks))
+    head : (a b : Bool) → a ≡ b → (c.made ≡ k.made) × (c.stage ≡ stage_of_known k)
+        → IsFoundSo (find (λ c. t (id_in c) c.stage) cs) (find (λ k. t (id_of k) (stage_of_known k)) ks)
+        → IsFoundSo (cond a (Some c) (find (λ c. t (id_in c) c.stage) cs))
+        (cond b (Some k) (find (λ k. t (id_of k) (stage_of_known k)) ks))
     head true true e same rest = same
     head false false e same rest = rest
     head true false e same rest = absurd cc
@@ -133,12 +133,12 @@ all_found {A} P t x (y ∷ ys) h all = head (t y) h (λ g. all_found P t x ys g 
     head false g rest = rest g
 
 -- If no call is due and no consumer is over, each consumer is ready.
-pub ready : {P : Type 0} (cs : List (Standing P)) → due_in cs ≡ None → AllByRecursion (λ c. over_at c.phase ≡ None) cs
+pub ready : {P : Type 0} (cs : List (Standing P)) → due_in cs ≡ None → AllByRecursion (λ c. over_at c.stage ≡ None) cs
     → AllByRecursion IsReady cs
 ready [] none all = tt
-ready (c ∷ cs) none all = head (due_call c.phase) refl none (λ n. ready cs n all.1)
+ready (c ∷ cs) none all = head (due_call c.stage) refl none (λ n. ready cs n all.1)
   where
-    head : (o : Option Due) → due_call c.phase ≡ o → due_or c o (due_in cs) ≡ None
+    head : (o : Option Due) → due_call c.stage ≡ o → due_or c o (due_in cs) ≡ None
         → (due_in cs ≡ None → AllByRecursion IsReady cs) → AllByRecursion IsReady (c ∷ cs)
     head None e n rest = ((e, all.0), rest n)
     head (Some due) e n rest = absurd cc
@@ -148,7 +148,7 @@ ready (c ∷ cs) none all = head (due_call c.phase) refl none (λ n. ready cs n 
 pub consumer_given : {P : Type 0} (stands : P → List Call → Type 0) (made : WorkerMade) (s : WorkerState)
     (syncs : List SyncStep) (takes : List TakeStep) (place : Option LeaseId) (cs : List (Standing P)) (held : List Held)
     (c : Standing P) (what : Command) → ConsumersStand stands cs s.consumers → held ≡ s.held → past_in place cs ≡ Some c
-    → next_command c.made c.phase (counter_of (id_in c) held) ≡ Some what
+    → next_command c.made c.stage (counter_of (id_in c) held) ≡ Some what
     → IsGiven made s syncs takes (Some (from_consumers place s)) (asked.Consume (id_in c)) what
 consumer_given {P} stands made s syncs takes place cs held c what stand same found next =
     go (find (λ k. is_past place (id_of k)) s.consumers) refl
@@ -159,10 +159,10 @@ consumer_given {P} stands made s syncs takes place cs held c what stand same fou
         → IsGiven made s syncs takes (Some (consumer_chore o)) (asked.Consume (id_in c)) what
     go None e f = absurd f
     go (Some k) e f =
-        let of_known : next_command k.made (phase_of_known k) (counter_of (id_of k) s.held) ≡ Some what =
-        ap (λ h. next_command k.made (phase_of_known k) (counter_of (id_of k) h)) (sym same)
+        let of_known : next_command k.made (stage_of_known k) (counter_of (id_of k) s.held) ≡ Some what =
+        ap (λ h. next_command k.made (stage_of_known k) (counter_of (id_of k) h)) (sym same)
         ∙ ap (λ p. next_command k.made p (counter_of (id_of k) held)) (sym f.1)
-        ∙ ap (λ m. next_command m c.phase (counter_of (record { key = m.key; tenure = m.tenure }) held)) (sym f.0)
+        ∙ ap (λ m. next_command m c.stage (counter_of (record { key = m.key; tenure = m.tenure }) held)) (sym f.0)
         ∙ next in
         record {
           which = Consuming (id_of k);
@@ -195,7 +195,7 @@ pub giving_given : {P : Type 0} (stands : P → List Call → Type 0) (made : Wo
 giving_given stands made s syncs takes cs c stand found =
     go (find is_giving s.consumers)
     (subst (λ o. IsFoundSo o (find is_giving s.consumers)) found
-    (found_so stands (λ id p. is_giving_phase p) cs s.consumers stand))
+    (found_so stands (λ id p. is_giving_stage p) cs s.consumers stand))
   where
     go : (o : Option Known) → IsFoundSo (Some c) o
         → IsGiven made s syncs takes (stopping_chore s o) (asked.Finish (id_in c)) (command.Give c.made.tenure)
@@ -213,7 +213,7 @@ none_giving : {P : Type 0} (stands : P → List Call → Type 0) (s : WorkerStat
 none_giving {P} stands s cs stand found =
     go (find is_giving s.consumers)
     (subst (λ o. IsFoundSo o (find is_giving s.consumers)) found
-    (found_so stands (λ id p. is_giving_phase p) cs s.consumers stand))
+    (found_so stands (λ id p. is_giving_stage p) cs s.consumers stand))
   where
     go : (o : Option Known) → IsFoundSo {P = P} None o → stopping_chore s o ≡ freeing_chore s.held
     go None f = refl
@@ -305,19 +305,19 @@ pub consumer_as : {P : Type 0} (stands : P → List Call → Type 0) (made : Wor
     (syncs : List SyncStep) (takes : List TakeStep) (place : Option LeaseId) (cs : List (Standing P)) (held : List Held)
     (c : Standing P) (id : LeaseId) (counter : ℕ) (what : Command) → id ≡ id_in c → counter ≡ counter_of id held
     → ConsumersStand stands cs s.consumers → held ≡ s.held → past_in place cs ≡ Some c
-    → next_command c.made c.phase counter ≡ Some what
+    → next_command c.made c.stage counter ≡ Some what
     → IsGiven made s syncs takes (Some (from_consumers place s)) (asked.Consume id) what
 consumer_as stands made s syncs takes place cs held c id counter what a b stand same found next =
     subst (λ i. IsGiven made s syncs takes (Some (from_consumers place s)) (asked.Consume i) what) (sym a)
     (consumer_given stands made s syncs takes place cs held c what stand same found
-    (ap (λ i. next_command c.made c.phase (counter_of i held)) (sym a) ∙ ap (λ n. next_command c.made c.phase n) (sym b)
+    (ap (λ i. next_command c.made c.stage (counter_of i held)) (sym a) ∙ ap (λ n. next_command c.made c.stage n) (sym b)
     ∙ next))
 
 -- ---- Nothing is left to do
 
 none_due_any : {P : Type 0} (cs : List (Standing P)) → due_in cs ≡ None → list_any is_due cs ≡ false
 none_due_any [] none = refl
-none_due_any (c ∷ cs) none = head (due_call c.phase) none (λ n. none_due_any cs n)
+none_due_any (c ∷ cs) none = head (due_call c.stage) none (λ n. none_due_any cs n)
   where
     head : (o : Option Due) → due_or c o (due_in cs) ≡ None → (due_in cs ≡ None → list_any is_due cs ≡ false)
         → (is_some o || list_any is_due cs) ≡ false
@@ -337,7 +337,7 @@ none_giving_in : {P : Type 0} (stands : P → List Call → Type 0) (cs : List (
     → ConsumersStand stands cs ks → find is_giving ks ≡ None → giving_in cs ≡ None
 none_giving_in {P} stands cs ks stand none =
     go (giving_in cs) (subst (λ o. IsFoundSo (giving_in cs) o) none
-    (found_so stands (λ id p. is_giving_phase p) cs ks stand))
+    (found_so stands (λ id p. is_giving_stage p) cs ks stand))
   where
     go : (o : Option (Standing P)) → IsFoundSo o None → o ≡ None
     go None f = refl
@@ -363,12 +363,12 @@ pub idle_so : {P F : Type 0} (stands : P → List Call → Type 0) (w : WorkerSt
 idle_so stands w s failover now shows none chore =
     let r = stops_at failover now s w.round chore in
     let l = nothing_left s (find is_giving s.consumers) r.1 in
-    ap (λ b. b && not (list_any is_due w.consumers) && not (list_any (λ c. is_giving_phase c.phase) w.consumers)
+    ap (λ b. b && not (list_any is_due w.consumers) && not (list_any (λ c. is_giving_stage c.stage) w.consumers)
     && is_nothing_held w.held) r.0
-    ∙ ap (λ b. true && not b && not (list_any (λ c. is_giving_phase c.phase) w.consumers) && is_nothing_held w.held)
+    ∙ ap (λ b. true && not b && not (list_any (λ c. is_giving_stage c.stage) w.consumers) && is_nothing_held w.held)
     (none_due_any w.consumers none)
     ∙ ap (λ b. true && not false && not b && is_nothing_held w.held)
-    (none_found_any (λ c. is_giving_phase c.phase) w.consumers
+    (none_found_any (λ c. is_giving_stage c.stage) w.consumers
     (none_giving_in stands w.consumers s.consumers shows.consumers l.0))
     ∙ nothing_held w.held (ap freeing_chore shows.held ∙ l.1)
 
@@ -411,7 +411,7 @@ none_due stands [] [] none s = refl
 none_due stands [] (k ∷ ks) none s = absurd s
 none_due stands (c ∷ cs) [] none s = absurd s
 none_due stands (c ∷ cs) (k ∷ ks) none s =
-    head (due_call c.phase) (due_call (phase_of_known k)) (ap due_call (phase_known stands c k (s.0, s.1))) none
+    head (due_call c.stage) (due_call (stage_of_known k)) (ap due_call (stage_known stands c k (s.0, s.1))) none
     (λ n. none_due stands cs ks n s.2)
   where
     head : (o u : Option Due) → o ≡ u → due_or c o (due_in cs) ≡ None → (due_in cs ≡ None → find is_due_known ks ≡ None)
@@ -420,15 +420,15 @@ none_due stands (c ∷ cs) (k ∷ ks) none s =
     head None (Some due) e n rest = absurd cc
     head None None e n rest = rest n
 
-any_same : {P : Type 0} (stands : P → List Call → Type 0) (f : Phase → Bool) (cs : List (Standing P)) (ks : List Known)
+any_same : {P : Type 0} (stands : P → List Call → Type 0) (f : Stage → Bool) (cs : List (Standing P)) (ks : List Known)
     → ConsumersStand stands cs ks
-    → list_any (λ c. f c.phase) cs ≡ list_any (λ k. f (phase_of_known k)) ks
+    → list_any (λ c. f c.stage) cs ≡ list_any (λ k. f (stage_of_known k)) ks
 any_same stands f [] [] s = refl
 any_same stands f [] (k ∷ ks) s = absurd s
 any_same stands f (c ∷ cs) [] s = absurd s
 any_same stands f (c ∷ cs) (k ∷ ks) s =
-    ap (λ p. f p || list_any (λ d. f d.phase) cs) (phase_known stands c k (s.0, s.1))
-    ∙ ap (λ r. f (phase_of_known k) || r) (any_same stands f cs ks s.2)
+    ap (λ p. f p || list_any (λ d. f d.stage) cs) (stage_known stands c k (s.0, s.1))
+    ∙ ap (λ r. f (stage_of_known k) || r) (any_same stands f cs ks s.2)
 
 -- The worker is idle exactly if its record says so.
 pub idle_same : {P F : Type 0} (stands : P → List Call → Type 0) (w : WorkerStanding P F) (past : WorkerPast)
@@ -436,14 +436,14 @@ pub idle_same : {P F : Type 0} (stands : P → List Call → Type 0) (w : Worker
 idle_same stands w past s =
     let state = worker_after w.made past in
     let shows = s.shows in
-    let same : (f : Phase → Bool)
-    → list_any (λ c. f c.phase) w.consumers ≡ list_any (λ k. f (phase_of_known k)) state.consumers =
+    let same : (f : Stage → Bool)
+    → list_any (λ c. f c.stage) w.consumers ≡ list_any (λ k. f (stage_of_known k)) state.consumers =
     λ f. any_same stands f w.consumers state.consumers shows.consumers in
     ap (λ r. is_stopping r && not (is_due_in w) && not (is_giving_in w) && is_nothing_held w.held) shows.round
     ∙ ap (λ b. is_stopping state.round && not b && not (is_giving_in w) && is_nothing_held w.held)
     (same (λ p. is_some (due_call p)))
     ∙ ap (λ b. is_stopping state.round && not (list_any is_due_known state.consumers) && not b
-    && is_nothing_held w.held) (same is_giving_phase)
+    && is_nothing_held w.held) (same is_giving_stage)
     ∙ ap (λ h. is_stopping state.round && not (list_any is_due_known state.consumers)
     && not (list_any is_giving state.consumers) && is_nothing_held h)
     shows.held

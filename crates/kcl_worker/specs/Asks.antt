@@ -4,8 +4,8 @@ use Rattle.std.specs.List.{AllByRecursion}
 use Rattle.kcl_defs.specs.declared.consumer.Ask.{Ask}
 use Rattle.kcl_defs.specs.declared.consumer.Ask.TheVariants as ask
 use Rattle.kds_defs.specs.declared.reply.Stored.{Stored}
-use Rattle.kcl_defs.specs.Consumers.{Phase, Holding, first_batch}
-use Rattle.kcl_defs.specs.Workers.{Known, phase_of_known}
+use Rattle.kcl_defs.specs.Consumers.{Stage, Holding, first_batch}
+use Rattle.kcl_defs.specs.Workers.{Known, stage_of_known}
 use Rattle.kcl_consumer.specs.Standing.{Standing}
 
 -- After a batch, the processor `p` asks for no more than `may` allows.
@@ -21,14 +21,14 @@ abbrev pub AskWithin : {P : Type 0} → (P → List Stored → Ask → Type 0) �
 AskWithin asks may cs = AllByRecursion (IsWithin asks may) (processors cs)
 
 -- After a batch, a processor asks for what `may` allows. After any other call it asks for nothing.
-abbrev pub IsAsk : (List Stored → Ask → Type 0) → Phase → Ask → Type 0
+abbrev pub IsAsk : (List Stored → Ask → Type 0) → Stage → Ask → Type 0
 IsAsk may (Holding reach waiting) asked = may (first_batch waiting) asked
 IsAsk may _ asked = asked ≡ ask.None
 
 -- `IsAsk` holds for the consumer whose processor is called.
 abbrev pub IsAskOf : (List Stored → Ask → Type 0) → Option Known → Ask → Type 0
 IsAskOf may None asked = ⊥
-IsAskOf may (Some k) asked = IsAsk may (phase_of_known k) asked
+IsAskOf may (Some k) asked = IsAsk may (stage_of_known k) asked
 
 -- `may` and `other` allow the same.
 abbrev pub AllowsSame : (List Stored → Ask → Type 0) → (List Stored → Ask → Type 0) → Type 0

@@ -20,7 +20,7 @@ use Rattle.kcl_worker_lists.specs.Lists.{due_in}
 
 -- No call of the consumer's processor is due, and the consumer isn't over.
 abbrev pub IsReady : {P : Type 0} → Standing P → Type 0
-IsReady c = (due_call c.phase ≡ None) × (over_at c.phase ≡ None)
+IsReady c = (due_call c.stage ≡ None) × (over_at c.stage ≡ None)
 
 -- There is a chore, which `asked` stands for, and `what` is its command.
 pub record IsGiven (made : WorkerMade) (s : WorkerState) (syncs : List SyncStep) (takes : List TakeStep)
@@ -70,4 +70,4 @@ IsAsking (Some chore) cs = due_in cs ≡ None
 
 -- None of the consumers is over.
 abbrev pub NoneOver : {P : Type 0} → List (Standing P) → Type 0
-NoneOver cs = AllByRecursion (λ c. over_at c.phase ≡ None) cs
+NoneOver cs = AllByRecursion (λ c. over_at c.stage ≡ None) cs

@@ -10,8 +10,8 @@ use Rattle.kcl_defs.specs.declared.plans.Held.{Held}
 use Rattle.kcl_defs.specs.declared.plans.Seen.{Seen}
 use Rattle.kcl_defs.specs.Consumers.{over_at, calls_after}
 use Rattle.kcl_defs.specs.Plans.{seen_at}
-use Rattle.kcl_defs.specs.Workers.{Round, Chore, Known, WorkerState, WorkerPast, worker_after, phase_of_known}
-use Rattle.kcl_defs.specs.Workers.{is_stopping, is_giving_phase, is_nothing_held}
+use Rattle.kcl_defs.specs.Workers.{Round, Chore, Known, WorkerState, WorkerPast, worker_after, stage_of_known}
+use Rattle.kcl_defs.specs.Workers.{is_stopping, is_giving_stage, is_nothing_held}
 use Rattle.kds_defs.specs.declared.command.Turn.{Turn}
 use Rattle.kds_defs.specs.declared.reply.Refusal.{Refusal}
 use Rattle.kds_defs.specs.declared.reply.Reply.{Reply}
@@ -48,7 +48,7 @@ abbrev pub is_due_in : {P F : Type 0} → WorkerStanding P F → Bool
 is_due_in w = list_any is_due w.consumers
 
 abbrev pub is_giving_in : {P F : Type 0} → WorkerStanding P F → Bool
-is_giving_in w = list_any (λ c. is_giving_phase c.phase) w.consumers
+is_giving_in w = list_any (λ c. is_giving_stage c.stage) w.consumers
 
 abbrev pub is_idle_in : {P F : Type 0} → WorkerStanding P F → Bool
 is_idle_in w = is_stopping w.round && not (is_due_in w) && not (is_giving_in w) && is_nothing_held w.held
@@ -66,7 +66,7 @@ ConsumersStand stands (c ∷ cs) [] = ⊥
 pub record IsRetirement {P : Type 0} (stands : P → List Call → Type 0) (r : Retirement P) (k : Known) : Type 0 where
   pub key : r.key ≡ k.made.key
   pub tenure : r.tenure ≡ k.made.tenure
-  pub why : over_at (phase_of_known k) ≡ Some r.why
+  pub why : over_at (stage_of_known k) ≡ Some r.why
   pub calls : stands r.processor (calls_after k.made k.past)
 
 abbrev pub RetirementsStand : {P : Type 0} → (P → List Call → Type 0) → List (Retirement P) → List Known → Type 0

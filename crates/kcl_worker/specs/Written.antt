@@ -6,9 +6,9 @@ use Rattle.kcl_defs.specs.declared.plans.LeaseId.{LeaseId}
 use Rattle.kds_defs.specs.declared.reply.Refusal.{Refusal}
 use Rattle.kds_defs.specs.declared.reply.Reply.{Reply}
 use Rattle.kds_defs.specs.declared.reply.Reply.TheVariants as reply
-use Rattle.kcl_defs.specs.Consumers.{Losing, Phase}
+use Rattle.kcl_defs.specs.Consumers.{Losing, Stage}
 use Rattle.kcl_defs.specs.Workers.{WorkerState, after_renewal, happens_to, held_after, id_of, id_of_held}
-use Rattle.kcl_defs.specs.Workers.{is_marking_or_opening, renewed, same_id, without_held}
+use Rattle.kcl_defs.specs.Workers.{is_writing, renewed, same_id, without_held}
 use Rattle.kcl_consumer.specs.Standing.{Standing}
 use Rattle.kcl_worker.specs.declared.answers.Taken.{Taken}
 use Rattle.kcl_worker.specs.declared.answers.Written.{Written}
@@ -32,8 +32,8 @@ renewal_by now h (written.Refused loss) w = record w {
 
 pub record IsWritten (answer : Result Reply Refusal) (w : Written) : Type 0 where
   pub renewal : (now : ℕ) (h : Held) (s : WorkerState) → after_renewal now h answer s ≡ renewal_by now h w s
-  pub held : (now : ℕ) (id : LeaseId) (phase : Phase) (held : List Held)
-      → held_after now id phase answer held ≡ held_by now id (is_marking_or_opening phase) w held
+  pub held : (now : ℕ) (id : LeaseId) (stage : Stage) (held : List Held)
+      → held_after now id stage answer held ≡ held_by now id (is_writing stage) w held
 
 -- The leases `held` and the consumers `cs` are those of the state `t`, which is otherwise equal to `s`.
 pub record Leaves {P : Type 0} (stands : P → List Call → Type 0) (s t : WorkerState) (held : List Held)

@@ -69,9 +69,9 @@ map_over f xs ys i x y lt so_far at is = ap (λ z. set ys i z) is ∙ map_over_m
 -- ---- The consumer that absorbs
 
 pub answered_same : {P : Type 0} (answer : Result Reply Refusal) (c d : Standing P) → d.made ≡ c.made
-    → d.phase ≡ after_answer c.made answer c.phase → d.given ≡ given_after answer c.phase c.given
+    → d.stage ≡ after_answer c.made answer c.stage → d.given ≡ given_after answer c.stage c.given
     → d.processor ≡ c.processor → d ≡ answered_in answer c
-answered_same answer c d a b g e = λ i. record { made = a i; phase = b i; given = g i; processor = e i }
+answered_same answer c d a b g e = λ i. record { made = a i; stage = b i; given = g i; processor = e i }
 
 pub answered_here : {P : Type 0} (id : LeaseId) (answer : Result Reply Refusal) (i : ℕ) (cs : List (Standing P))
     (c d : Standing P) → IsFirstOf id i cs → c ≡ get_or cs i c → d ≡ answered_in answer c

@@ -9,7 +9,7 @@ use Rattle.kds_defs.specs.declared.reply.Row.{Row}
 use Rattle.kds_defs.specs.Keys.{is_before, same_key}
 use Rattle.kds_defs.proofs.Keys.{before_both, not_same, not_same_after, after_else}
 use Rattle.kcl_defs.specs.Plans.{AreRising, IsBeforeFirst, keys_of, row_of}
-use Rattle.kcl_worker_lists.specs.Places.{before_next, if_key, place_of}
+use Rattle.kcl_worker_lists.specs.Places.{before_next, if_key, index_of}
 
 -- ---- Keys
 
@@ -62,16 +62,16 @@ partitioned key (r ∷ rs) rising (suc i) (suc j) d le within is =
     partitioned key rs rising.1 i j d (omega arith) (omega arith) is
 
 pub place_is : (key : ShardRef) (rs : List Row) (i : ℕ) → i ≤ length rs
-    → IsPartitionPoint (λ r. comes_before key r ≡ true) (λ r. comes_before key r ≡ false) rs i → i ≡ place_of key rs
+    → IsPartitionPoint (λ r. comes_before key r ≡ true) (λ r. comes_before key r ≡ false) rs i → i ≡ index_of key rs
 place_is key [] i le h = omega arith
 place_is key (r ∷ rs) zero le h =
-    ap (λ b. if b then suc (place_of key rs) else 0) (sym (h.1 0 r (omega arith) (omega arith)))
+    ap (λ b. if b then suc (index_of key rs) else 0) (sym (h.1 0 r (omega arith) (omega arith)))
 place_is key (r ∷ rs) (suc i) le h =
     let rest = place_is key rs i (omega arith) (
       λ k d low high. h.0 (suc k) d (omega arith) (omega arith),
       λ k d low high. h.1 (suc k) d (omega arith) (omega arith),
     ) in
-    ap suc rest ∙ ap (λ b. if b then suc (place_of key rs) else 0) (sym (h.0 0 r (omega arith) (omega arith)))
+    ap suc rest ∙ ap (λ b. if b then suc (index_of key rs) else 0) (sym (h.0 0 r (omega arith) (omega arith)))
 
 absent : (key : ShardRef) (rs : List Row) → IsBeforeFirst key (keys_of rs) → AreRising (keys_of rs)
     → row_of rs key ≡ None
@@ -82,8 +82,8 @@ absent key (r ∷ rs) first rising =
 
 row_here : (key : ShardRef) (r : Row) (rs : List Row) (b d : Bool) → is_before r.key key ≡ b → same_key r.key key ≡ d
     → AreRising (keys_of (r ∷ rs))
-    → row_of rs key ≡ if_key key (slice_get rs (place_of key rs))
-    → (if d then Some r else row_of rs key) ≡ if_key key (slice_get (r ∷ rs) (if b then suc (place_of key rs) else 0))
+    → row_of rs key ≡ if_key key (slice_get rs (index_of key rs))
+    → (if d then Some r else row_of rs key) ≡ if_key key (slice_get (r ∷ rs) (if b then suc (index_of key rs) else 0))
 row_here key r rs true true before same rising rest =
     absurd (apart (same_key r.key key) same (not_same r.key key before))
 row_here key r rs true false before same rising rest = rest
@@ -93,7 +93,7 @@ row_here key r rs false false before same rising rest =
     ∙ ap (λ d. if d then Some r else None) (sym same)
 
 pub row_there : (key : ShardRef) (rs : List Row) → AreRising (keys_of rs)
-    → row_of rs key ≡ if_key key (slice_get rs (place_of key rs))
+    → row_of rs key ≡ if_key key (slice_get rs (index_of key rs))
 row_there key [] rising = refl
 row_there key (r ∷ rs) rising =
     row_here key r rs (is_before r.key key) (same_key r.key key) refl refl rising (row_there key rs rising.1)

@@ -13,7 +13,7 @@ use Rattle.kds_defs.specs.Keys.{same_key}
 use Rattle.kds_defs.specs.declared.reply.Refusal.{Refusal}
 use Rattle.kds_defs.specs.declared.reply.Reply.{Reply}
 use Rattle.kds_defs.specs.declared.reply.Stored.{Stored}
-use Rattle.kcl_defs.specs.Consumers.{Phase, Opening, Over, after_answer, after_loss, given_after, over_at}
+use Rattle.kcl_defs.specs.Consumers.{Stage, Opening, Over, after_answer, after_loss, given_after, over_at}
 use Rattle.kcl_defs.specs.Workers.{held_after, id_of_held, is_before_id, same_id, without_held}
 use Rattle.kcl_consumer.specs.Standing.{HasCalled, IsAsBefore, Standing}
 use Rattle.kcl_worker_lists.specs.Lists.{id_in}
@@ -24,22 +24,22 @@ use Rattle.kcl_worker_lists.specs.Lists.{Retirement, is_due}
 -- `lost_in` is the consumer once its lease is known to be lost, and `answered_in` is the consumer after it absorbed an
 -- answer.
 abbrev pub lost_in : {P : Type 0} → Standing P → Standing P
-lost_in c = record c { phase = after_loss c.phase }
+lost_in c = record c { stage = after_loss c.stage }
 
 abbrev pub answered_in : {P : Type 0} → Result Reply Refusal → Standing P → Standing P
 answered_in answer c =
-    record c { phase = after_answer c.made answer c.phase; given = given_after answer c.phase c.given }
+    record c { stage = after_answer c.made answer c.stage; given = given_after answer c.stage c.given }
 
 -- Whether the consumer is over, why it is, and what is kept of it.
 abbrev pub is_over_in : {P : Type 0} → Standing P → Bool
-is_over_in c = is_some (over_at c.phase)
+is_over_in c = is_some (over_at c.stage)
 
-abbrev pub why_of : Phase → Why
+abbrev pub why_of : Stage → Why
 why_of (Over why) = why
 why_of _ = why.Lost
 
 abbrev pub retire : {P : Type 0} → Standing P → Retirement P
-retire c = record { key = c.made.key; tenure = c.made.tenure; why = why_of c.phase; processor = c.processor }
+retire c = record { key = c.made.key; tenure = c.made.tenure; why = why_of c.stage; processor = c.processor }
 
 -- ---- Several consumers
 
@@ -99,13 +99,13 @@ pub record FirstCalled {P : Type 0} (stands : P → List Call → Type 0) (asks 
 
 -- ---- The leases after a consumer's answer
 
--- The first consumer of the lease `id`, and its phase.
+-- The first consumer of the lease `id`, and its stage.
 abbrev pub one_of : {P : Type 0} → LeaseId → List (Standing P) → Option (Standing P)
 one_of id cs = find (λ c. same_id (id_in c) id) cs
 
-abbrev pub phase_or_opening : {P : Type 0} → Option (Standing P) → Phase
-phase_or_opening None = Opening
-phase_or_opening (Some c) = c.phase
+abbrev pub stage_or_opening : {P : Type 0} → Option (Standing P) → Stage
+stage_or_opening None = Opening
+stage_or_opening (Some c) = c.stage
 
 -- The leases `held`, without the lease `id` if its consumer is over.
 abbrev pub kept_unless_over : {P : Type 0} → LeaseId → Option (Standing P) → List Held → List Held
@@ -115,7 +115,7 @@ kept_unless_over id (Some c) held = if is_over_in c then without_held id held el
 abbrev pub held_in : {P : Type 0} → ℕ → LeaseId → Result Reply Refusal → List (Standing P) → List Held → List Held
 held_in now id answer cs held =
     kept_unless_over id (one_of id (answered_among id answer cs))
-    (held_after now id (phase_or_opening (one_of id cs)) answer held)
+    (held_after now id (stage_or_opening (one_of id cs)) answer held)
 
 -- The processor call of one consumer ran out of memory, and nothing was done.
 pub record FirstUncalled {P : Type 0} (stands : P → List Call → Type 0) (asks : P → List Stored → Ask

@@ -6,7 +6,7 @@ use Rattle.kcl_defs.specs.declared.consumer.Due.{Due}
 use Rattle.kcl_defs.specs.declared.consumer.Why.{Why}
 use Rattle.kcl_defs.specs.declared.plans.LeaseId.{LeaseId}
 use Rattle.kcl_defs.specs.Consumers.{due_call}
-use Rattle.kcl_defs.specs.Workers.{is_giving_phase, is_past}
+use Rattle.kcl_defs.specs.Workers.{is_giving_stage, is_past}
 use Rattle.kcl_consumer.specs.Standing.{Standing}
 
 -- A consumer that is over, with its processor.
@@ -25,11 +25,11 @@ abbrev pub past_in : {P : Type 0} → Option LeaseId → List (Standing P) → O
 past_in place cs = find (λ c. is_past place (id_in c)) cs
 
 abbrev pub giving_in : {P : Type 0} → List (Standing P) → Option (Standing P)
-giving_in cs = find (λ c. is_giving_phase c.phase) cs
+giving_in cs = find (λ c. is_giving_stage c.stage) cs
 
 -- Whether a call of the consumer's processor is due.
 abbrev pub is_due : {P : Type 0} → Standing P → Bool
-is_due c = is_some (due_call c.phase)
+is_due c = is_some (due_call c.stage)
 
 abbrev pub due_or : {P : Type 0} → Standing P → Option Due → Option (ShardRef × Due) → Option (ShardRef × Due)
 due_or c None rest = rest
@@ -38,7 +38,7 @@ due_or c (Some due) rest = Some (c.made.key, due)
 -- The first call that is due, with the key of its consumer.
 abbrev pub due_in : {P : Type 0} → List (Standing P) → Option (ShardRef × Due)
 due_in [] = None
-due_in (c ∷ cs) = due_or c (due_call c.phase) (due_in cs)
+due_in (c ∷ cs) = due_or c (due_call c.stage) (due_in cs)
 
 -- The number of calls that are due.
 abbrev pub due_count : {P : Type 0} → List (Standing P) → ℕ

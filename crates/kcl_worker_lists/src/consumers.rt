@@ -12,9 +12,9 @@ ghost use Rattle.kcl_defs.specs.declared.consumer.Ask.{Ask};
 ghost use Rattle.std.specs.Option.{option_map};
 ghost use Rattle.kcl_worker_lists.specs.Planning.{is_among};
 ghost use Rattle.kcl_worker_lists.specs.Lists.{giving_in, id_in, past_in};
-ghost use Rattle.kcl_defs.specs.Workers.{is_giving_phase, is_marking_or_opening, same_id};
+ghost use Rattle.kcl_defs.specs.Workers.{is_giving_stage, is_writing, same_id};
 ghost use Rattle.kcl_worker_lists.specs.Changes.{FirstCalled, FirstUncalled, IsFirstDue, IsFirstOf, answered_among};
-ghost use Rattle.kcl_worker_lists.specs.Changes.{is_over_one, lost_among, lost_in, one_of, phase_or_opening};
+ghost use Rattle.kcl_worker_lists.specs.Changes.{is_over_one, lost_among, lost_in, one_of, stage_or_opening};
 ghost use Rattle.kcl_worker_lists.specs.Changes.{with_consumer};
 ghost use Rattle.kcl_worker_lists.specs.Lists.{due_in, is_due};
 
@@ -77,7 +77,7 @@ pub fn any_due<P: Processor>(consumers: &[Consumer<P>]) -> bool
 
 /// Whether the next command of at least one consumer is a Give, which reports a batch as processed.
 pub fn any_giving<P: Processor>(consumers: &[Consumer<P>]) -> bool
-    ensures { result ≡ list_any (λ c. is_giving_phase c.phase) consumers.now }
+    ensures { result ≡ list_any (λ c. is_giving_stage c.stage) consumers.now }
 {
     for c in consumers {
         if c.is_giving() {
@@ -171,7 +171,7 @@ fn first_of<'a, P: Processor>(consumers: &'a [Consumer<P>], id: &LeaseId) -> Opt
 /// Whether the next command of the first consumer of the lease `id` is an OpenShard (it opens the shard) or a Mark (it
 /// sets the checkpoint). If the lease has no consumer, the result is `true`.
 pub fn is_writing_at<P: Processor>(consumers: &[Consumer<P>], id: &LeaseId) -> bool
-    ensures { result ≡ is_marking_or_opening (phase_or_opening (one_of id.now consumers.now)) }
+    ensures { result ≡ is_writing (stage_or_opening (one_of id.now consumers.now)) }
 {
     match first_of(consumers, id) {
         Some(c) => c.is_writing(),

@@ -22,7 +22,7 @@ pub struct Retired<P> {
 
 /// Returns what is kept of the consumer `c`, which is over for the reason `why`.
 fn retire<P: Processor>(c: Consumer<P>, why: Why) -> Retired<P>
-    requires { over_at c.phase ≡ Some why }
+    requires { over_at c.stage ≡ Some why }
     ensures { retirement result ≡ retire c }
 {
     Retired {

@@ -3,7 +3,7 @@
 ghost use Rattle.std.specs.Prelude.{◌≡◌, ◌≤◌, length, slice_get, true};
 ghost use Rattle.std.specs.Option.{option_map};
 ghost use Rattle.kcl_defs.specs.Plans.{AreRising, keys_of, row_of};
-ghost use Rattle.kcl_worker_lists.specs.Places.{before_next, if_key, place_of};
+ghost use Rattle.kcl_worker_lists.specs.Places.{before_next, if_key, index_of};
 
 use kds_base::ShardRef;
 use kds_defs::{Row, is_before};
@@ -37,7 +37,7 @@ pub fn are_rising(rows: &[Row]) -> bool
 /// stands, if there is one.
 fn index_of(rows: &[Row], key: &ShardRef) -> usize
     requires { AreRising (keys_of rows.now) }
-    ensures value { result ≡ place_of key.now rows.now }
+    ensures value { result ≡ index_of key.now rows.now }
     ensures within { result ≤ length rows.now }
 {
     rows.partition_point(|row| is_before(&row.key, key))

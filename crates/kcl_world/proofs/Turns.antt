@@ -9,23 +9,23 @@ use Rattle.kds_defs.specs.declared.reply.Row.{Row}
 use Rattle.kds_defs.specs.Histories.{answer, answer_of, clock as clock_of, decide, journal, lines_of}
 use Rattle.kds_defs.specs.Journal.{Journal, with_lines}
 use Rattle.kds_service.proofs.Readings.{live_count}
-use Rattle.kds_service.specs.Clocks.{turn_after}
+use Rattle.kds_service.specs.Clocks.{next_in_turn}
 use Rattle.kds_service.specs.Shown.{ServiceValue, ShowsAll}
 use Rattle.kcl_book.specs.Tenures.{TenureValue, tenure_at}
 use Rattle.kcl_leases.proofs.LeaseSteps.{rows_of, stands_of, tenures_of}
 use Rattle.kcl_leases.specs.Standing.{kept}
 use Rattle.kcl_world.proofs.ServiceLines.{seen}
-use Rattle.kcl_world.specs.Standing.{Leads, Stands, StandsFor, turn_of, world}
+use Rattle.kcl_world.specs.Standing.{Leads, Stands, StandsFor, next_to_settle_of, world}
 
 no_tenure : (t : ℕ) → option_map kept None ≡ tenure_at [] t
 no_tenure zero = refl
 no_tenure (suc n) = refl
 
 -- A machine without streams and leases has answered nothing.
-pub stands_new : (s : ServiceValue) → s.clock ≡ 0 → s.turn ≡ 0 → ShowsAll s [] → StandsFor (world s [] []) []
+pub stands_new : (s : ServiceValue) → s.clock ≡ 0 → s.next_to_settle ≡ 0 → ShowsAll s [] → StandsFor (world s [] []) []
 stands_new s clock first shows = record {
   clock_is = clock;
-  turn_is = first;
+  next_to_settle_is = first;
   stands = stands_of (seen s) [] [] [] shows (record {
     keys_are = refl;
     row_is = λ k. refl;
@@ -44,8 +44,8 @@ stands_at s s' rs ts log st shows =
 -- What each part of a turn, which are the clock's, the command's and the settling, leaves of the place of the stream
 -- that is settled next.
 abbrev pub TakesTurns : ServiceValue → ServiceValue → ServiceValue → ServiceValue → Type 0
-TakesTurns s at mid last = (at.turn ≡ s.turn) × (mid.turn ≡ at.turn)
-    × (last.turn ≡ turn_after (length mid.streams) mid.turn)
+TakesTurns s at mid last = (at.next_to_settle ≡ s.next_to_settle) × (mid.next_to_settle ≡ at.next_to_settle)
+    × (last.next_to_settle ≡ next_in_turn (length mid.streams) mid.next_to_settle)
 
 -- The machine stands for the history with the turn added. The services are those before the turn, at its clock, after
 -- the command, and settled.
@@ -65,9 +65,9 @@ turn_done s at mid last rs rs' ts ts' h turn gives stood shows at_is led mid_is 
       record {
         clock_is = last_is ∙ mid_is ∙ c;
         stands = stands_at mid last rs' ts' (journal (turn ∷ h)) after (settles (journal (turn ∷ h)) after.shows);
-        turn_is =
-            turns.2 ∙ ap (turn_after (length mid.streams)) (turns.1 ∙ turns.0 ∙ stood.turn_is)
-            ∙ ap (λ n. turn_after n (turn_of h)) (sym (live_count mid (journal (turn ∷ h)) after.shows));
+        next_to_settle_is =
+            turns.2 ∙ ap (next_in_turn (length mid.streams)) (turns.1 ∙ turns.0 ∙ stood.next_to_settle_is)
+            ∙ ap (λ n. next_in_turn n (next_to_settle_of h)) (sym (live_count mid (journal (turn ∷ h)) after.shows));
       },
     )
 

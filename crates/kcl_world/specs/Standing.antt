@@ -11,7 +11,7 @@ use Rattle.kds_defs.specs.Streams.{live_streams}
 use Rattle.kcl_book.specs.Tenures.{TenureValue}
 use Rattle.kcl_leases.specs.Standing as lease
 use Rattle.kcl_leases.specs.Standing.{LeasesValue, over}
-use Rattle.kds_service.specs.Clocks.{turn_after}
+use Rattle.kds_service.specs.Clocks.{next_in_turn}
 use Rattle.kds_service.specs.Shown.{ServiceValue, ShowsAll}
 
 -- What contracts see of a machine: its service, the rows of its leases, and its tenures in the order of their numbers.
@@ -37,12 +37,12 @@ Leads old new by what gives = lease.Leads (leased old) (leased new) by what give
 
 -- The place of the stream that is settled next. Each turn settled one of the streams that were live after it, and the
 -- streams took turns.
-abbrev pub turn_of : List Turn → ℕ
-turn_of [] = 0
-turn_of (turn ∷ h) = turn_after (length (live_streams (journal (turn ∷ h)))) (turn_of h)
+abbrev pub next_to_settle_of : List Turn → ℕ
+next_to_settle_of [] = 0
+next_to_settle_of (turn ∷ h) = next_in_turn (length (live_streams (journal (turn ∷ h)))) (next_to_settle_of h)
 
 -- The machine has answered the turns of the history `h`, and no others.
 pub record StandsFor (w : WorldValue) (h : List Turn) : Type 0 where
   pub clock_is : w.service.clock ≡ clock_of h
   pub stands : Stands w (journal h)
-  pub turn_is : w.service.turn ≡ turn_of h
+  pub next_to_settle_is : w.service.next_to_settle ≡ next_to_settle_of h

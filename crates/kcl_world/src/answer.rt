@@ -74,7 +74,7 @@ pub fn answer(
     ensures leads { IfOk result
         (Leads (world service.old table.old book.old.tenures) (world service.new table.new book.new.tenures) by what) }
     ensures clock { service.new.clock ≡ service.old.clock }
-    ensures turn { service.new.turn ≡ service.old.turn }
+    ensures next_to_settle { service.new.next_to_settle ≡ service.old.next_to_settle }
     ensures kept { OnErr result ((service.new ≡ service.old) × (table.new ≡ table.old)
         × (book.new.tenures ≡ book.old.tenures)) }
     ensures sure { NeedsNoMemory what → IsOk result }

@@ -2,7 +2,7 @@
 //! on a lease.
 ghost use Rattle.std.specs.Prelude.{[], ◌≡◌, ◌≤◌, true, false};
 ghost use Rattle.kds_defs.specs.Journal.{Journal};
-ghost use Rattle.kds_service.specs.Clocks.{CanGoBack, gone_back};
+ghost use Rattle.kds_service.specs.Clocks.{CanRetreat, retreated_service};
 ghost use Rattle.kds_service.specs.Shown.{ShowsAll};
 ghost use Rattle.kcl_world.specs.Standing.{StandsFor};
 
@@ -40,17 +40,17 @@ impl Model for World {
 
 /// Raises the clock of the service and of each of its streams from `before` to `clock`. Does nothing if the two times
 /// are equal. Returns whether the clock was raised.
-fn raise(service: &mut Service, before: Moment, clock: Moment) -> bool
+fn advance(service: &mut Service, before: Moment, clock: Moment) -> bool
     requires at { service.old.clock ≡ before }
     requires later { before ≤ clock }
     ensures clock { service.new.clock ≡ clock }
-    ensures turn { service.new.turn ≡ service.old.turn }
+    ensures next_to_settle { service.new.next_to_settle ≡ service.old.next_to_settle }
     ensures shows { (log : Journal) → ShowsAll service.old log → ShowsAll service.new log }
     ensures same { result ≡ false → service.new ≡ service.old }
-    ensures back { result ≡ true → CanGoBack service.new }
+    ensures back { result ≡ true → CanRetreat service.new }
     ensures shows_back { result ≡ true → (log : Journal) → ShowsAll service.old log
-        → ShowsAll (gone_back service.new) log }
-    ensures clock_back { result ≡ true → (gone_back service.new).clock ≡ before }
+        → ShowsAll (retreated_service service.new) log }
+    ensures clock_back { result ≡ true → (retreated_service service.new).clock ≡ before }
 {
     if before == clock {
         return false;
@@ -59,14 +59,14 @@ fn raise(service: &mut Service, before: Moment, clock: Moment) -> bool
     true
 }
 
-/// Undoes a call of `raise`. `raised` is the value that this call returned. Precondition if `raised` is true: since
+/// Undoes a call of `advance`. `advanced` is the value that this call returned. Precondition if `advanced` is true: since
 /// that call, nothing in the service has changed, and no trimmed records have been removed.
-fn lower(service: &mut Service, raised: bool)
-    requires { raised ≡ true → CanGoBack service.old }
-    ensures raised { raised ≡ true → service.new ≡ gone_back service.old }
-    ensures same { raised ≡ false → service.new ≡ service.old }
+fn retreat(service: &mut Service, advanced: bool)
+    requires { advanced ≡ true → CanRetreat service.old }
+    ensures advanced { advanced ≡ true → service.new ≡ retreated_service service.old }
+    ensures same { advanced ≡ false → service.new ≡ service.old }
 {
-    if raised {
+    if advanced {
         service.retreat();
     }
 }
@@ -95,7 +95,7 @@ impl Machine for World {
         kds_defs::service_answers();
         kds_defs::lease_answers();
         let clock = self.clock.later(turn.at);
-        let raised = raise(&mut self.service, self.clock, clock);
+        let advanced = advance(&mut self.service, self.clock, clock);
         match answer(
             &mut self.service,
             &mut self.table,
@@ -109,7 +109,7 @@ impl Machine for World {
                 Ok(answer)
             }
             Err(memory) => {
-                lower(&mut self.service, raised);
+                retreat(&mut self.service, advanced);
                 Err(memory)
             }
         }

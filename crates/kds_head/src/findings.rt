@@ -23,7 +23,7 @@ pub enum Seen {
 impl Seen {
     /// Counts one more header, and returns the new value. `named` is true if this header has the name, and `value` is
     /// its value.
-    fn after(self, named: bool, value: Span) -> Seen
+    fn seen_after(self, named: bool, value: Span) -> Seen
         ensures { result ≡ seen_after self named value }
     {
         if !named {
@@ -79,7 +79,7 @@ fn is_name(word: &[u8], name: &[u8]) -> bool
 }
 
 /// Returns the findings `found`, updated with the header `header`.
-fn after(front: &[u8], found: Findings, header: &HeaderSpan) -> Findings
+fn findings_after(front: &[u8], found: Findings, header: &HeaderSpan) -> Findings
     ensures { result ≡ findings_after front.now found header.now }
 {
     let name = covered(front, header.name);
@@ -87,16 +87,16 @@ fn after(front: &[u8], found: Findings, header: &HeaderSpan) -> Findings
     Findings {
         encoding: found
             .encoding
-            .after(is_name(name, b"Transfer-Encoding".as_slice()), value),
+            .seen_after(is_name(name, b"Transfer-Encoding".as_slice()), value),
         length: found
             .length
-            .after(is_name(name, b"Content-Length".as_slice()), value),
+            .seen_after(is_name(name, b"Content-Length".as_slice()), value),
         target: found
             .target
-            .after(is_name(name, b"X-Amz-Target".as_slice()), value),
+            .seen_after(is_name(name, b"X-Amz-Target".as_slice()), value),
         media_type: found
             .media_type
-            .after(is_name(name, b"Content-Type".as_slice()), value),
+            .seen_after(is_name(name, b"Content-Type".as_slice()), value),
         close: found.close
             || (is_name(name, b"Connection".as_slice())
                 && same_word(covered(front, value), b"close".as_slice())),
@@ -106,9 +106,10 @@ fn after(front: &[u8], found: Findings, header: &HeaderSpan) -> Findings
 fn all_read(front: &[u8], headers: &[HeaderSpan]) -> Findings
     ensures { result ≡ fold (findings_after front.now) no_findings headers.now }
 {
-    headers
-        .iter()
-        .fold(NO_FINDINGS, |found, header| after(front, found, header))
+    headers.iter().fold(
+        NO_FINDINGS,
+        |found, header| findings_after(front, found, header),
+    )
 }
 
 /// Returns the findings after all of `headers`. Each header is read once.

@@ -21,7 +21,7 @@ pub enum Reached {
 }
 
 /// Returns the part of the request that is reached after the next byte `b`.
-fn after(reached: Reached, b: u8) -> Reached
+fn after_byte(reached: Reached, b: u8) -> Reached
     ensures { result ≡ after_byte reached b }
 {
     match reached {
@@ -68,7 +68,7 @@ fn reached_by(bytes: &[u8]) -> Reached
 {
     bytes
         .iter()
-        .fold(Reached::Blank, |reached, b| after(reached, *b))
+        .fold(Reached::Blank, |reached, b| after_byte(reached, *b))
 }
 
 /// Whether the bytes end inside the target of a request.

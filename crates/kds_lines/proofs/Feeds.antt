@@ -12,7 +12,7 @@ use Rattle.kds_defs.specs.declared.limits.TheConstants.{LINE_BYTES, INPUT_BYTES}
 use Rattle.kds_lines.specs.declared.outcome.Outcome.{Outcome}
 use Rattle.kds_lines.specs.declared.outcome.Outcome.TheVariants.{Whole, Unfinished, Stopped, TooLong, Read, Write}
 use Rattle.kds_lines.specs.declared.outcome.Outcome.TheVariants.{Memory}
-use Rattle.kds_lines.specs.declared.reading.LineBuffer.{LineBuffer}
+use Rattle.kds_lines.specs.declared.line_buffer.LineBuffer.{LineBuffer}
 use Rattle.kds_lines.specs.Lines.{unfinished, too_long, is_over, lined, last_of, preceded_by, Fed, Begins, IsTooLong}
 use Rattle.kds_lines.specs.Lines.{NoFeed}
 use Rattle.kds_lines.specs.Writing.{Wrote, Loses}
@@ -291,12 +291,12 @@ module _ (before took : List (List ℕ) → Type 0) (broke refuses : List (List 
     unwritten = h.unwritten;
   }
 
-  pub lines_begin : (fed piece : List ℕ) (reading : LineBuffer) (start now : Option (List ℕ))
-      → Stands took output fed reading start now → FedLines took output fed piece piece reading start now
-  lines_begin fed piece reading start now st = record {
+  pub lines_begin : (fed piece : List ℕ) (line_buffer : LineBuffer) (start now : Option (List ℕ))
+      → Stands took output fed line_buffer start now → FedLines took output fed piece piece line_buffer start now
+  lines_begin fed piece line_buffer start now st = record {
     front = [];
     parts = refl;
-    stands = subst (λ (z : List ℕ). Stands took output z reading start now) (sym (append-nil fed)) st;
+    stands = subst (λ (z : List ℕ). Stands took output z line_buffer start now) (sym (append-nil fed)) st;
   }
 
   -- A further line goes on from the lines before it.
@@ -406,10 +406,10 @@ not_over len used a b = grind (arith, common_steps)
 module _ (took : List (List ℕ) → Type 0) (broke refuses : List (List ℕ) → List ℕ → Type 0) (output : List (List ℕ)
     → List ℕ) where
   -- The source fails.
-  pub halted_read : (all left after start now : Option (List ℕ)) (reading : LineBuffer)
-      → Running took output all left reading start now → Keeps left after
+  pub halted_read : (all left after start now : Option (List ℕ)) (line_buffer : LineBuffer)
+      → Running took output all left line_buffer start now → Keeps left after
       → HaltedAfter Read took broke refuses output all after start now
-  halted_read all left after start now reading r keeps =
+  halted_read all left after start now line_buffer r keeps =
       let st = r.stands in record {
         fed = r.fed;
         consumed = Consumes-kept all left after r.fed r.consumed keeps;
@@ -525,17 +525,18 @@ module _ (took : List (List ℕ) → Type 0) (broke refuses : List (List ℕ) �
         unwritten = refl;
       })
 
-  pub told_end : (all left start now : Option (List ℕ)) (reading : LineBuffer)
-      → Running took output all left reading start now → IsAtEnd left
-      → length reading.held ≤ LINE_BYTES → reading.used + length reading.held ≤ INPUT_BYTES
-      → IfSome all (λ bytes. Told (if length reading.held == 0 then Whole else Unfinished (reading.count + 1))
+  pub told_end : (all left start now : Option (List ℕ)) (line_buffer : LineBuffer)
+      → Running took output all left line_buffer start now → IsAtEnd left
+      → length line_buffer.held ≤ LINE_BYTES → line_buffer.used + length line_buffer.held ≤ INPUT_BYTES
+      → IfSome all (λ bytes. Told (if length line_buffer.held == 0 then Whole else Unfinished (line_buffer.count + 1))
       took broke refuses output bytes left start now)
-  told_end None left start now reading r e a b = tt
-  told_end (Some x) None start now reading r e a b = absurd r.consumed
-  told_end (Some x) (Some ys) start now reading r e a b =
+  told_end None left start now line_buffer r e a b = tt
+  told_end (Some x) None start now line_buffer r e a b = absurd r.consumed
+  told_end (Some x) (Some ys) start now line_buffer r e a b =
       let same : r.fed ≡ x = sym (r.consumed ∙ ap (λ z. r.fed ++ z) e ∙ append-nil r.fed) in
       let st = r.stands in
-      let last : lined x ≡ preceded_by st.texts (last_of reading.used reading.held) =
-      ap lined (sym same) ∙ at_end r.fed st.texts reading.used reading.held st.bytes in
-      told_last x reading.count reading.used reading.held st.texts (Some ys) start now a b last st.count st.taken
+      let last : lined x ≡ preceded_by st.texts (last_of line_buffer.used line_buffer.held) =
+      ap lined (sym same) ∙ at_end r.fed st.texts line_buffer.used line_buffer.held st.bytes in
+      told_last x line_buffer.count line_buffer.used line_buffer.held st.texts (Some ys) start now a b last st.count
+      st.taken
       (subst (λ (z : List ℕ). Wrote start now (output st.texts) z []) r.flushed st.wrote)

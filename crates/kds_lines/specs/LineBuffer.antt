@@ -7,17 +7,17 @@ use Rattle.kds_lines.specs.Telling.{Unwritten}
 use Rattle.kds_lines.specs.Writing.{Wrote}
 use Rattle.kds_lines.specs.declared.outcome.Outcome.{Outcome}
 use Rattle.kds_lines.specs.declared.outcome.Outcome.TheVariants.{Stopped, TooLong, Read, Write, Memory}
-use Rattle.kds_lines.specs.declared.reading.LineBuffer.{LineBuffer}
+use Rattle.kds_lines.specs.declared.line_buffer.LineBuffer.{LineBuffer}
 
 -- The bytes `fed` were fed: their whole lines were taken, and the output for these lines was written or waits.
 pub record Stands (took : List (List ℕ) → Type 0) (output : List (List ℕ)
-    → List ℕ) (fed : List ℕ) (reading : LineBuffer)
+    → List ℕ) (fed : List ℕ) (line_buffer : LineBuffer)
     (start now : Option (List ℕ)) : Type 0 where
   pub texts : List (List ℕ)
-  pub bytes : Fed fed texts reading.used reading.held
-  pub count : reading.count ≡ length texts
+  pub bytes : Fed fed texts line_buffer.used line_buffer.held
+  pub count : line_buffer.count ≡ length texts
   pub taken : took texts
-  pub wrote : Wrote start now (output texts) reading.output []
+  pub wrote : Wrote start now (output texts) line_buffer.output []
 
 -- Why the reading stopped with an outcome after the lines `texts` of the bytes `fed`.
 abbrev pub Stops : Outcome → (List (List ℕ) → List ℕ → Type 0) → List ℕ → List (List ℕ) → Type 0
@@ -51,11 +51,11 @@ pub record Halted (outcome : Outcome) (took : List (List ℕ) → Type 0) (broke
 
 -- A prefix of `piece` was fed, and `rest` is what remains of `piece`.
 pub record FedLines (took : List (List ℕ) → Type 0) (output : List (List ℕ) → List ℕ) (fed piece rest : List ℕ)
-    (reading : LineBuffer)
+    (line_buffer : LineBuffer)
     (start now : Option (List ℕ)) : Type 0 where
   pub front : List ℕ
   pub parts : piece ≡ front ++ rest
-  pub stands : Stands took output (fed ++ front) reading start now
+  pub stands : Stands took output (fed ++ front) line_buffer start now
 
 -- ---- One step of a reading, whatever was fed before it: what the taker took and the sink held, before and after it
 
@@ -92,16 +92,16 @@ module _ (took took_now : List (List ℕ) → Type 0) (output : List (List ℕ) 
 
 -- The number of bytes that were fed.
 abbrev pub fed_count : LineBuffer → ℕ
-fed_count reading = reading.used + length reading.held
+fed_count line_buffer = line_buffer.used + length line_buffer.held
 
 -- Some bytes were taken from the source and fed, and no output waits.
 pub record Running (took : List (List ℕ) → Type 0) (output : List (List ℕ) → List ℕ) (all left : Option (List ℕ))
-    (reading : LineBuffer)
+    (line_buffer : LineBuffer)
     (start now : Option (List ℕ)) : Type 0 where
   pub fed : List ℕ
   pub consumed : Consumes all left fed
-  pub stands : Stands took output fed reading start now
-  pub flushed : reading.output ≡ []
+  pub stands : Stands took output fed line_buffer start now
+  pub flushed : line_buffer.output ≡ []
 
 -- The reading stopped with `outcome` after some bytes were taken from the source.
 pub record HaltedAfter (outcome : Outcome) (took : List (List ℕ) → Type 0) (broke refuses : List (List ℕ) → List ℕ

@@ -10,8 +10,8 @@ ghost use Rattle.kds_lines.specs.LineBuffer.{EndsLine, Feeds, FeedsFront, HoldSt
 ghost use Rattle.kds_lines.specs.LineBuffer.{StopsInLine, fed_count};
 ghost use Rattle.kds_lines.specs.Taking.{Goes, Breaks};
 
+use crate::line_buffer::LineBuffer;
 use crate::outcome::Outcome;
-use crate::reading::LineBuffer;
 use crate::sizes::OUTPUT_BYTES;
 use crate::taker::Taker;
 use kds_base::{Memory, Octets};
@@ -69,34 +69,40 @@ fn take_joined<T: Taker>(
     taker.take(alloc, held.as_slice(), output)
 }
 
-/// Completes the unfinished line in `reading`, and hands the whole line to the taker. `tail` is the rest of the line,
+/// Completes the unfinished line in `line_buffer`, and hands the whole line to the taker. `tail` is the rest of the line,
 /// without its line feed. Fails if the line or the input is too long, if the taker stops the reading, or if memory runs
 /// out.
 fn end_line<T: Taker>(
     alloc: Global,
     taker: &mut T,
-    reading: &mut LineBuffer,
+    line_buffer: &mut LineBuffer,
     tail: &[u8],
 ) -> Result<(), Outcome>
     ensures ok { OnOk result ((held : Option (List ℕ)) →
-        EndsLine (T.took taker.old) (T.took taker.new) T.output reading.old reading.new held held tail.now) }
+        EndsLine (T.took taker.old) (T.took taker.new) T.output line_buffer.old line_buffer.new held held tail.now) }
     ensures err { IfErr result (λ o. (held : Option (List ℕ)) →
-        StopsInLine (T.took taker.old) (T.took taker.new) T.output reading.old reading.new held held
+        StopsInLine (T.took taker.old) (T.took taker.new) T.output line_buffer.old line_buffer.new held held
         (T.broke taker.new) T.refuses o tail.now) }
-    ensures count { OnOk result (fed_count reading.new ≡ fed_count reading.old + length tail.now + 1) }
+    ensures count { OnOk result (fed_count line_buffer.new ≡ fed_count line_buffer.old + length tail.now + 1) }
     ensures kinds { IfErr result IsOwnStop }
 {
-    let len = joined_length(&reading.held, tail);
-    let total = reading.used + len as u64 + 1;
+    let len = joined_length(&line_buffer.held, tail);
+    let total = line_buffer.used + len as u64 + 1;
     if over(len, total) {
         return Err(Outcome::TooLong);
     }
-    let number = reading.count + 1;
-    match take_joined(alloc, taker, &mut reading.held, tail, &mut reading.output) {
+    let number = line_buffer.count + 1;
+    match take_joined(
+        alloc,
+        taker,
+        &mut line_buffer.held,
+        tail,
+        &mut line_buffer.output,
+    ) {
         Ok(true) => {
-            reading.held.clear();
-            reading.used = total;
-            reading.count = number;
+            line_buffer.held.clear();
+            line_buffer.used = total;
+            line_buffer.count = number;
             Ok(())
         }
         Ok(false) => Err(Outcome::Stopped(number)),
@@ -104,29 +110,29 @@ fn end_line<T: Taker>(
     }
 }
 
-/// Completes the unfinished line in `reading`, and hands the whole line to the taker. Then writes the pending output if
+/// Completes the unfinished line in `line_buffer`, and hands the whole line to the taker. Then writes the pending output if
 /// it has `OUTPUT_BYTES` bytes or more. `tail` is the rest of the line, without its line feed.
 fn next_line<T: Taker, K: Sink>(
     alloc: Global,
     taker: &mut T,
-    reading: &mut LineBuffer,
+    line_buffer: &mut LineBuffer,
     tail: &[u8],
     out: &mut K,
 ) -> Result<(), Outcome>
     ensures ok { OnOk result
-        (EndsLine (T.took taker.old) (T.took taker.new) T.output reading.old reading.new
+        (EndsLine (T.took taker.old) (T.took taker.new) T.output line_buffer.old line_buffer.new
         (K.held out.old) (K.held out.new) tail.now) }
     ensures err { IfErr result (λ o.
-        StopsInLine (T.took taker.old) (T.took taker.new) T.output reading.old reading.new
+        StopsInLine (T.took taker.old) (T.took taker.new) T.output line_buffer.old line_buffer.new
         (K.held out.old) (K.held out.new) (T.broke taker.new) T.refuses o tail.now) }
-    ensures count { OnOk result (fed_count reading.new ≡ fed_count reading.old + length tail.now + 1) }
-    ensures bounded { OnOk result (length reading.new.output < OUTPUT_BYTES) }
+    ensures count { OnOk result (fed_count line_buffer.new ≡ fed_count line_buffer.old + length tail.now + 1) }
+    ensures bounded { OnOk result (length line_buffer.new.output < OUTPUT_BYTES) }
     ensures later { K.faults out.old ≤ K.faults out.new }
     ensures write { IsErrOf result Outcome.Write → Rose (K.faults out.old) (K.faults out.new) }
     ensures kinds { IfErr result IsFeedStop }
 {
-    end_line(alloc, taker, reading, tail)?;
-    match reading.spill(out) {
+    end_line(alloc, taker, line_buffer, tail)?;
+    match line_buffer.spill(out) {
         Ok(()) => Ok(()),
         Err(_) => Err(Outcome::Write),
     }
@@ -137,20 +143,21 @@ fn next_line<T: Taker, K: Sink>(
 fn feed_lines<'a, T: Taker, K: Sink>(
     alloc: Global,
     taker: &mut T,
-    reading: &mut LineBuffer,
+    line_buffer: &mut LineBuffer,
     piece: &'a [u8],
     out: &mut K,
 ) -> Result<&'a [u8], Outcome>
-    requires { length reading.old.output < OUTPUT_BYTES }
+    requires { length line_buffer.old.output < OUTPUT_BYTES }
     ensures ok { IfOk result (λ rest.
-        FeedsFront (T.took taker.old) (T.took taker.new) T.output reading.old reading.new
+        FeedsFront (T.took taker.old) (T.took taker.new) T.output line_buffer.old line_buffer.new
         (K.held out.old) (K.held out.new) piece.entry.now rest.now) }
     ensures rest { IfOk result (λ rest. NoFeed rest.now) }
-    ensures count { IfOk result (λ rest. fed_count reading.new + length rest.now ≡ fed_count reading.old
+    ensures count { IfOk result (λ rest. fed_count line_buffer.new + length rest.now ≡ fed_count line_buffer.old
         + length piece.entry.now) }
-    ensures bounded { OnOk result (length reading.new.output < OUTPUT_BYTES) }
+    ensures bounded { OnOk result (length line_buffer.new.output < OUTPUT_BYTES) }
     ensures err { IfErr result (λ o.
-        StopsIn (T.took taker.old) (T.took taker.new) T.output reading.old reading.new (K.held out.old) (K.held out.new)
+        StopsIn (T.took taker.old) (T.took taker.new) T.output line_buffer.old line_buffer.new
+        (K.held out.old) (K.held out.new)
         (T.broke taker.new) T.refuses o piece.entry.now) }
     ensures later { K.faults out.old ≤ K.faults out.new }
     ensures write { IsErrOf result Outcome.Write → Rose (K.faults out.old) (K.faults out.new) }
@@ -159,7 +166,7 @@ fn feed_lines<'a, T: Taker, K: Sink>(
     let mut rest = piece;
     while let Some(at) = first_feed(rest) {
         let (tail, after) = rest.split_at(at);
-        if let Err(outcome) = next_line(alloc, taker, reading, tail, out) {
+        if let Err(outcome) = next_line(alloc, taker, line_buffer, tail, out) {
             return Err(outcome);
         }
         let (_, next) = after.split_at(1);
@@ -168,25 +175,26 @@ fn feed_lines<'a, T: Taker, K: Sink>(
     Ok(rest)
 }
 
-/// Appends `rest`, which has no line feed, to the unfinished line that `reading` holds. Fails if the line or the input
+/// Appends `rest`, which has no line feed, to the unfinished line that `line_buffer` holds. Fails if the line or the input
 /// becomes too long, or if memory runs out.
-fn hold(reading: &mut LineBuffer, rest: &[u8]) -> Result<(), Outcome>
-    ensures ok { OnOk result ((fed : List ℕ) (texts : List (List ℕ)) → Fed fed texts reading.old.used reading.old.held
+fn hold(line_buffer: &mut LineBuffer, rest: &[u8]) -> Result<(), Outcome>
+    ensures ok { OnOk result ((fed : List ℕ) (texts : List (List ℕ))
+        → Fed fed texts line_buffer.old.used line_buffer.old.held
         → NoFeed rest.now
-        → Fed (fed ++ rest.now) texts reading.new.used reading.new.held) }
-    ensures output { reading.new.output ≡ reading.old.output }
-    ensures lines { reading.new.count ≡ reading.old.count }
-    ensures count { OnOk result (fed_count reading.new ≡ fed_count reading.old + length rest.now) }
+        → Fed (fed ++ rest.now) texts line_buffer.new.used line_buffer.new.held) }
+    ensures output { line_buffer.new.output ≡ line_buffer.old.output }
+    ensures lines { line_buffer.new.count ≡ line_buffer.old.count }
+    ensures count { OnOk result (fed_count line_buffer.new ≡ fed_count line_buffer.old + length rest.now) }
     ensures err { IfErr result (λ o. (fed : List ℕ) (texts : List (List ℕ))
-        → Fed fed texts reading.old.used reading.old.held → NoFeed rest.now
+        → Fed fed texts line_buffer.old.used line_buffer.old.held → NoFeed rest.now
         → HoldStops o (fed ++ rest.now) texts) }
     ensures kinds { IfErr result IsOwnStop }
 {
-    let len = joined_length(&reading.held, rest);
-    if over(len, reading.used + len as u64) {
+    let len = joined_length(&line_buffer.held, rest);
+    if over(len, line_buffer.used + len as u64) {
         return Err(Outcome::TooLong);
     }
-    match reading.held.extend(rest) {
+    match line_buffer.held.extend(rest) {
         Ok(()) => Ok(()),
         Err(_) => Err(Outcome::Memory),
     }
@@ -198,25 +206,26 @@ fn hold(reading: &mut LineBuffer, rest: &[u8]) -> Result<(), Outcome>
 pub fn feed<T: Taker, K: Sink>(
     alloc: Global,
     taker: &mut T,
-    reading: &mut LineBuffer,
+    line_buffer: &mut LineBuffer,
     piece: &[u8],
     out: &mut K,
 ) -> Result<(), Outcome>
-    requires { length reading.old.output < OUTPUT_BYTES }
+    requires { length line_buffer.old.output < OUTPUT_BYTES }
     ensures ok { OnOk result
-        (Feeds (T.took taker.old) (T.took taker.new) T.output reading.old reading.new
+        (Feeds (T.took taker.old) (T.took taker.new) T.output line_buffer.old line_buffer.new
         (K.held out.old) (K.held out.new) piece.now) }
-    ensures count { OnOk result (fed_count reading.new ≡ fed_count reading.old + length piece.now) }
-    ensures bounded { OnOk result (length reading.new.output < OUTPUT_BYTES) }
+    ensures count { OnOk result (fed_count line_buffer.new ≡ fed_count line_buffer.old + length piece.now) }
+    ensures bounded { OnOk result (length line_buffer.new.output < OUTPUT_BYTES) }
     ensures err { IfErr result (λ o.
-        StopsIn (T.took taker.old) (T.took taker.new) T.output reading.old reading.new (K.held out.old) (K.held out.new)
+        StopsIn (T.took taker.old) (T.took taker.new) T.output line_buffer.old line_buffer.new
+        (K.held out.old) (K.held out.new)
         (T.broke taker.new) T.refuses o piece.now) }
     ensures later { K.faults out.old ≤ K.faults out.new }
     ensures write { IsErrOf result Outcome.Write → Rose (K.faults out.old) (K.faults out.new) }
     ensures kinds { IfErr result IsFeedStop }
 {
-    let rest = feed_lines(alloc, taker, reading, piece, out)?;
-    match hold(reading, rest) {
+    let rest = feed_lines(alloc, taker, line_buffer, piece, out)?;
+    match hold(line_buffer, rest) {
         Ok(()) => Ok(()),
         Err(outcome) => Err(outcome),
     }

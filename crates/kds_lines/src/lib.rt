@@ -3,9 +3,9 @@
 #![tactic(auto)]
 
 mod feed;
+mod line_buffer;
 mod outcome;
 mod read;
-mod reading;
 mod sizes;
 mod taker;
 

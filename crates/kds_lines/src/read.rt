@@ -10,8 +10,8 @@ ghost use Rattle.kds_lines.specs.LineBuffer.{RunsOn, StopsRunning, IsStop, fed_c
 ghost use Rattle.kds_lines.specs.Telling.{Told};
 
 use crate::feed::feed;
+use crate::line_buffer::LineBuffer;
 use crate::outcome::Outcome;
-use crate::reading::LineBuffer;
 use crate::sizes::PIECE_BYTES;
 use crate::taker::Taker;
 use kds_ends::{Failed, Sink, Source};
@@ -21,11 +21,11 @@ use std::alloc::Global;
 /// written. Otherwise the read could wait forever, since a client may send nothing more until it has received the
 /// answer to what it sent.
 fn read_piece<S: Source>(
-    _reading: &LineBuffer,
+    _line_buffer: &LineBuffer,
     input: &mut S,
     buffer: &mut [u8],
 ) -> Result<usize, Failed>
-    requires { _reading.now.output ≡ [] }
+    requires { _line_buffer.now.output ≡ [] }
     ensures bound { ReadsAtMost result buffer.new }
     ensures bytes { ReadConsumes (S.left input.old) (S.left input.new) result buffer.new }
     ensures cause { HasCause (S.faults input.old) (S.faults input.new) result }
@@ -50,32 +50,32 @@ fn lost_after(fed: Result<(), Outcome>) -> Outcome
 fn next_piece<T: Taker, S: Source, K: Sink>(
     alloc: Global,
     taker: &mut T,
-    reading: &mut LineBuffer,
+    line_buffer: &mut LineBuffer,
     input: &mut S,
     buffer: &mut [u8],
     out: &mut K,
 ) -> Result<bool, Outcome>
     requires room { 0 < length buffer.old }
-    requires written { reading.old.output ≡ [] }
+    requires written { line_buffer.old.output ≡ [] }
     ensures goes_on { IfOk result (λ more. RunsOn (T.took taker.old) (T.took taker.new) T.output
-        (S.left input.old) (S.left input.new) (K.held out.old) (K.held out.new) reading.old reading.new) }
-    ensures grows { IfOk result (λ more. more ≡ true → fed_count reading.old < fed_count reading.new) }
+        (S.left input.old) (S.left input.new) (K.held out.old) (K.held out.new) line_buffer.old line_buffer.new) }
+    ensures grows { IfOk result (λ more. more ≡ true → fed_count line_buffer.old < fed_count line_buffer.new) }
     ensures ends { IfOk result (λ more. more ≡ false → IsAtEnd (S.left input.new)) }
     ensures err { IfErr result (λ o. StopsRunning (T.took taker.old) (T.took taker.new) T.output
         (S.left input.old) (S.left input.new) (K.held out.old) (K.held out.new)
-        (T.broke taker.new) T.refuses o reading.old) }
+        (T.broke taker.new) T.refuses o line_buffer.old) }
     ensures source_later { S.faults input.old ≤ S.faults input.new }
     ensures sink_later { K.faults out.old ≤ K.faults out.new }
     ensures read { IsErrOf result Outcome.Read → Rose (S.faults input.old) (S.faults input.new) }
     ensures write { IsErrOf result Outcome.Write → Rose (K.faults out.old) (K.faults out.new) }
     ensures kinds { IfErr result IsStop }
 {
-    match read_piece(reading, input, buffer) {
+    match read_piece(line_buffer, input, buffer) {
         Ok(0) => Ok(false),
         Ok(count) => {
             let (piece, _) = buffer.split_at(count);
-            let fed = feed(alloc, taker, reading, piece, out);
-            match reading.flush(out) {
+            let fed = feed(alloc, taker, line_buffer, piece, out);
+            match line_buffer.flush(out) {
                 Ok(()) => {}
                 Err(_) => return Err(lost_after(fed)),
             }
@@ -90,14 +90,14 @@ fn next_piece<T: Taker, S: Source, K: Sink>(
 
 /// Returns the outcome at the end of the input: `Unfinished` if the input ended with a line without a line feed,
 /// otherwise `Whole`.
-fn last(reading: &LineBuffer) -> Outcome
-    ensures { result ≡ (if length reading.now.held
-        == 0 then Outcome.Whole else Outcome.Unfinished (reading.now.count + 1)) }
+fn last(line_buffer: &LineBuffer) -> Outcome
+    ensures { result ≡ (if length line_buffer.now.held
+        == 0 then Outcome.Whole else Outcome.Unfinished (line_buffer.now.count + 1)) }
 {
-    if reading.held.as_slice().is_empty() {
+    if line_buffer.held.as_slice().is_empty() {
         Outcome::Whole
     } else {
-        Outcome::Unfinished(reading.count + 1)
+        Outcome::Unfinished(line_buffer.count + 1)
     }
 }
 
@@ -122,11 +122,11 @@ pub fn read_lines<T: Taker, S: Source, K: Sink>(
     ensures later { K.faults out.old ≤ K.faults out.new }
 {
     let mut buffer = [0u8; PIECE_BYTES];
-    let mut reading = LineBuffer::new(alloc);
+    let mut line_buffer = LineBuffer::new(alloc);
     loop {
-        match next_piece(alloc, taker, &mut reading, input, &mut buffer, out) {
+        match next_piece(alloc, taker, &mut line_buffer, input, &mut buffer, out) {
             Ok(true) => {}
-            Ok(false) => return last(&reading),
+            Ok(false) => return last(&line_buffer),
             Err(outcome) => return outcome,
         }
     }

@@ -9,13 +9,13 @@ pub record LogValue : Type 0 where
   pub last : Option ℕ
 
 -- A log, and the number of further records for which memory is reserved.
-pub record LogWithRoom : Type 0 where
+pub record LogWithReserve : Type 0 where
   pub kept : List Logged
   pub last : Option ℕ
-  pub room : ℕ
+  pub reserved : ℕ
 
 -- The log of `l`, without the reserved memory.
-abbrev pub log_of : LogWithRoom → LogValue
+abbrev pub log_of : LogWithReserve → LogValue
 log_of l = record { kept = l.kept; last = l.last }
 
 -- ---- Order

@@ -31,11 +31,11 @@ impl Model for ShardLog {
     ghost use Rattle.std.specs.Prelude.{◌-◌, ◌≤◌, map};
     ghost use Rattle.std.specs.VecDeque.{deque_capacity, deque_len};
     ghost use Rattle.kds_defs.specs.Records.{logged};
-    ghost use Rattle.kds_log.specs.Log.{LogWithRoom, IsOrderly};
+    ghost use Rattle.kds_log.specs.Log.{LogWithReserve, IsOrderly};
 
-    ghost Value = { LogWithRoom };
+    ghost Value = { LogWithReserve };
 
-    ghost view = { λ l. record { kept = map logged l.records.items; last = l.last; room = l.reserved } };
+    ghost view = { λ l. record { kept = map logged l.records.items; last = l.last; reserved = l.reserved } };
 
     ghost invariant = { λ l. IsOrderly (record { kept = map logged l.records.items; last = l.last })
         × (l.reserved ≤ deque_capacity l.records - deque_len l.records) };
@@ -81,7 +81,7 @@ impl ShardLog {
     /// unchanged, even if memory runs out.
     pub fn reserve_one(&mut self) -> Result<(), Memory>
         ensures same { log_of self.new ≡ log_of self.old }
-        ensures room { OnOk result (self.new.room ≡ self.old.room + 1) }
+        ensures reserved { OnOk result (self.new.reserved ≡ self.old.reserved + 1) }
     {
         let reserved = self.reserved + 1;
         self.records.reserve(reserved)?;
@@ -92,7 +92,7 @@ impl ShardLog {
     /// Gives up all reservations of memory. The records in the log are unchanged.
     pub fn release(&mut self)
         ensures same { log_of self.new ≡ log_of self.old }
-        ensures none { self.new.room ≡ 0 }
+        ensures none { self.new.reserved ≡ 0 }
     {
         self.reserved = 0;
     }
@@ -101,11 +101,11 @@ impl ShardLog {
     /// Preconditions: memory is reserved for at least one record, and the precondition of `append` is met. One
     /// reservation is used up.
     pub fn append_reserved(&mut self, item: Stored)
-        requires room { 1 ≤ self.old.room }
+        requires reserved { 1 ≤ self.old.reserved }
         requires number { IfSome self.old.last (λ n. n < item.seq) }
         requires arrival { AllByRecursion (λ r. r.arrival ≤ item.arrival) self.old.kept }
         ensures value { log_of self.new ≡ record { kept = self.old.kept ++ logged item ∷ []; last = Some item.seq } }
-        ensures room { self.new.room + 1 ≡ self.old.room }
+        ensures reserved { self.new.reserved + 1 ≡ self.old.reserved }
     {
         self.last = Some(item.seq);
         self.records.push_back_reserved(item);
@@ -115,7 +115,7 @@ impl ShardLog {
     /// Removes exactly the records that arrived at or before the trim horizon `cut`. All reservations of memory are
     /// given up. If no record is left, the log keeps no memory.
     pub fn trim(&mut self, cut: Moment)
-        ensures none { self.new.room ≡ 0 }
+        ensures none { self.new.reserved ≡ 0 }
         ensures value { log_of self.new ≡ record {
           kept = left_among (floor_of (Some cut)) 0 self.old.kept;
           last = self.old.last;

@@ -9,7 +9,7 @@ ghost use Rattle.kds_ends.specs.Causes.{Rose, AppendsFront};
 ghost use Rattle.kds_session.specs.Text.{Answers};
 ghost use Rattle.kds_session.specs.States.{SessionState};
 ghost use Rattle.kds_session.specs.Standing.{Passes, sent_more, IsQuiet, to_come, end_of};
-ghost use Rattle.kds_session.specs.Next.{room_of};
+ghost use Rattle.kds_session.specs.Next.{feed_limit_of};
 ghost use Rattle.kds_session.specs.declared.state.Standing.TheVariants.{Live};
 ghost use Rattle.kds_session.specs.declared.state.Waiting.TheVariants.{Nothing};
 ghost use Rattle.kds_server.specs.Texts.{Tells, IsAnswerStatus, status_at};
@@ -77,7 +77,7 @@ fn read_piece<S: Source>(
 ) -> Result<bool, Status>
     requires some { 0 < length buffer.old }
     requires few { length buffer.old ≤ PIECE_BYTES }
-    requires room { PIECE_BYTES ≤ room_of session.old }
+    requires feed_limit { PIECE_BYTES ≤ feed_limit_of session.old }
     requires written { session.old.output ≡ [] }
     ensures ok { OnOk result ((held : Option (List ℕ))
         → ReadsOn (S.left input.old) session.old held (S.left input.new) session.new held) }
@@ -108,7 +108,7 @@ fn read_piece<S: Source>(
 /// every page of a frame is touched, also by a connection whose requests are short.
 #[inline(never)]
 fn read_large_piece<S: Source>(session: &mut Session, input: &mut S) -> Result<bool, Status>
-    requires room { PIECE_BYTES ≤ room_of session.old }
+    requires feed_limit { PIECE_BYTES ≤ feed_limit_of session.old }
     requires written { session.old.output ≡ [] }
     ensures ok { OnOk result ((held : Option (List ℕ))
         → ReadsOn (S.left input.old) session.old held (S.left input.new) session.new held) }
@@ -133,7 +133,7 @@ fn read_next<S: Source>(
     input: &mut S,
     buffer: &mut [u8; SMALL_PIECE_BYTES],
 ) -> Result<bool, Status>
-    requires room { PIECE_BYTES ≤ room_of session.old }
+    requires feed_limit { PIECE_BYTES ≤ feed_limit_of session.old }
     requires written { session.old.output ≡ [] }
     ensures ok { OnOk result ((held : Option (List ℕ))
         → ReadsOn (S.left input.old) session.old held (S.left input.new) session.new held) }
@@ -183,7 +183,7 @@ pub fn exchange<S: Source, K: Sink>(
     buffer: &mut [u8; SMALL_PIECE_BYTES],
 ) -> Option<Status>
     requires quiet { IsQuiet session.old }
-    requires room { session.old.standing ≡ Live → PIECE_BYTES ≤ room_of session.old }
+    requires feed_limit { session.old.standing ≡ Live → PIECE_BYTES ≤ feed_limit_of session.old }
     ensures goes_on { result ≡ None
         → ReadsOn (S.left input.old) session.old (K.held out.old) (S.left input.new) session.new (K.held out.new) }
     ensures ended { IfSome result

@@ -28,9 +28,9 @@ kept_in g same (suc i) (v ∷ vs) = ap (λ ys. g v ∷ ys) (kept_in g same i vs)
 
 -- Services with the same streams, and the same turn, are the same.
 pub same_service : (c b n t u : ℕ) (vs us : List StreamValue) → vs ≡ us → t ≡ u
-    → record (service c b n vs) { turn = t } ≡ record (service c b n us) { turn = u }
-same_service c b n t u vs us are is = ap (λ xs. record (service c b n xs) { turn = t }) are
-    ∙ ap (λ k. record (service c b n us) { turn = k }) is
+    → record (service c b n vs) { next_to_settle = t } ≡ record (service c b n us) { next_to_settle = u }
+same_service c b n t u vs us are is = ap (λ xs. record (service c b n xs) { next_to_settle = t }) are
+    ∙ ap (λ k. record (service c b n us) { next_to_settle = k }) is
 
 -- ---- The stream at a place
 

@@ -17,7 +17,7 @@ use Rattle.kds_stream.specs.Showing.{Shows}
 use Rattle.kds_stream.specs.Value.{StreamValue}
 use Rattle.kds_service.proofs.Leading.{refused_leads}
 use Rattle.kds_service.proofs.Readings.{live_count, open_are, some_named}
-use Rattle.kds_service.specs.Places.{is_full, place_of}
+use Rattle.kds_service.specs.Places.{is_full, index_by_name}
 use Rattle.kds_service.specs.Shown.{Leads, ServiceValue, ShowsAll, StaysShownWith, service}
 
 -- The limits are those of the service.
@@ -35,20 +35,20 @@ Adds = (c b n by count : ℕ) (name : List ℕ) (vs : List StreamValue) (v : Str
     → StaysShownWith c b n vs log v by name count
 
 module _ (c b n : ℕ) (vs : List StreamValue) (name : List ℕ) (count : ℕ) where
-  pub create_there : is_some (place_of vs name) ≡ true
+  pub create_there : is_some (index_by_name vs name) ≡ true
       → Leads (service c b n vs) (service c b n vs) (command.Create name count) (Err refusal.StreamThere)
   create_there is =
       refused_leads (service c b n vs) (command.Create name count) refusal.StreamThere
       (λ log by all. refused_if _ _ _ (some_named (service c b n vs) log name all ∙ is))
 
-  pub create_full : is_some (place_of vs name) ≡ false → is_full vs count ≡ true
+  pub create_full : is_some (index_by_name vs name) ≡ false → is_full vs count ≡ true
       → Leads (service c b n vs) (service c b n vs) (command.Create name count) (Err refusal.Full)
   create_full is at_limit =
       refused_leads (service c b n vs) (command.Create name count) refusal.Full
       (λ log by all. passed_if _ _ _ (some_named (service c b n vs) log name all ∙ is)
       ∙ refused_if _ _ _ (full (service c b n vs) log count all ∙ at_limit))
 
-  pub create_spent : is_some (place_of vs name) ≡ false → is_full vs count ≡ false → (n == last_number) ≡ true
+  pub create_spent : is_some (index_by_name vs name) ≡ false → is_full vs count ≡ false → (n == last_number) ≡ true
       → Leads (service c b n vs) (service c b n vs) (command.Create name count) (Err refusal.Spent)
   create_spent is room last =
       refused_leads (service c b n vs) (command.Create name count) refusal.Spent
@@ -57,7 +57,7 @@ module _ (c b n : ℕ) (vs : List StreamValue) (name : List ℕ) (count : ℕ) w
       ∙ passed_if _ _ _ (full (service c b n vs) log count all ∙ room)
       ∙ refused_if _ _ _ (ap (λ m. m == last_number) all.made ∙ last))
 
-  pub create_done : (m : ℕ) (ws : List StreamValue) (v : StreamValue) → Adds → is_some (place_of vs name) ≡ false
+  pub create_done : (m : ℕ) (ws : List StreamValue) (v : StreamValue) → Adds → is_some (index_by_name vs name) ≡ false
       → is_full vs count ≡ false
       → (n == last_number) ≡ false
       → m ≡ n + 1 → ws ≡ vs ++ (v ∷ []) → v.no ≡ m → v.clock ≡ c

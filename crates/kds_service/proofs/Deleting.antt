@@ -12,7 +12,7 @@ use Rattle.kds_defs.proofs.Decisions.{after_accepted, with_none, with_some}
 use Rattle.kds_stream.specs.Value.{StreamValue}
 use Rattle.kds_service.proofs.Leading.{refused_leads}
 use Rattle.kds_service.proofs.Readings.{named_at, none_named}
-use Rattle.kds_service.specs.Places.{place_of}
+use Rattle.kds_service.specs.Places.{index_by_name}
 use Rattle.kds_service.specs.Shown.{LeadsTo, ShowsAll, service}
 
 -- What `others` ensures of a stream that is taken out.
@@ -21,13 +21,13 @@ Removes = (c b n by i : ℕ) (vs : List StreamValue) (x : StreamValue) (log : Jo
     → slice_get vs i ≡ Some x → ShowsAll (service c b n (remove vs i)) (plain_line c by (entry.Gone x.no) ∷ log)
 
 module _ (c : ℕ) (vs : List StreamValue) (name : List ℕ) where
-  pub delete_none : None ≡ place_of vs name → LeadsTo c vs vs (command.Delete name) (Err refusal.NoStream)
+  pub delete_none : None ≡ index_by_name vs name → LeadsTo c vs vs (command.Delete name) (Err refusal.NoStream)
   delete_none none b n =
       let w = service c b n vs in
       refused_leads w (command.Delete name) refusal.NoStream
       (λ log by all. with_none _ _ _ (none_named w log name all (sym none)))
 
-  pub delete_done : (i : ℕ) (ws : List StreamValue) (x : StreamValue) → Removes → Some i ≡ place_of vs name
+  pub delete_done : (i : ℕ) (ws : List StreamValue) (x : StreamValue) → Removes → Some i ≡ index_by_name vs name
       → slice_get vs i ≡ Some x → ws ≡ remove vs i
       → LeadsTo c vs ws (command.Delete name) (Ok reply.Done)
   delete_done i ws x removes found here taken = λ b n log by all.

@@ -19,7 +19,7 @@ use Rattle.kds_stream.specs.Value.{StreamValue, is_listed_at}
 use Rattle.kds_service.proofs.Lists.{drop_get}
 use Rattle.kds_service.proofs.Readings.{first_passes, from_zero, later_fails, live_are, none_passes}
 use Rattle.kds_service.specs.Keyed.{is_listed_in, is_listed_of, listed_keys, live_shard, state_in, state_of, stream_at}
-use Rattle.kds_service.specs.Places.{place_at}
+use Rattle.kds_service.specs.Places.{index_by_number}
 use Rattle.kds_service.specs.Shown.{AreAt, AreShown, ServiceValue, ShowsAll, is_among, numbers_of, service}
 
 -- ---- The stream of a number
@@ -37,7 +37,7 @@ found_from n (suc i) s (v ∷ vs) x is here =
     let rest = later_fails (λ m. m == s) n i v.no (numbers_of vs) is in
     here_or_later v vs s false rest.0 ∙ found_from (n + 1) i s vs x rest.1 here
 
-pub stream_found : (i s : ℕ) (vs : List StreamValue) (x : StreamValue) → Some i ≡ place_at vs s
+pub stream_found : (i s : ℕ) (vs : List StreamValue) (x : StreamValue) → Some i ≡ index_by_number vs s
     → slice_get vs i ≡ Some x → Some x ≡ stream_at vs s
 stream_found i s vs x found here = sym (found_from 0 i s vs x (sym found ∙ ap Some (from_zero i)) here)
 
@@ -48,7 +48,7 @@ none_from n s (v ∷ vs) none =
     let rest = none_passes (λ m. m == s) n v.no (numbers_of vs) none in
     here_or_later v vs s false rest.0 ∙ none_from (n + 1) s vs rest.1
 
-pub none_found : (s : ℕ) (vs : List StreamValue) → None ≡ place_at vs s → None ≡ stream_at vs s
+pub none_found : (s : ℕ) (vs : List StreamValue) → None ≡ index_by_number vs s → None ≡ stream_at vs s
 none_found s vs none = sym (none_from 0 s vs (sym none))
 
 -- The stream `x` has the number `s`, stands at the clock `c`, and shows the journal `log`.

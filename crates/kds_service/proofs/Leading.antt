@@ -9,14 +9,14 @@ use Rattle.kds_defs.specs.Decision.{Refused}
 use Rattle.kds_defs.specs.Histories.{answer_of, decide, lines_of}
 use Rattle.kds_defs.specs.Journal.{Journal, Line, with_lines}
 use Rattle.kds_defs.proofs.Decisions.{after_refused}
-use Rattle.kds_stream.specs.Serving.{Serves, asks_for_room, is_of_stream}
+use Rattle.kds_stream.specs.Serving.{Serves, needs_open_limit, is_of_stream}
 use Rattle.kds_stream.specs.Showing.{Shows}
 use Rattle.kds_stream.specs.Value.{StreamValue}
 use Rattle.kds_service.proofs.Lists.{all_get}
 use Rattle.kds_service.proofs.Lives.{own_lines}
 use Rattle.kds_service.proofs.Lookups.{told_so}
 use Rattle.kds_service.specs.Lines.{AreOf}
-use Rattle.kds_service.specs.Places.{open_beside, place_for}
+use Rattle.kds_service.specs.Places.{open_beside, index_for}
 use Rattle.kds_service.specs.Shown.{AreAt, Leads, LeadsTo, ServiceValue, ShowsAll, service}
 
 -- A refusal leaves all as it was.
@@ -32,17 +32,18 @@ Changes = (c b n i : ℕ) (vs : List StreamValue) (x v : StreamValue) (log : Jou
     → Shows v (with_lines lines log) → ShowsAll (service c b n (slice_set vs i v)) (with_lines lines log)
 
 -- The stream that the command is for is at a place. It becomes `v`, and answers what it decides.
-pub stream_leads : {E : Type 0} (c i : ℕ) (vs ws : List StreamValue) (x v : StreamValue) (what : Command) (room : ℕ)
+pub stream_leads : {E : Type 0} (c i : ℕ) (vs ws : List StreamValue) (x v : StreamValue) (what : Command)
+    (open_limit : ℕ)
     (r : Result (Result Reply Refusal) E)
-    → Changes → AreAt c vs → slice_get vs i ≡ Some x → place_for vs what ≡ Some i → ws ≡ slice_set vs i v
+    → Changes → AreAt c vs → slice_get vs i ≡ Some x → index_for vs what ≡ Some i → ws ≡ slice_set vs i v
     → is_of_stream what ≡ true
-    → (asks_for_room what ≡ true → room ≡ OPEN_SHARDS - open_beside vs x.no) → v.no ≡ x.no → v.clock ≡ x.clock
-    → IfOk r (λ a. Serves what room x v a) → IfOk r (LeadsTo c vs ws what)
-stream_leads c i vs ws x v what room (Err e) change at here found set own asked no_is clock_is served = tt
-stream_leads c i vs ws x v what room (Ok gives) change at here found set own asked no_is clock_is served =
+    → (needs_open_limit what ≡ true → open_limit ≡ OPEN_SHARDS - open_beside vs x.no) → v.no ≡ x.no → v.clock ≡ x.clock
+    → IfOk r (λ a. Serves what open_limit x v a) → IfOk r (LeadsTo c vs ws what)
+stream_leads c i vs ws x v what open_limit (Err e) change at here found set own asked no_is clock_is served = tt
+stream_leads c i vs ws x v what open_limit (Ok gives) change at here found set own asked no_is clock_is served =
     λ b n log by all.
     let now = all_get (λ u. u.clock ≡ c) i vs x at here in
-    let told = told_so (service c b n vs) log i x what room all here found asked in
+    let told = told_so (service c b n vs) log i x what open_limit all here found asked in
     let led = subst (λ m. (gives ≡ answer_of (decide log m by what))
     × Shows v (with_lines (lines_of (decide log m by what)) log)) now (served log by told) in
     let lines = lines_of (decide log c by what) in

@@ -19,13 +19,13 @@ use Rattle.kds_defs.specs.Shards.{is_open}
 use Rattle.kds_defs.specs.Streams.{is_live}
 use Rattle.kds_defs.specs.Subjects.{name_of_command}
 use Rattle.kds_defs.proofs.Decisions.{passed_if, refused_if, with_none}
-use Rattle.kds_stream.specs.Serving.{IsToldOf, asks_for_room, is_of_stream, token_of}
+use Rattle.kds_stream.specs.Serving.{IsToldOf, needs_open_limit, is_of_stream, token_of}
 use Rattle.kds_stream.specs.Showing.{Shows}
 use Rattle.kds_stream.specs.Value.{StreamValue}
 use Rattle.kds_service.proofs.Lists.{all_get}
 use Rattle.kds_service.proofs.Readings.{beside_is, from_zero, has_name, named_at, none_named, not_among, number_at}
 use Rattle.kds_service.proofs.Readings.{open_are, own_and_beside}
-use Rattle.kds_service.specs.Places.{expiry, open_beside, place_at, place_by, place_for, place_of}
+use Rattle.kds_service.specs.Places.{expiry, open_beside, index_by_number, index_by, index_for, index_by_name}
 use Rattle.kds_service.specs.Shown.{ServiceValue, ShowsAll, numbers_of}
 
 -- A command of the service that makes no stream, deletes none and lists none is for one stream.
@@ -42,17 +42,18 @@ rest_of _ own makes ends lists = own
 -- ---- The place that is found
 
 pub token_place : (vs : List StreamValue) (what : Command) (s : ℕ) → token_of what ≡ Some s
-    → place_for vs what ≡ place_at vs s
-token_place vs what s is = ap (λ t. place_by vs t (name_of_command what)) is
+    → index_for vs what ≡ index_by_number vs s
+token_place vs what s is = ap (λ t. index_by vs t (name_of_command what)) is
 
 pub name_place : (vs : List StreamValue) (what : Command) (name : List ℕ) → name_of_command what ≡ Some name
-    → place_for vs what ≡ place_of vs name
+    → index_for vs what ≡ index_by_name vs name
 name_place vs (command.Records iter limit) name is = absurd cc
 name_place vs (command.More page limit) name is = absurd cc
-name_place vs _ name is = ap (place_by vs None) is
+name_place vs _ name is = ap (index_by vs None) is
 
 -- The stream at the place of a number has the number.
-pub numbered : (i s : ℕ) (vs : List StreamValue) (x : StreamValue) → place_at vs s ≡ Some i → slice_get vs i ≡ Some x
+pub numbered : (i s : ℕ) (vs : List StreamValue) (x : StreamValue) → index_by_number vs s ≡ Some i
+    → slice_get vs i ≡ Some x
     → s ≡ x.no
 numbered i s vs x found here = number_at 0 i s vs x (found ∙ ap Some (from_zero i)) here
 
@@ -75,14 +76,14 @@ expired_so log c by (command.Records iter limit) r is = old_so refusal.Expired r
 expired_so log c by (command.More page limit) r is = old_so refusal.PageExpired r (is_old c page.issued) _ is
 expired_so log c by _ r is = absurd cc
 
-gone : (w : ServiceValue) (s : ℕ) (log : Journal) → place_at w.streams s ≡ None → ShowsAll w log
+gone : (w : ServiceValue) (s : ℕ) (log : Journal) → index_by_number w.streams s ≡ None → ShowsAll w log
     → not (is_live log s) ≡ true
 gone w s log none all = not_from_false (is_live log s) (all.others s (not_among 0 s (numbers_of w.streams) none))
 
 -- A token of no live stream, and a name that no stream has, are refused. What isn't for one stream comes first.
 pub gone_so : (w : ServiceValue) (log : Journal) (by : ℕ) (what : Command) → ShowsAll w log → is_of_stream what ≡ true
     → expiry w.clock what ≡ None
-    → place_for w.streams what ≡ None → decide log w.clock by what ≡ Refused refusal.NoStream
+    → index_for w.streams what ≡ None → decide log w.clock by what ≡ Refused refusal.NoStream
 gone_so w log by (command.Create name count) all own young none = absurd cc
 gone_so w log by (command.Delete name) all own young none = absurd cc
 gone_so w log by (command.Streams after limit) all own young none = absurd cc
@@ -106,11 +107,13 @@ gone_so w log by _ all own young none = with_none _ _ _ (none_named w log _ all 
 
 -- ---- What the stream at the place is told
 
-pub told_so : (w : ServiceValue) (log : Journal) (i : ℕ) (x : StreamValue) (what : Command) (room : ℕ) → ShowsAll w log
+pub told_so : (w : ServiceValue) (log : Journal) (i : ℕ) (x : StreamValue) (what : Command) (open_limit : ℕ)
+    → ShowsAll w log
     → slice_get w.streams i ≡ Some x
-    → place_for w.streams what ≡ Some i → (asks_for_room what ≡ true → room ≡ OPEN_SHARDS - open_beside w.streams x.no)
-    → IsToldOf what room x log
-told_so w log i x what room all here found asked = record {
+    → index_for w.streams what ≡ Some i
+    → (needs_open_limit what ≡ true → open_limit ≡ OPEN_SHARDS - open_beside w.streams x.no)
+    → IsToldOf what open_limit x log
+told_so w log i x what open_limit all here found asked = record {
   shown = all_get (λ v. Shows v log) i w.streams x all.shown here;
   named = λ name is.
       let at = sym (name_place w.streams what name is) ∙ found in

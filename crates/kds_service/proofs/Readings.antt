@@ -17,7 +17,7 @@ use Rattle.kds_stream.specs.Showing.{Shows}
 use Rattle.kds_stream.specs.Value.{StreamValue}
 use Rattle.kds_service.proofs.Lists.{AreUpTo, above, either_way, not_below, rising_from}
 use Rattle.kds_defs.specs.ScaleCommands.{open_elsewhere}
-use Rattle.kds_service.specs.Places.{open_beside, open_total, open_unless, place_of}
+use Rattle.kds_service.specs.Places.{open_beside, open_total, open_unless, index_by_name}
 use Rattle.kds_service.specs.Shown.{AreShown, IsRising, ServiceValue, ShowsAll, is_among, names_of, numbers_of}
 
 not_chosen : {A : Type 0} (b : Bool) (x y : A) → b ≡ false → (if b then x else y) ≡ y
@@ -192,13 +192,14 @@ module _ (log : Journal) (name : List ℕ) where
       here_or_rest v vs false shown.0 rest.0 ∙ none_named_from (n + 1) vs shown.1 rest.1
 
 pub named_at : (w : ServiceValue) (log : Journal) (name : List ℕ) (i : ℕ) (x : StreamValue) → ShowsAll w log
-    → place_of w.streams name ≡ Some i
+    → index_by_name w.streams name ≡ Some i
     → slice_get w.streams i ≡ Some x → stream_named log name ≡ Some x.no
 named_at w log name i x all is here =
     ap (find (λ s. same_name (name_of log s) name)) (live_are w log all)
     ∙ named_from log name 0 i w.streams x all.shown (is ∙ ap Some (from_zero i)) here
 
-pub none_named : (w : ServiceValue) (log : Journal) (name : List ℕ) → ShowsAll w log → place_of w.streams name ≡ None
+pub none_named : (w : ServiceValue) (log : Journal) (name : List ℕ) → ShowsAll w log
+    → index_by_name w.streams name ≡ None
     → stream_named log name ≡ None
 none_named w log name all none = ap (find (λ s. same_name (name_of log s) name)) (live_are w log all)
     ∙ none_named_from log name 0 w.streams all.shown none
@@ -213,11 +214,11 @@ at_place n (suc i) (v ∷ vs) name is =
     at_place (n + 1) i vs name (later_fails (same_name name) n i v.name (names_of vs) is).1
 
 pub some_named : (w : ServiceValue) (log : Journal) (name : List ℕ) → ShowsAll w log
-    → is_some (stream_named log name) ≡ is_some (place_of w.streams name)
-some_named w log name all = by (place_of w.streams name) refl
+    → is_some (stream_named log name) ≡ is_some (index_by_name w.streams name)
+some_named w log name all = by (index_by_name w.streams name) refl
   where
-    by : (o : Option ℕ) → place_of w.streams name ≡ o
-        → is_some (stream_named log name) ≡ is_some (place_of w.streams name)
+    by : (o : Option ℕ) → index_by_name w.streams name ≡ o
+        → is_some (stream_named log name) ≡ is_some (index_by_name w.streams name)
     by None e = ap is_some (none_named w log name all e) ∙ ap is_some (sym e)
     by (Some i) e =
         let x = at_place 0 i w.streams name (e ∙ ap Some (from_zero i)) in
@@ -283,7 +284,7 @@ own_and_beside (suc i) low (v ∷ vs) x rising here =
 
 -- ---- The stream of a name has just this name
 
-pub has_name : (name : List ℕ) (i : ℕ) (vs : List StreamValue) (x : StreamValue) → place_of vs name ≡ Some i
+pub has_name : (name : List ℕ) (i : ℕ) (vs : List StreamValue) (x : StreamValue) → index_by_name vs name ≡ Some i
     → slice_get vs i ≡ Some x → name ≡ x.name
 has_name name i vs x is here =
     (bytes_decides name x.name).0

@@ -24,21 +24,21 @@ settled_in zero (v ∷ vs) = settled v ∷ vs
 settled_in (suc n) (v ∷ vs) = v ∷ settled_in n vs
 
 -- The service `w` at the clock that it remembers.
-abbrev pub gone_back : ServiceValue → ServiceValue
-gone_back w = record w { clock = w.clock_before; streams = map retreated w.streams }
+abbrev pub retreated_service : ServiceValue → ServiceValue
+retreated_service w = record w { clock = w.clock_before; streams = map retreated w.streams }
 
 -- Every stream of the service `w` remembers the service's earlier clock. This is so after an advance, until something
 -- is changed.
-abbrev pub CanGoBack : ServiceValue → Type 0
-CanGoBack w = AreAt w.clock_before (map retreated w.streams)
+abbrev pub CanRetreat : ServiceValue → Type 0
+CanRetreat w = AreAt w.clock_before (map retreated w.streams)
 
 -- The place whose turn it is among `count` places: `n` if there is such a place, and otherwise the first.
 abbrev pub in_turn : ℕ → ℕ → ℕ
 in_turn count n = if nat_lt n count then n else 0
 
 -- The place after the one whose turn it is, in a circle of `count` places.
-abbrev pub turn_after : ℕ → ℕ → ℕ
-turn_after count n = next_of count (in_turn count n)
+abbrev pub next_in_turn : ℕ → ℕ → ℕ
+next_in_turn count n = next_of count (in_turn count n)
 
 -- The service `w` after the stream whose turn it is was settled. The service then remembers no earlier clock.
 abbrev pub settled_in_turn : ServiceValue → ServiceValue
@@ -46,6 +46,6 @@ settled_in_turn w =
     let count = length w.streams in
     record w {
       clock_before = w.clock;
-      streams = settled_in (in_turn count w.turn) w.streams;
-      turn = turn_after count w.turn;
+      streams = settled_in (in_turn count w.next_to_settle) w.streams;
+      next_to_settle = next_in_turn count w.next_to_settle;
     }

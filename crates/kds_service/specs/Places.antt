@@ -17,21 +17,21 @@ use Rattle.kds_stream.specs.Value.{StreamValue}
 use Rattle.kds_service.specs.Shown.{AreAt, names_of, numbers_of}
 
 -- The place of the first of the streams `vs` that has the name `name`.
-abbrev pub place_of : List StreamValue → List ℕ → Option ℕ
-place_of vs name = position_from (same_name name) 0 (names_of vs)
+abbrev pub index_by_name : List StreamValue → List ℕ → Option ℕ
+index_by_name vs name = position_from (same_name name) 0 (names_of vs)
 
 -- The place of the first of the streams `vs` that has the number `s`.
-abbrev pub place_at : List StreamValue → ℕ → Option ℕ
-place_at vs s = position_from (λ n. n == s) 0 (numbers_of vs)
+abbrev pub index_by_number : List StreamValue → ℕ → Option ℕ
+index_by_number vs s = position_from (λ n. n == s) 0 (numbers_of vs)
 
 -- The place of the stream that a command is for: by the command's token, or else by its name.
-abbrev pub place_by : List StreamValue → Option ℕ → Option (List ℕ) → Option ℕ
-place_by vs (Some s) name = place_at vs s
-place_by vs None (Some name) = place_of vs name
-place_by vs None None = None
+abbrev pub index_by : List StreamValue → Option ℕ → Option (List ℕ) → Option ℕ
+index_by vs (Some s) name = index_by_number vs s
+index_by vs None (Some name) = index_by_name vs name
+index_by vs None None = None
 
-abbrev pub place_for : List StreamValue → Command → Option ℕ
-place_for vs what = place_by vs (token_of what) (name_of_command what)
+abbrev pub index_for : List StreamValue → Command → Option ℕ
+index_for vs what = index_by vs (token_of what) (name_of_command what)
 
 -- Why the command's token is refused at the clock `c`, if it is too old.
 abbrev pub expiry : ℕ → Command → Option Refusal

@@ -21,11 +21,11 @@ pub record ServiceValue : Type 0 where
   pub clock_before : ℕ
   pub made : ℕ
   pub streams : List StreamValue
-  pub turn : ℕ
+  pub next_to_settle : ℕ
 
 -- The service with these fields, in which the first stream is settled next.
 abbrev pub service : ℕ → ℕ → ℕ → List StreamValue → ServiceValue
-service c b n vs = record { clock = c; clock_before = b; made = n; streams = vs; turn = 0 }
+service c b n vs = record { clock = c; clock_before = b; made = n; streams = vs; next_to_settle = 0 }
 
 abbrev pub names_of : List StreamValue → List (List ℕ)
 names_of vs = map (λ v. v.name) vs
@@ -62,7 +62,7 @@ pub record ShowsStreams (w : ServiceValue) (log : Journal) : Type 0 where
 
 -- The service `w` shows the journal `log`, whichever of its streams is settled next.
 abbrev pub ShowsAll : ServiceValue → Journal → Type 0
-ShowsAll w = ShowsStreams (record w { turn = 0 })
+ShowsAll w = ShowsStreams (record w { next_to_settle = 0 })
 
 -- The statement `holds` is true at every clock, of every journal that the streams `vs` show at it.
 abbrev pub InJournalsOf : List StreamValue → (Journal → ℕ → Type 0) → Type 0

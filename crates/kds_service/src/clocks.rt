@@ -35,11 +35,11 @@ pub fn retreat_all(streams: &mut Streams)
     }
 }
 
-/// Returns the index that comes next in a rotation over `count` indices: `turn` if it is below `count`, otherwise 0.
-pub fn in_turn(count: usize, turn: usize) -> usize
-    ensures { result ≡ in_turn count turn }
+/// Returns the index that comes next in a rotation over `count` indices: `next` if it is below `count`, otherwise 0.
+pub fn in_turn(count: usize, next: usize) -> usize
+    ensures { result ≡ in_turn count next }
 {
-    if turn < count { turn } else { 0 }
+    if next < count { next } else { 0 }
 }
 
 /// Removes the trimmed records of one shard from the stream at the index `i`, if this stream exists. No reply to a

@@ -19,7 +19,7 @@ fn is_before(a: &Name, b: &Name) -> bool
 }
 
 /// Returns the names of all streams, sorted byte by byte.
-fn in_order(alloc: Global, streams: &Streams) -> Result<Vec<&Name>, Memory>
+fn names_in_order(alloc: Global, streams: &Streams) -> Result<Vec<&Name>, Memory>
     ensures { IfOk result (λ names. map (λ n. n.now) names.items ≡ names_in_order (names_of (values streams.now))) }
 {
     let mut names = Vec::new(alloc);
@@ -79,7 +79,7 @@ pub fn streams(
     requires { IsLimit limit }
     ensures { IfOk result (LeadsTo clock (values streams.now) (values streams.now) (command.Streams after.now limit)) }
 {
-    let names = in_order(alloc, streams)?;
+    let names = names_in_order(alloc, streams)?;
     let (names, more) = first_after(alloc, names.as_slice(), after, limit)?;
     Ok(Ok(Reply::Streams { names, more }))
 }

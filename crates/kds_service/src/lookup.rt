@@ -3,8 +3,8 @@
 ghost use Rattle.std.specs.Prelude.{◌≡◌, ◌<◌, ◌-◌, IfSome, length, true};
 ghost use Rattle.indexmap.specs.IndexMap.{keys, values};
 ghost use Rattle.kds_defs.specs.declared.limits.TheConstants.{OPEN_SHARDS};
-ghost use Rattle.kds_stream.specs.Serving.{asks_for_room, token_of};
-ghost use Rattle.kds_service.specs.Places.{expiry, open_beside, place_for};
+ghost use Rattle.kds_stream.specs.Serving.{needs_open_limit, token_of};
+ghost use Rattle.kds_service.specs.Places.{expiry, open_beside, index_for};
 ghost use Rattle.kds_service.specs.Shown.{names_of};
 
 use crate::streams_by_name::{Streams, index_by_name, index_by_number, open_limit};
@@ -39,9 +39,9 @@ fn token_stream(what: &Command) -> Option<StreamNo>
 
 /// Returns the index of the stream that the command names or to which the command's token belongs, or `None` if this
 /// stream isn't live.
-pub fn find(streams: &Streams, what: &Command) -> Option<usize>
+pub fn index_for(streams: &Streams, what: &Command) -> Option<usize>
     requires { keys streams.now ≡ names_of (values streams.now) }
-    ensures value { result ≡ place_for (values streams.now) what.now }
+    ensures value { result ≡ index_for (values streams.now) what.now }
     ensures within { IfSome result (λ i. i < length (values streams.now)) }
 {
     match token_stream(what) {
@@ -57,7 +57,7 @@ pub fn find(streams: &Streams, what: &Command) -> Option<usize>
 /// the other streams. Only SplitShard and UpdateShardCount need this number. For every other command the result is
 /// `OPEN_SHARDS`.
 pub fn open_limit_for(streams: &Streams, no: StreamNo, what: &Command) -> u64
-    ensures { asks_for_room what.now ≡ true → result ≡ OPEN_SHARDS - open_beside (values streams.now) no }
+    ensures { needs_open_limit what.now ≡ true → result ≡ OPEN_SHARDS - open_beside (values streams.now) no }
 {
     match what {
         Command::Split { .. } | Command::Scale { .. } => open_limit(streams, no),

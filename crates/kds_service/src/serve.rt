@@ -11,7 +11,7 @@ ghost use Rattle.kds_service.specs.Shown.{Leads, LeadsTo, service};
 use crate::creation::{create, delete};
 use crate::laws;
 use crate::listing::streams as list_streams;
-use crate::lookup::{expired, find, open_limit_for};
+use crate::lookup::{expired, index_for, open_limit_for};
 use crate::streams_by_name::Streams;
 use kds_base::{Memory, Moment};
 use kds_defs::{Answer, Command, Refusal};
@@ -63,7 +63,7 @@ fn serve_one(
     if let Some(refusal) = expired(&what, clock) {
         return Ok(Err(refusal));
     }
-    match find(streams, &what) {
+    match index_for(streams, &what) {
         None => Ok(Err(Refusal::NoStream)),
         Some(i) => {
             let no = streams[i].no();

@@ -14,7 +14,7 @@ ghost use Rattle.kds_defs.specs.Records.{batch, stored};
 ghost use Rattle.kds_defs.specs.Shards.{shown};
 ghost use Rattle.kds_defs.specs.Streams.{live_streams};
 ghost use Rattle.kds_stream.specs.Reading.{read_ends};
-ghost use Rattle.kds_service.specs.Clocks.{CanGoBack, advanced, gone_back, settled_in_turn};
+ghost use Rattle.kds_service.specs.Clocks.{CanRetreat, advanced, retreated_service, settled_in_turn};
 ghost use Rattle.kds_service.specs.Keyed.{is_listed_in, live_shard};
 ghost use Rattle.kds_service.specs.Shown.{Leads, ShowsAll, service};
 
@@ -38,7 +38,7 @@ pub struct Service {
     made: u64,
     streams: Streams,
     /// The index of the stream from which `settle` removes trimmed records next.
-    turn: usize,
+    next_to_settle: usize,
 }
 
 impl Model for Service {
@@ -53,7 +53,7 @@ impl Model for Service {
       clock_before = s.clock_before;
       made = s.made;
       streams = values s.streams;
-      turn = s.turn;
+      next_to_settle = s.next_to_settle;
     } };
 
     ghost invariant = { λ s. ArePlaced s.clock s.streams.entries };
@@ -71,7 +71,7 @@ impl Service {
             clock_before: Moment::start(),
             made: 0,
             streams: IndexMap::new(alloc),
-            turn: 0,
+            next_to_settle: 0,
         }
     }
 
@@ -84,8 +84,8 @@ impl Service {
           streams = map (advanced clock) self.old.streams;
         } }
         ensures shows { (log : Journal) → ShowsAll self.old log → ShowsAll self.new log }
-        ensures back { CanGoBack self.new }
-        ensures shows_back { (log : Journal) → ShowsAll self.old log → ShowsAll (gone_back self.new) log }
+        ensures back { CanRetreat self.new }
+        ensures shows_back { (log : Journal) → ShowsAll self.old log → ShowsAll (retreated_service self.new) log }
     {
         advance_all(&mut self.streams, self.clock, clock);
         self.clock_before = self.clock;
@@ -95,8 +95,8 @@ impl Service {
     /// Sets the clock of the service, and the clock and the trim horizon of every stream, back to their values before
     /// the last `advance`. Precondition: since that `advance`, nothing was changed and `settle` wasn't called.
     pub fn retreat(&mut self)
-        requires { CanGoBack self.old }
-        ensures { self.new ≡ gone_back self.old }
+        requires { CanRetreat self.old }
+        ensures { self.new ≡ retreated_service self.old }
     {
         retreat_all(&mut self.streams);
         self.clock = self.clock_before;
@@ -111,9 +111,9 @@ impl Service {
         ensures shows { (log : Journal) → ShowsAll self.old log → ShowsAll self.new log }
     {
         let count = self.streams.len();
-        let place = in_turn(count, self.turn);
+        let place = in_turn(count, self.next_to_settle);
         settle_stream(&mut self.streams, place);
-        self.turn = next_of(count, place);
+        self.next_to_settle = next_of(count, place);
         self.clock_before = self.clock;
     }
 
@@ -124,7 +124,7 @@ impl Service {
         requires own { is_service what ≡ true }
         ensures leads { IfOk result (Leads self.old self.new what) }
         ensures clock { self.new.clock ≡ self.old.clock }
-        ensures turn { self.new.turn ≡ self.old.turn }
+        ensures next_to_settle { self.new.next_to_settle ≡ self.old.next_to_settle }
         ensures kept { OnErr result (self.new ≡ self.old) }
     {
         let alloc = *self.streams.allocator();

@@ -3,7 +3,8 @@
 ghost use Rattle.std.specs.Prelude.{◌≡◌, ◌+◌, ◌-◌, ◌<◌, IfSome, length, nat_le};
 ghost use Rattle.kds_defs.specs.declared.limits.TheConstants.{OPEN_SHARDS};
 ghost use Rattle.indexmap.specs.IndexMap.{keys, values};
-ghost use Rattle.kds_service.specs.Places.{is_full, open_beside, open_total, open_unless, place_at, place_of};
+ghost use Rattle.kds_service.specs.Places.{is_full, open_beside, open_total, open_unless, index_by_number};
+ghost use Rattle.kds_service.specs.Places.{index_by_name};
 ghost use Rattle.kds_service.specs.Shown.{names_of};
 
 use indexmap::IndexMap;
@@ -17,7 +18,7 @@ pub type Streams = IndexMap<Name, Stream>;
 /// Returns the index of the stream with this name, or `None` if no live stream has this name.
 pub fn index_by_name(streams: &Streams, name: &Name) -> Option<usize>
     requires { keys streams.now ≡ names_of (values streams.now) }
-    ensures value { result ≡ place_of (values streams.now) name.now }
+    ensures value { result ≡ index_by_name (values streams.now) name.now }
     ensures within { IfSome result (λ i. i < length (values streams.now)) }
 {
     streams.get_index_of(name)
@@ -26,7 +27,7 @@ pub fn index_by_name(streams: &Streams, name: &Name) -> Option<usize>
 /// Returns the index of the stream with this number, or `None` if no live stream has this number. The search is linear,
 /// and there are at most 64 streams.
 pub fn index_by_number(streams: &Streams, no: StreamNo) -> Option<usize>
-    ensures value { result ≡ place_at (values streams.now) no }
+    ensures value { result ≡ index_by_number (values streams.now) no }
     ensures within { IfSome result (λ i. i < length (values streams.now)) }
 {
     for i in 0..streams.len() {

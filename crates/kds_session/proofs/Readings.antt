@@ -12,7 +12,7 @@ use Rattle.kds_head.specs.declared.numbers.TheConstants.{HEAD_BYTES, BODY_BYTES}
 use Rattle.kds_head.specs.Find.{IsFound, IsWithinLimits}
 use Rattle.kds_session.specs.declared.limits.TheConstants.{REQUESTS}
 use Rattle.kds_session.specs.Messages.{Message, message_at, Begins, size, rest_of, Ending, boundary, inside, closed}
-use Rattle.kds_session.specs.Messages.{refused, IsWhole, IsShort, IsUnfinished, Ends, Falls, closes}
+use Rattle.kds_session.specs.Messages.{refused, IsWhole, IsShort, IsUnfinished, Ends, Falls, closes_after}
 use Rattle.kds_session.specs.declared.limits.TheConstants.{UNREAD_BYTES}
 use Rattle.kds_session.specs.Standing.{GoesOn, going, end_in}
 use Rattle.kds_session.specs.Steps.{IsKept}
@@ -100,12 +100,12 @@ one_way laws before bytes [] (n ∷ ns) e f a b = absurd (ends_begins laws bytes
 one_way laws before bytes (m ∷ ms) [] e f a b = absurd (ends_begins laws bytes f m b a.0)
 one_way laws before bytes (m ∷ ms) (n ∷ ns) e f a b =
     let same = same_message laws bytes m n a.0 b.0 in
-    let after : MatchBool (closes (before + 1) m.head) ((ns ≡ [])
+    let after : MatchBool (closes_after (before + 1) m.head) ((ns ≡ [])
     × (f ≡ closed)) (Falls (before + 1) (rest_of bytes m) ns f)
     = subst (λ (k : Message).
-    MatchBool (closes (before + 1) k.head) ((ns ≡ []) × (f ≡ closed)) (Falls (before + 1) (rest_of bytes k) ns f))
+    MatchBool (closes_after (before + 1) k.head) ((ns ≡ []) × (f ≡ closed)) (Falls (before + 1) (rest_of bytes k) ns f))
     (sym same) b.1 in
-    let later = by_close (closes (before + 1) m.head) ms ns e f (Falls (before + 1) (rest_of bytes m) ms e)
+    let later = by_close (closes_after (before + 1) m.head) ms ns e f (Falls (before + 1) (rest_of bytes m) ms e)
     (Falls (before + 1) (rest_of bytes m) ns f) (one_way laws (before + 1) (rest_of bytes m) ms ns e f) a.1 after in
     (cons_same m n ms ns same later.0, later.1)
   where
@@ -180,7 +180,7 @@ not_last n left false e some h = grind (arith, nat_tests)
 
 -- The unread bytes begin with a message that doesn't close the connection. So what they fall into begins with it.
 past : HeadLaws → (n : ℕ) (unread more : List ℕ) (m : Message) (ms : List Message) (e : Ending) → Begins unread m
-    → closes (n + 1) m.head ≡ false
+    → closes_after (n + 1) m.head ≡ false
     → Falls n (unread ++ more) ms e → (rest : List Message) × (ms ≡ m ∷ rest)
     × Falls (n + 1) (rest_of unread m ++ more) rest e
 past laws n unread more m [] e b close f =
@@ -188,18 +188,18 @@ past laws n unread more m [] e b close f =
 past laws n unread more m (k ∷ ms) e b close f =
     let same = same_message laws (unread ++ more) k m f.0 (begins_more laws unread more m b) in
     let after = subst (λ (x : Message).
-    MatchBool (closes (n + 1) x.head) ((ms ≡ [])
+    MatchBool (closes_after (n + 1) x.head) ((ms ≡ [])
     × (e ≡ closed)) (Falls (n + 1) (rest_of (unread ++ more) x) ms e)) same f.1 in (
       ms,
       cons_same k m ms ms same refl,
       subst (λ (z : List ℕ). Falls (n + 1) z ms e) (rest_more unread more m b)
-          (of_false (closes (n + 1) m.head) _ _ close after),
+          (of_false (closes_after (n + 1) m.head) _ _ close after),
     )
 
 -- A further message is done.
 pub goes_past : HeadLaws → (fed : List ℕ) (done : List Message) (left : ℕ) (unread : List ℕ) (m : Message)
     → GoesOn fed done left unread → Begins unread m
-    → closes (length done + 1) m.head ≡ false → GoesOn fed (done ++ m ∷ []) (left - 1) (rest_of unread m)
+    → closes_after (length done + 1) m.head ≡ false → GoesOn fed (done ++ m ∷ []) (left - 1) (rest_of unread m)
 goes_past laws fed done left unread m g b more_come =
     let len : length (done ++ m ∷ []) ≡ length done + 1 = length-append done (m ∷ []) in
     let left_some : 1 < left = not_last (length done) left m.head.close g.count g.some_left more_come in
@@ -212,7 +212,7 @@ goes_past laws fed done left unread m g b more_come =
           (subst (λ (z : List ℕ). Falls (length (done ++ m ∷ [])) z ms e) (sym (rest_more unread more m b)) f) in
           let whole = g.onward more (m ∷ ms) e (
             begins_more laws unread more m b,
-            match_false (closes (length done + 1) m.head) _ _ more_come f',
+            match_false (closes_after (length done + 1) m.head) _ _ more_come f',
           ) in
           subst (λ (z : List Message). Falls 0 (fed ++ more) z e) (sym (append_assoc done (m ∷ []) ms)) whole;
       back = λ more all e f.
@@ -227,11 +227,11 @@ goes_past laws fed done left unread m g b more_come =
 -- The last message is done.
 pub goes_last : HeadLaws → (fed : List ℕ) (done : List Message) (left : ℕ) (unread : List ℕ) (m : Message)
     → GoesOn fed done left unread → Begins unread m
-    → closes (length done + 1) m.head ≡ true → (more : List ℕ) → Falls 0 (fed ++ more) (done ++ m ∷ []) closed
+    → closes_after (length done + 1) m.head ≡ true → (more : List ℕ) → Falls 0 (fed ++ more) (done ++ m ∷ []) closed
 goes_last laws fed done left unread m g b close more =
     g.onward more (m ∷ []) closed (
       begins_more laws unread more m b,
-      match_true (closes (length done + 1) m.head) _ _ close (refl, refl),
+      match_true (closes_after (length done + 1) m.head) _ _ close (refl, refl),
     )
 
 -- The connection is refused.

@@ -5,7 +5,7 @@ use Rattle.std.proofs.lemmas.List.{append_assoc, append-nil}
 use Rattle.kds_defs.specs.declared.command.Command.{Command}
 use Rattle.kds_json_members.specs.declared.problem.Fault.{Fault}
 use Rattle.kds_reply.specs.Replies.{reply_of, fault_reply}
-use Rattle.kds_session.specs.Messages.{Message, closes}
+use Rattle.kds_session.specs.Messages.{Message, closes_after}
 use Rattle.kds_session.specs.Text.{Answers, asked_by, command_of, commands, answered, respond, responses}
 
 pub commands-push : (done : List Message) (m : Message)
@@ -34,16 +34,16 @@ respond_push (Ok what) close (a ∷ told) left rest later more end go len =
 pub responses-push : (before : ℕ) (done : List Message) (m : Message) (told left : Answers)
     → length told ≡ length (commands done)
     → responses before (done ++ m ∷ []) (told ++ left) ≡ responses before done told
-    ++ adds (asked_by m) (closes (before + length done + 1) m.head) left
+    ++ adds (asked_by m) (closes_after (before + length done + 1) m.head) left
 responses-push before [] m [] left len =
-    ap (λ n. adds (asked_by m) (closes (n + 1) m.head) left) (let e : before ≡ before + 0 = omega arith in e)
+    ap (λ n. adds (asked_by m) (closes_after (n + 1) m.head) left) (let e : before ≡ before + 0 = omega arith in e)
 responses-push before [] m (a ∷ told) left len = absurd (omega arith)
 responses-push before (d ∷ done) m told left len =
-    respond_push (asked_by d) (closes (before + 1) d.head) told left (commands done) (responses (before + 1) done)
+    respond_push (asked_by d) (closes_after (before + 1) d.head) told left (commands done) (responses (before + 1) done)
     (responses (before + 1) (done ++ m ∷ []))
-    (adds (asked_by m) (closes (before + length (d ∷ done) + 1) m.head) left)
+    (adds (asked_by m) (closes_after (before + length (d ∷ done) + 1) m.head) left)
     (λ answers e. responses-push (before + 1) done m answers left e
-    ∙ ap (λ n. responses (before + 1) done answers ++ adds (asked_by m) (closes (n + 1) m.head) left)
+    ∙ ap (λ n. responses (before + 1) done answers ++ adds (asked_by m) (closes_after (n + 1) m.head) left)
     (let e2 : before + 1 + length done ≡ before + length (d ∷ done) = omega arith in e2)) len
 
 -- ---- More messages and more answers
@@ -70,7 +70,7 @@ pub responses-front : (before : ℕ) (done ms : List Message) (told later : Answ
     × (responses before (done ++ ms) (told ++ later) ≡ responses before done told ++ rest)
 responses-front before [] ms told later = (responses before ms (told ++ later), refl)
 responses-front before (d ∷ done) ms told later =
-    respond_front (asked_by d) (closes (before + 1) d.head) told later (responses (before + 1) done)
+    respond_front (asked_by d) (closes_after (before + 1) d.head) told later (responses (before + 1) done)
     (responses (before + 1) (done ++ ms)) (λ answers. responses-front (before + 1) done ms answers later)
 
 respond_enough : (r : Result Command Fault) (close : Bool) (told later : Answers) (rest : List Command) (some : Answers
@@ -87,7 +87,8 @@ pub responses-enough : (before : ℕ) (done : List Message) (told later : Answer
     → responses before done (told ++ later) ≡ responses before done told
 responses-enough before [] told later len = refl
 responses-enough before (d ∷ done) told later len =
-    respond_enough (asked_by d) (closes (before + 1) d.head) told later (commands done) (responses (before + 1) done)
+    respond_enough (asked_by d) (closes_after (before + 1) d.head) told later (commands done)
+    (responses (before + 1) done)
     (λ answers e. responses-enough (before + 1) done answers later e) len
 
 pub commands-append : (done ms : List Message) → commands (done ++ ms) ≡ commands done ++ commands ms

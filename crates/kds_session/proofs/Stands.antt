@@ -22,13 +22,13 @@ use Rattle.kds_session.specs.declared.state.Standing.{Standing}
 use Rattle.kds_session.specs.declared.state.Standing.TheVariants.{Live, Closed, Refused}
 use Rattle.kds_session.specs.declared.state.Waiting.{Waiting}
 use Rattle.kds_session.specs.declared.state.Waiting.TheVariants.{Nothing, Answer, LastAnswer}
-use Rattle.kds_session.specs.Messages.{Message, message_at, closes, rest_of, IsWhole, Falls}
+use Rattle.kds_session.specs.Messages.{Message, message_at, closes_after, rest_of, IsWhole, Falls}
 use Rattle.kds_session.specs.Text.{Answers, asked_by, command_of, commands, answered, responses}
 use Rattle.kds_session.specs.States.{SessionState, waiting_for, is_last, standing_after}
 use Rattle.kds_session.specs.Standing.{Stage, going, over, stage_of, stage_text, Leads, GoesOn, IsAwaited, Awaits}
 use Rattle.kds_session.specs.Standing.{Traffic, fed_more, given_one, told_one, sent_more, StandsFor, IsQuiet, still}
 use Rattle.kds_session.specs.Standing.{to_come}
-use Rattle.kds_session.specs.Next.{IsNext, IsNearer, IsFewer, IsShort, IsReadOut, HasRoom}
+use Rattle.kds_session.specs.Next.{IsNext, IsNearer, IsFewer, IsShort, IsReadOut, CanBeFed}
 use Rattle.kds_session.specs.Steps.{IsFree, read_state, with_reading}
 use Rattle.kds_session.proofs.Readings.{HeadLaws, HeadStays, begins_at, last_is, goes_fed, goes_past, goes_last}
 use Rattle.kds_session.proofs.Readings.{goes_refused, unfinished_short}
@@ -100,13 +100,13 @@ refused_now stays s status past st free found new e =
 
 -- What the code tests is what the definition says.
 close_is : (close : Bool) (done left : ℕ) (head : Head) → done + left ≡ REQUESTS → 0 < left
-    → close ≡ (head.close || nat_le left 1) → closes (done + 1) head ≡ close
+    → close ≡ (head.close || nat_le left 1) → closes_after (done + 1) head ≡ close
 close_is close done left head e some c = ap (λ b. head.close || b) (last_is done left e some) ∙ sym c
 
 -- A further message, and what it adds.
 record OneMore (s : SessionState) (past : Traffic) (head : Head) (close : Bool) : Type 0 where
   pub was : Runs s past
-  pub close_is : closes (length was.done + 1) head ≡ close
+  pub close_is : closes_after (length was.done + 1) head ≡ close
   pub commands_are : past.given ++ command_of (asked_by (message_at s.unread head))
       ≡ commands (was.done ++ message_at s.unread head ∷ [])
   pub adds_are : (left : Answers) → responses 0 (was.done ++ message_at s.unread head ∷ []) (past.told ++ left)
@@ -123,7 +123,7 @@ one_more s past head close st free c =
       commands_are = ap (λ z. z ++ command_of (asked_by m)) f.given_is ∙ sym (commands-push f.done m);
       adds_are = λ left.
           responses-push 0 f.done m past.told left f.told_all
-          ∙ ap (λ n. responses 0 f.done past.told ++ adds (asked_by m) (closes (n + 1) head) left)
+          ∙ ap (λ n. responses 0 f.done past.told ++ adds (asked_by m) (closes_after (n + 1) head) left)
           (let z : 0 + length f.done ≡ length f.done = omega arith in z)
           ∙ ap (λ b. responses 0 f.done past.told ++ adds (asked_by m) b left) closing
           ∙ ap (λ t. t ++ adds (asked_by m) close left) (sym f.written);
@@ -259,7 +259,7 @@ command_given laws s past head close what st free c whole asks new e =
         → (p : (past.given ++ what ∷ [] ≡ commands (o.was.done ++ m ∷ []))
         × (past.sent ++ s.output ≡ responses 0 (o.was.done ++ m ∷ []) past.told)
         × IsAwaited b (o.was.done ++ m ∷ []) past.told)
-        → closes (length o.was.done + 1) head ≡ b
+        → closes_after (length o.was.done + 1) head ≡ b
         → StandsFor (record s { unread = rest_of s.unread m; left = s.left - 1; waiting = waiting_for b })
         (given_one what past)
     by_close true o p b = record {
@@ -424,9 +424,9 @@ pub awaited_text : (close : Bool) (done : List Message) (told : Answers) (a : Re
     × (length (told ++ a ∷ []) ≡ length (commands done))
 awaited_text close done told a w =
     let m = w.last in
-    let n = closes (0 + length w.before + 1) m.head in
+    let n = closes_after (0 + length w.before + 1) m.head in
     let same : n ≡ close =
-    ap (λ k. closes (k + 1) m.head) (let z : 0 + length w.before ≡ length w.before = omega arith in z)
+    ap (λ k. closes_after (k + 1) m.head) (let z : 0 + length w.before ≡ length w.before = omega arith in z)
     ∙ w.close_is in
     let one : responses 0 done (told ++ a ∷ []) ≡ responses 0 w.before told ++ (answered (reply_of a) close ++ []) =
     ap (λ d. responses 0 d (told ++ a ∷ [])) w.done_is ∙ responses-push 0 w.before m told (a ∷ []) w.told_before
@@ -599,6 +599,6 @@ fewer_by o s v new bytes start r ev eb es free h e =
 few_then_room : (n : ℕ) → n < HEAD_BYTES + BODY_BYTES → PIECE_BYTES ≤ UNREAD_BYTES - n
 few_then_room n h = omega arith
 
-pub read_out_room : (o : Option Command) (new : SessionState) → IsReadOut o new → HasRoom o new
-read_out_room (Some what) new r = tt
-read_out_room None new r = λ live. few_then_room (length new.unread) (r.1 live)
+pub read_out_fed : (o : Option Command) (new : SessionState) → IsReadOut o new → CanBeFed o new
+read_out_fed (Some what) new r = tt
+read_out_fed None new r = λ live. few_then_room (length new.unread) (r.1 live)

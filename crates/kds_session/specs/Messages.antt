@@ -56,12 +56,12 @@ Ends bytes closed = ⊥
 Ends bytes (refused status) = IsFound bytes (Refused status)
 
 -- Whether the connection closes after the message with the number `number`, counted from 1 (RFC 9112, section 9.6).
-abbrev pub closes : ℕ → Head → Bool
-closes number head = head.close || number == REQUESTS
+abbrev pub closes_after : ℕ → Head → Bool
+closes_after number head = head.close || number == REQUESTS
 
 -- The bytes that follow `before` messages of a connection fall into the messages of a list, and end with `ending`.
 abbrev pub Falls : ℕ → List ℕ → List Message → Ending → Type 0
 Falls before bytes [] ending = Ends bytes ending
 Falls before bytes (m ∷ ms) ending =
-    Begins bytes m × MatchBool (closes (before + 1) m.head) ((ms ≡ []) × (ending ≡ closed))
+    Begins bytes m × MatchBool (closes_after (before + 1) m.head) ((ms ≡ []) × (ending ≡ closed))
     (Falls (before + 1) (rest_of bytes m) ms ending)

@@ -52,10 +52,10 @@ IsReadOut None new = IsQuiet new × IsShort new
 IsReadOut (Some what) new = Unit {0}
 
 -- The number of bytes that the session `s` may be fed now.
-abbrev pub room_of : SessionState → ℕ
-room_of s = UNREAD_BYTES - length s.unread
+abbrev pub feed_limit_of : SessionState → ℕ
+feed_limit_of s = UNREAD_BYTES - length s.unread
 
 -- If no command is given on a live session, a whole piece may be fed.
-abbrev pub HasRoom : Option Command → SessionState → Type 0
-HasRoom None new = new.standing ≡ Live → PIECE_BYTES ≤ room_of new
-HasRoom (Some what) new = Unit {0}
+abbrev pub CanBeFed : Option Command → SessionState → Type 0
+CanBeFed None new = new.standing ≡ Live → PIECE_BYTES ≤ feed_limit_of new
+CanBeFed (Some what) new = Unit {0}

@@ -8,7 +8,8 @@ use Rattle.kds_session.specs.declared.state.Standing.{Standing}
 use Rattle.kds_session.specs.declared.state.Standing.TheVariants.{Live, Closed, Refused}
 use Rattle.kds_session.specs.declared.state.Waiting.{Waiting}
 use Rattle.kds_session.specs.declared.state.Waiting.TheVariants.{Nothing, Answer, LastAnswer}
-use Rattle.kds_session.specs.Messages.{Message, IsUnfinished, Ending, boundary, inside, closed, refused, Falls, closes}
+use Rattle.kds_session.specs.Messages.{Message, IsUnfinished, Ending, boundary, inside, closed, refused, Falls}
+use Rattle.kds_session.specs.Messages.{closes_after}
 use Rattle.kds_session.specs.Text.{Answers, asked_by, commands, responses, end_text}
 use Rattle.kds_session.specs.States.{SessionState}
 
@@ -35,7 +36,7 @@ pub record IsAwaited (close : Bool) (done : List Message) (told : Answers) : Typ
   pub done_is : done ≡ before ++ last ∷ []
   pub asks : asked_by last ≡ Ok what
   pub told_before : length told ≡ length (commands before)
-  pub close_is : closes (length before + 1) last.head ≡ close
+  pub close_is : closes_after (length before + 1) last.head ≡ close
 
 -- Which of the commands of the messages `done` have their answers: all, or all but the last one, which waits.
 abbrev pub Awaits : Waiting → List Message → Answers → Type 0

@@ -10,7 +10,7 @@ use Rattle.kds_json_members.specs.Reading.{fault_of}
 use Rattle.kds_json.specs.Asked.{asked}
 use Rattle.kds_reply.specs.Replies.{reply_of, fault_reply}
 use Rattle.kds_head.specs.Response.{response_text}
-use Rattle.kds_session.specs.Messages.{Message, Ending, boundary, inside, closed, refused, closes, Falls}
+use Rattle.kds_session.specs.Messages.{Message, Ending, boundary, inside, closed, refused, closes_after, Falls}
 
 -- What a whole request asks for: the form of its target is judged first, then its content type, then the operation and
 -- the body (Kinesis API Reference, Common Errors).
@@ -52,7 +52,7 @@ respond (Ok what) close (answer ∷ answers) later = answered (reply_of answer) 
 abbrev pub responses : ℕ → List Message → Answers → List ℕ
 responses before [] answers = []
 responses before (m ∷ ms) answers =
-    respond (asked_by m) (closes (before + 1) m.head) answers (responses (before + 1) ms)
+    respond (asked_by m) (closes_after (before + 1) m.head) answers (responses (before + 1) ms)
 
 -- What is written at the end of a connection, by its ending.
 abbrev pub end_text : Ending → List ℕ

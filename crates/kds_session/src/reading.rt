@@ -48,7 +48,7 @@ pub enum Step {
 }
 
 /// Returns `bytes` without the first `read` bytes.
-fn after(bytes: &[u8], read: usize) -> &[u8]
+fn rest_after(bytes: &[u8], read: usize) -> &[u8]
     requires { read ≤ length bytes.now }
     ensures { result.now ≡ drop read bytes.now }
 {
@@ -61,8 +61,8 @@ fn body_of<'a>(unread: &'a [u8], head: &Head) -> &'a [u8]
     requires { IsWhole unread.now head.now }
     ensures { result.now ≡ take head.now.body (drop head.now.length unread.now) }
 {
-    let (_, after) = unread.split_at(head.length);
-    let (body, _) = after.split_at(head.body as usize);
+    let (_, rest) = unread.split_at(head.length);
+    let (body, _) = rest.split_at(head.body as usize);
     body
 }
 
@@ -102,14 +102,14 @@ impl Reading {
 
     /// Whether the connection closes after the response to the message with this head. It closes if the head asks for
     /// this, or if no request is allowed after this message.
-    fn closes(&self, head: &Head) -> bool
+    fn closes_after(&self, head: &Head) -> bool
         ensures { result ≡ (head.now.close || nat_le self.now.left 1) }
     {
         head.close || self.left <= 1
     }
 
     /// Records that a message of `size` bytes was consumed. One request fewer is then allowed.
-    fn pass(&mut self, size: usize)
+    fn consume_message(&mut self, size: usize)
         requires { self.old.read + size < 2 ^ 64 }
         ensures { self.new ≡ record self.old { read = self.old.read + size; left = self.old.left - 1 } }
     {
@@ -152,16 +152,16 @@ impl Reading {
         decided_stays();
         found_within_limits();
         no_bytes_need_more();
-        let close = self.closes(head);
-        match request(alloc, head, body_of(after(bytes, self.read), head))? {
+        let close = self.closes_after(head);
+        match request(alloc, head, body_of(rest_after(bytes, self.read), head))? {
             Ok(what) => {
-                self.pass(head.length + head.body as usize);
+                self.consume_message(head.length + head.body as usize);
                 self.waiting = waiting_for(close);
                 Ok(Step::Command(what))
             }
             Err(problem) => {
                 put_fault(alloc, &problem, close, &mut self.answers)?;
-                self.pass(head.length + head.body as usize);
+                self.consume_message(head.length + head.body as usize);
                 if close {
                     self.standing = Standing::Closed;
                     Ok(Step::Stop)
@@ -191,7 +191,7 @@ impl Reading {
         ensures kept { OnOk result (IsKept (drop self.new.read bytes.now) kept.new) }
     {
         decided_stays();
-        match read_front(alloc, after(bytes, self.read), kept.take())? {
+        match read_front(alloc, rest_after(bytes, self.read), kept.take())? {
             Front::Unfinished => Ok(Step::Stop),
             Front::Begun(head) => {
                 *kept = Some(head);

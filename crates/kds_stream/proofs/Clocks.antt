@@ -101,12 +101,17 @@ kept_settled floor log s n (suc i) (l ∷ ls) h = (h.0, kept_settled floor log s
 
 -- The stream `v` after the log at the place `i` is settled, whatever clock it remembers and whose turn it is.
 abbrev pub settled_place : StreamValue → ℕ → ℕ → Option ℕ → ℕ → StreamValue
-settled_place v i clock cut turn =
-    record v { logs = settled_at (floor_of v.cut) i v.logs; clock_before = clock; cut_before = cut; turn = turn }
+settled_place v i clock cut next =
+    record v {
+      logs = settled_at (floor_of v.cut) i v.logs;
+      clock_before = clock;
+      cut_before = cut;
+      next_to_settle = next;
+    }
 
-pub shows_settled : (v : StreamValue) (i clock : ℕ) (cut : Option ℕ) (turn : ℕ) (log : Journal) → Shows v log
-    → Shows (settled_place v i clock cut turn) log
-shows_settled v i clock cut turn log shown = record {
+pub shows_settled : (v : StreamValue) (i clock : ℕ) (cut : Option ℕ) (next : ℕ) (log : Journal) → Shows v log
+    → Shows (settled_place v i clock cut next) log
+shows_settled v i clock cut next log shown = record {
   stored = record {
     live = shown.stored.live;
     was = shown.stored.was;
@@ -122,8 +127,8 @@ shows_settled v i clock cut turn log shown = record {
   rates = shown.rates;
 }
 
-pub settled_stream : (v : StreamValue) (i turn : ℕ) → IsStream v → IsStream (settled_place v i v.clock v.cut turn)
-settled_stream v i turn is = record {
+pub settled_stream : (v : StreamValue) (i next : ℕ) → IsStream v → IsStream (settled_place v i v.clock v.cut next)
+settled_stream v i next is = record {
   as_many = length-settled (floor_of v.cut) i v.logs ∙ is.as_many;
   few = is.few;
   lasting = is.lasting;

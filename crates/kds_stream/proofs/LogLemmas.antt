@@ -5,7 +5,7 @@ use Rattle.std.specs.List.{AllByRecursion}
 use Rattle.std.proofs.lemmas.List.{append_assoc, map-append, take_at}
 use Rattle.kds_base.proofs.Facts.{all_weaker}
 use Rattle.kds_defs.specs.Records.{Logged}
-use Rattle.kds_log.specs.Log.{LogValue, LogWithRoom, log_of}
+use Rattle.kds_log.specs.Log.{LogValue, LogWithReserve, log_of}
 use Rattle.kds_stream_logs.specs.Logs.{HasArrived, IsBelow, IsUnder, empty_log, settled_at, settled_log, with_appended}
 
 -- ---- Facts of each
@@ -35,7 +35,7 @@ written_back n new old h = take_at new (drop (length new) old) n h
 -- ---- One record more in the log at a place
 
 -- The log at a place is the one at this place among the logs without their reserved memory.
-pub log_at : (ls : List LogWithRoom) (i : ℕ) (l : LogWithRoom) → l ≡ get_or ls i l
+pub log_at : (ls : List LogWithReserve) (i : ℕ) (l : LogWithReserve) → l ≡ get_or ls i l
     → log_of l ≡ get_or (map log_of ls) i (log_of l)
 log_at [] i l is = refl
 log_at (x ∷ ls) zero l is = ap log_of is
@@ -48,25 +48,26 @@ length-appended (suc i) r (l ∷ ls) = ap suc (length-appended i r ls)
 
 -- The logs with a record added to the one at a place, and without what is trimmed there, if they were lent to the call
 -- that puts the record there.
-pub put_back : (n sh i floor : ℕ) (r : Logged) (new items lent : List LogWithRoom) → length new ≡ n
+pub put_back : (n sh i floor : ℕ) (r : Logged) (new items lent : List LogWithReserve) → length new ≡ n
     → map log_of new ≡ settled_at floor i (with_appended i r (map log_of lent)) → lent ≡ items → i ≡ sh
     → map log_of (take n (new ++ drop (length new) items)) ≡ settled_at floor sh (with_appended sh r (map log_of items))
 put_back n sh i floor r new items lent len is same at =
     ap (map log_of) (written_back n new items len)
     ∙ is
-    ∙ ap (λ (ls : List LogWithRoom). settled_at floor i (with_appended i r (map log_of ls))) same
+    ∙ ap (λ (ls : List LogWithReserve). settled_at floor i (with_appended i r (map log_of ls))) same
     ∙ ap (λ j. settled_at floor j (with_appended j r (map log_of items))) at
 
 -- ---- Further logs, in memory that was reserved
 
-pub one_more_log : (new reserved : List LogWithRoom) (before : List LogValue) (l : LogWithRoom)
+pub one_more_log : (new reserved : List LogWithReserve) (before : List LogValue) (l : LogWithReserve)
     → new ≡ reserved ++ l ∷ [] → map log_of reserved ≡ before → log_of l ≡ empty_log
     → map log_of new ≡ before ++ (empty_log ∷ [])
 one_more_log new reserved before l pushed same is =
     ap (map log_of) pushed ∙ map-append log_of reserved (l ∷ []) ∙ ap (λ (ls : List LogValue). ls ++ log_of l ∷ []) same
     ∙ ap (λ (x : LogValue). before ++ x ∷ []) is
 
-pub two_more : (new one reserved : List LogWithRoom) (before : List LogValue) (l m : LogWithRoom) → new ≡ one ++ m ∷ []
+pub two_more : (new one reserved : List LogWithReserve) (before : List LogValue) (l m : LogWithReserve)
+    → new ≡ one ++ m ∷ []
     → one ≡ reserved ++ l ∷ [] → map log_of reserved ≡ before → log_of l ≡ empty_log → log_of m ≡ empty_log
     → map log_of new ≡ before ++ (empty_log ∷ empty_log ∷ [])
 two_more new one reserved before l m second first same is other =

@@ -76,7 +76,7 @@ new_value s made name tree logs windows cut cut_before = record {
   cut = cut;
   clock_before = made;
   cut_before = cut_before;
-  turn = 0;
+  next_to_settle = 0;
 }
 
 pub new_stream : (s : ℕ) (name : List ℕ) (made count : ℕ) (tree : List ShardState) (logs : List LogValue)

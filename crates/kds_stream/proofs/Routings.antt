@@ -414,7 +414,7 @@ pub stream_each : (v : StreamValue) (ws : List WindowValue) (next : ℕ) (ps : L
 stream_each v ws next [] ls is = is
 stream_each v ws next (p ∷ ps) ls is =
     stream_each v ws next ps (settled_at (floor_of v.cut) p.shard ls)
-    (settled_stream (with_logs v ls ws next) p.shard v.turn is)
+    (settled_stream (with_logs v ls ws next) p.shard v.next_to_settle is)
 
 pub shows_each : (v : StreamValue) (ws : List WindowValue) (next : ℕ) (log : Journal) (ps : List Place)
     (ls : List LogValue) → Shows (with_logs v ls ws next) log
@@ -422,4 +422,4 @@ pub shows_each : (v : StreamValue) (ws : List WindowValue) (next : ℕ) (log : J
 shows_each v ws next log [] ls shown = shown
 shows_each v ws next log (p ∷ ps) ls shown =
     shows_each v ws next log ps (settled_at (floor_of v.cut) p.shard ls)
-    (shows_settled (with_logs v ls ws next) p.shard v.clock v.cut v.turn log shown)
+    (shows_settled (with_logs v ls ws next) p.shard v.clock v.cut v.next_to_settle log shown)

@@ -14,33 +14,35 @@ use Rattle.kds_defs.specs.Kinds.{is_query}
 use Rattle.kds_defs.specs.ScaleCommands.{open_elsewhere}
 use Rattle.kds_defs.specs.Shards.{is_open, open_count}
 use Rattle.kds_defs.proofs.Walk.{query_idle}
-use Rattle.kds_stream.specs.Serving.{IsToldOf, Serves, asks_for_room}
+use Rattle.kds_stream.specs.Serving.{IsToldOf, Serves, needs_open_limit}
 use Rattle.kds_stream.specs.Showing.{Decides, Shows, is_full}
 use Rattle.kds_stream.specs.Steps.{is_over}
 use Rattle.kds_stream.specs.Value.{StreamValue}
 
 -- ---- A command that changes the stream, by the decision at the stream
 
-pub serves : {E : Type 0} (r : Result (Result Reply Refusal) E) (v w : StreamValue) (room : ℕ) (what what' : Command)
+pub serves : {E : Type 0} (r : Result (Result Reply Refusal) E) (v w : StreamValue) (open_limit : ℕ)
+    (what what' : Command)
     (d : Journal → ℕ → Decision)
-    → what ≡ what' → ((log : Journal) (by : ℕ) → IsToldOf what' room v log → decide log v.clock by what' ≡ d log by)
-    → IfOk r (λ a. Decides v w a d) → IfOk r (λ a. Serves what room v w a)
-serves (Err e) v w room what what' d is same led = tt
-serves (Ok gives) v w room what what' d is same led =
-    subst (λ x. Serves x room v w gives) (sym is)
+    → what ≡ what' → ((log : Journal) (by : ℕ) → IsToldOf what' open_limit v log
+    → decide log v.clock by what' ≡ d log by)
+    → IfOk r (λ a. Decides v w a d) → IfOk r (λ a. Serves what open_limit v w a)
+serves (Err e) v w open_limit what what' d is same led = tt
+serves (Ok gives) v w open_limit what what' d is same led =
+    subst (λ x. Serves x open_limit v w gives) (sym is)
     (λ log by told. subst (λ e. (gives ≡ answer_of e) × Shows w (with_lines (lines_of e) log)) (sym (same log by told))
     (led log by told.shown))
 
 -- ---- A command that only reads: it writes no line
 
-pub tells : {E : Type 0} (r : Result (Result Reply Refusal) E) (v : StreamValue) (room : ℕ) (what what' : Command)
+pub tells : {E : Type 0} (r : Result (Result Reply Refusal) E) (v : StreamValue) (open_limit : ℕ) (what what' : Command)
     (d : Journal → Decision)
     → what ≡ what' → is_query what' ≡ true
-    → ((log : Journal) (by : ℕ) → IsToldOf what' room v log → decide log v.clock by what' ≡ d log)
-    → ((log : Journal) → Shows v log → IfOk r (λ a. a ≡ answer_of (d log))) → IfOk r (λ a. Serves what room v v a)
-tells (Err e) v room what what' d is query same answered = tt
-tells (Ok gives) v room what what' d is query same answered =
-    subst (λ x. Serves x room v v gives) (sym is)
+    → ((log : Journal) (by : ℕ) → IsToldOf what' open_limit v log → decide log v.clock by what' ≡ d log)
+    → ((log : Journal) → Shows v log → IfOk r (λ a. a ≡ answer_of (d log))) → IfOk r (λ a. Serves what open_limit v v a)
+tells (Err e) v open_limit what what' d is query same answered = tt
+tells (Ok gives) v open_limit what what' d is query same answered =
+    subst (λ x. Serves x open_limit v v gives) (sym is)
     (λ log by told.
     let none = query_idle log v.clock by what' query in (
       answered log told.shown ∙ ap answer_of (sym (same log by told)),
@@ -49,18 +51,20 @@ tells (Ok gives) v room what what' d is query same answered =
 
 -- ---- What the stream is told of the others is what the decisions ask
 
-module _ (what : Command) (room : ℕ) (v : StreamValue) (log : Journal) (told : IsToldOf what room v log)
-    (asks : asks_for_room what ≡ true) where
-  pub full_so : is_full v room ≡ nat_le OPEN_SHARDS (open_count log)
-  full_so = by (length (filter is_open v.tree)) (open_elsewhere log v.no) (open_count log) room told.opened
+module _ (what : Command) (open_limit : ℕ) (v : StreamValue) (log : Journal) (told : IsToldOf what open_limit v log)
+    (asks : needs_open_limit what ≡ true) where
+  pub full_so : is_full v open_limit ≡ nat_le OPEN_SHARDS (open_count log)
+  full_so = by (length (filter is_open v.tree)) (open_elsewhere log v.no) (open_count log) open_limit told.opened
       (told.fits asks)
     where
-      by : (own others all room : ℕ) → all ≡ others + own → room ≡ OPEN_SHARDS - others
-          → (nat_le room own || nat_le OPEN_SHARDS own) ≡ nat_le OPEN_SHARDS all
-      by own others all room sum is = grind (arith, nat_tests)
+      by : (own others all open_limit : ℕ) → all ≡ others + own → open_limit ≡ OPEN_SHARDS - others
+          → (nat_le open_limit own || nat_le OPEN_SHARDS own) ≡ nat_le OPEN_SHARDS all
+      by own others all open_limit sum is = grind (arith, nat_tests)
 
-  pub over_so : (target : ℕ) → 1 ≤ target → is_over target room ≡ nat_lt OPEN_SHARDS (open_elsewhere log v.no + target)
-  over_so target some = by (open_elsewhere log v.no) room (told.fits asks)
+  pub over_so : (target : ℕ) → 1 ≤ target
+      → is_over target open_limit ≡ nat_lt OPEN_SHARDS (open_elsewhere log v.no + target)
+  over_so target some = by (open_elsewhere log v.no) open_limit (told.fits asks)
     where
-      by : (others room : ℕ) → room ≡ OPEN_SHARDS - others → nat_lt room target ≡ nat_lt OPEN_SHARDS (others + target)
-      by others room is = grind (arith, nat_tests)
+      by : (others open_limit : ℕ) → open_limit ≡ OPEN_SHARDS - others
+          → nat_lt open_limit target ≡ nat_lt OPEN_SHARDS (others + target)
+      by others open_limit is = grind (arith, nat_tests)

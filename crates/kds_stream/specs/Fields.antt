@@ -20,5 +20,5 @@ value_of s =
       cut = s.cut;
       clock_before = s.clock_before;
       cut_before = s.cut_before;
-      turn = s.turn;
+      next_to_settle = s.next_to_settle;
     }

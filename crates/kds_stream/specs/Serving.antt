@@ -28,24 +28,24 @@ is_of_stream (command.Delete name) = false
 is_of_stream what = is_some (name_of_command what) || is_some (token_of what)
 
 -- Whether a command for a stream that is there may raise the number of open shards.
-abbrev pub asks_for_room : Command → Bool
-asks_for_room (command.Split name sh at) = true
-asks_for_room (command.Scale name target) = true
-asks_for_room _ = false
+abbrev pub needs_open_limit : Command → Bool
+needs_open_limit (command.Split name sh at) = true
+needs_open_limit (command.Scale name target) = true
+needs_open_limit _ = false
 
 -- The stream `v` shows the journal `log`, and the name in the command `what`, if there is one, is that of the stream.
--- If the command may raise the number of open shards, `room` shards may be open in the stream beside those of the
+-- If the command may raise the number of open shards, `open_limit` shards may be open in the stream beside those of the
 -- others.
-pub record IsToldOf (what : Command) (room : ℕ) (v : StreamValue) (log : Journal) : Type 0 where
+pub record IsToldOf (what : Command) (open_limit : ℕ) (v : StreamValue) (log : Journal) : Type 0 where
   pub shown : Shows v log
   pub named : (name : List ℕ) → name_of_command what ≡ Some name → (name ≡ v.name) × (stream_named log name ≡ Some v.no)
   pub opened : open_count log ≡ open_elsewhere log v.no + length (filter is_open v.tree)
-  pub fits : asks_for_room what ≡ true → room ≡ OPEN_SHARDS - open_elsewhere log v.no
+  pub fits : needs_open_limit what ≡ true → open_limit ≡ OPEN_SHARDS - open_elsewhere log v.no
 
 -- The answer `gives` is what the machine decides after each journal for which `IsToldOf` holds at the stream `old`. The
 -- stream `new` shows this journal with the decision's lines.
 abbrev pub Serves : Command → ℕ → StreamValue → StreamValue → Result Reply Refusal → Type 0
-Serves what room old new gives =
-    (log : Journal) (by : ℕ) → IsToldOf what room old log
+Serves what open_limit old new gives =
+    (log : Journal) (by : ℕ) → IsToldOf what open_limit old log
     → (gives ≡ answer_of (decide log old.clock by what))
     × Shows new (with_lines (lines_of (decide log old.clock by what)) log)

@@ -32,7 +32,7 @@ AreKept floor log s n (l ∷ ls) = IsKept floor (records log s n) l.kept × AreK
 -- The stream `v` without what it accepts within a second, and without what it remembers: its earlier clock and cut, and
 -- which log is settled next.
 abbrev pub bare : StreamValue → StreamValue
-bare v = record v { windows = []; enforced = false; clock_before = 0; cut_before = None; turn = 0 }
+bare v = record v { windows = []; enforced = false; clock_before = 0; cut_before = None; next_to_settle = 0 }
 
 -- The fields of the stream `v`, throughput aside, are what the journal `log` says of the stream at its clock.
 pub record ShowsFields (v : StreamValue) (log : Journal) : Type 0 where
@@ -74,10 +74,11 @@ abbrev pub RefusesAs : StreamValue → Option Refusal → (Journal → ℕ → �
 RefusesAs v o line d = (log : Journal) (by : ℕ) → Shows v log
     → IsDecidedBy o (line log v.clock by v.no) (d log v.clock by v.no)
 
--- Whether no further shard may be open in the stream `v`: at least `room` shards are open in it, or as many as may be
+-- Whether no further shard may be open in the stream `v`: at least `open_limit` shards are open in it, or as many as may be
 -- open in all streams.
 abbrev pub is_full : StreamValue → ℕ → Bool
-is_full v room = nat_le room (length (filter is_open v.tree)) || nat_le OPEN_SHARDS (length (filter is_open v.tree))
+is_full v open_limit =
+    nat_le open_limit (length (filter is_open v.tree)) || nat_le OPEN_SHARDS (length (filter is_open v.tree))
 
 -- ---- The lines of a split and of a merge
 

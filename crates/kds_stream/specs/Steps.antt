@@ -13,9 +13,9 @@ use Rattle.kds_defs.specs.StreamCommands.{last_number}
 use Rattle.kds_stream.specs.Value.{StreamValue}
 use Rattle.kds_stream_logs.specs.Steps.{starts_in}
 
--- Whether `target` open shards are too many, if `room` shards may be open.
+-- Whether `target` open shards are too many, if `open_limit` shards may be open.
 abbrev pub is_over : ℕ → ℕ → Bool
-is_over target room = nat_lt room target
+is_over target open_limit = nat_lt open_limit target
 
 -- Whether the steps draw a sequence number, or give a shard a number, that is above the greatest one.
 abbrev pub are_spent : ℕ → ℕ → List ScaleStep → Bool

@@ -30,7 +30,7 @@ pub record StreamValue : Type 0 where
   pub cut : Option ℕ
   pub clock_before : ℕ
   pub cut_before : Option ℕ
-  pub turn : ℕ
+  pub next_to_settle : ℕ
 
 -- If a shard is closed, the sequence number that closed it is below `next`.
 abbrev pub IsClosedUnder : ℕ → Option Closing → Type 0
@@ -57,7 +57,8 @@ pub record IsStream (v : StreamValue) : Type 0 where
 
 -- A change of the stream `old` to `new` keeps its number, its name, its clock, and which log is settled next.
 abbrev pub KeepsFields : StreamValue → StreamValue → Type 0
-KeepsFields new old = (new.no ≡ old.no) × (new.name ≡ old.name) × (new.clock ≡ old.clock) × (new.turn ≡ old.turn)
+KeepsFields new old = (new.no ≡ old.no) × (new.name ≡ old.name) × (new.clock ≡ old.clock)
+    × (new.next_to_settle ≡ old.next_to_settle)
 
 -- After a change, the time at which the stream was made, its retention and its cut are as before. Going back to before
 -- the last advance leaves the present clock and cut.
@@ -92,10 +93,10 @@ pub record IsKeptAt (wanted : ℕ) (old new : StreamValue) : Type 0 where
 abbrev pub settled : StreamValue → StreamValue
 settled v =
     record v {
-      logs = settled_at (floor_of v.cut) v.turn v.logs;
+      logs = settled_at (floor_of v.cut) v.next_to_settle v.logs;
       clock_before = v.clock;
       cut_before = v.cut;
-      turn = next_of (length v.logs) v.turn;
+      next_to_settle = next_of (length v.logs) v.next_to_settle;
     }
 
 -- Whether a shard is there and wasn't closed below `floor`.

@@ -54,7 +54,7 @@ pub struct Stream {
     /// The trim horizon to which `retreat` goes back.
     cut_before: Option<Moment>,
     /// The index of the log from which `settle` removes the trimmed (expired) records next.
-    turn: usize,
+    next_to_settle: usize,
 }
 
 impl Model for Stream {
@@ -102,7 +102,7 @@ impl Stream {
             cut: cut_at(made, FIRST_HOURS),
             clock_before: made,
             cut_before: cut_at(made, FIRST_HOURS),
-            turn: 0,
+            next_to_settle: 0,
         })
     }
 

@@ -5,7 +5,7 @@ use Rattle.std.specs.Prelude.{cond, not, nat_le, nat_lt, ◌&&◌, slice_set, If
 use Rattle.std.specs.List.{AllByRecursion}
 use Rattle.std.proofs.lemmas.Bool.Decides.{nat_tests}
 use Rattle.kds_defs.specs.Records.{Logged, is_left, left_among}
-use Rattle.kds_log.specs.Log.{LogValue, LogWithRoom, log_of}
+use Rattle.kds_log.specs.Log.{LogValue, LogWithReserve, log_of}
 use Rattle.kds_stream_logs.specs.Logs.{IsUnder, settled_at, settled_log, with_appended}
 
 -- ---- Facts of each
@@ -18,7 +18,7 @@ all_at P (y ∷ ys) (suc i) x below is h = all_at P ys i x (omega arith) is h.1
 
 -- ---- One record more in the log at a place
 
-pub appended_at : (ls : List LogWithRoom) (i : ℕ) (d l : LogWithRoom) (r : Logged) → i < length ls
+pub appended_at : (ls : List LogWithReserve) (i : ℕ) (d l : LogWithReserve) (r : Logged) → i < length ls
     → log_of l ≡ record { kept = (get_or ls i d).kept ++ r ∷ []; last = Some r.seq }
     → map log_of (slice_set ls i l) ≡ with_appended i r (map log_of ls)
 appended_at [] i d l r below is = absurd (omega arith)
@@ -27,14 +27,15 @@ appended_at (x ∷ ls) (suc i) d l r below is =
     ap (λ (ys : List LogValue). log_of x ∷ ys) (appended_at ls i d l r (omega arith) is)
 
 -- If the log at a place is set to one with the same records, the logs are as before.
-pub same_at : (ls : List LogWithRoom) (i : ℕ) (d l : LogWithRoom) → i < length ls → log_of l ≡ log_of (get_or ls i d)
+pub same_at : (ls : List LogWithReserve) (i : ℕ) (d l : LogWithReserve) → i < length ls
+    → log_of l ≡ log_of (get_or ls i d)
     → map log_of (slice_set ls i l) ≡ map log_of ls
 same_at [] i d l below is = absurd (omega arith)
 same_at (x ∷ ls) zero d l below is = ap (λ (y : LogValue). y ∷ map log_of ls) is
 same_at (x ∷ ls) (suc i) d l below is = ap (λ (ys : List LogValue). log_of x ∷ ys) (same_at ls i d l (omega arith) is)
 
 -- What is true of each log is true of the one at a place.
-pub all_logs_at : (P : LogValue → Type 0) (ls : List LogWithRoom) (i : ℕ) (d : LogWithRoom) → i < length ls
+pub all_logs_at : (P : LogValue → Type 0) (ls : List LogWithReserve) (i : ℕ) (d : LogWithReserve) → i < length ls
     → AllByRecursion P (map log_of ls) → P (log_of (get_or ls i d))
 all_logs_at P [] i d below h = absurd (omega arith)
 all_logs_at P (x ∷ ls) zero d below h = h.0
@@ -44,7 +45,7 @@ pub under_some : (next : ℕ) (last : Option ℕ) → IsUnder next last → IfSo
 under_some next None h = tt
 under_some next (Some n) h = h
 
-pub as_many_logs : (ls : List LogWithRoom) → length (map log_of ls) ≡ length ls
+pub as_many_logs : (ls : List LogWithReserve) → length (map log_of ls) ≡ length ls
 as_many_logs [] = refl
 as_many_logs (l ∷ ls) = ap suc (as_many_logs ls)
 
@@ -86,7 +87,7 @@ settled_beyond floor n [] beyond = refl
 settled_beyond floor zero (l ∷ ls) beyond = absurd (omega arith)
 settled_beyond floor (suc n) (l ∷ ls) beyond = ap (λ xs. l ∷ xs) (settled_beyond floor n ls (omega arith))
 
-pub settled_set : (ls : List LogWithRoom) (i floor : ℕ) (d l : LogWithRoom) → i < length ls
+pub settled_set : (ls : List LogWithReserve) (i floor : ℕ) (d l : LogWithReserve) → i < length ls
     → log_of l ≡ settled_log floor (log_of (get_or ls i d))
     → map log_of (slice_set ls i l) ≡ settled_at floor i (map log_of ls)
 settled_set [] i floor d l below is = absurd (omega arith)

@@ -11,7 +11,7 @@ use Rattle.kds_defs.specs.declared.reply.Place.{Place}
 use Rattle.kds_defs.specs.Rates.{SizedPut}
 use Rattle.kds_defs.specs.Records.{Logged, logged}
 use Rattle.kds_defs.specs.Shards.{ShardState, home_among, is_open}
-use Rattle.kds_log.specs.Log.{LogValue, LogWithRoom, log_of}
+use Rattle.kds_log.specs.Log.{LogValue, LogWithReserve, log_of}
 use Rattle.kds_stream_logs.proofs.LogLemmas.{all_logs_at, appended_at, as_many_logs}
 use Rattle.kds_rate.specs.Windows.{WindowValue}
 use Rattle.kds_stream_logs.proofs.Rates.{stand_along}
@@ -20,51 +20,55 @@ use Rattle.kds_stream_logs.specs.declared.routes.Routes.{Routes}
 use Rattle.kds_stream_logs.specs.Rating.{StandFor}
 use Rattle.kds_stream_logs.specs.Routes.{AreInTurn, ArePlaced, AreRouted, CanTake, CanTakeAll, GoesOn, IsRouted}
 use Rattle.kds_stream_logs.specs.Routes.{IsSooner, IsWithin, after_item, after_items, after_number, is_held, outcome_of}
-use Rattle.kds_stream_logs.specs.Routes.{outcomes, taken, is_place_of, is_routed_to, place_of, room_at, routed_item}
+use Rattle.kds_stream_logs.specs.Routes.{outcomes, taken, is_place_of, is_routed_to, place_of, reserved_at, routed_item}
 use Rattle.kds_stream_logs.specs.Routes.{routed_items, stored_item, with_each}
 use Rattle.kds_stream_logs.specs.Logs.{HasArrived, IsBelow, with_appended}
 
 -- ---- Memory
 
-room_other : (ls : List LogWithRoom) (i j : ℕ) (l : LogWithRoom) → i ≢ j → room_at (slice_set ls i l) j ≡ room_at ls j
-room_other [] i j l apart = refl
-room_other (x ∷ ls) zero zero l apart = absurd (apart refl)
-room_other (x ∷ ls) zero (suc j) l apart = refl
-room_other (x ∷ ls) (suc i) zero l apart = refl
-room_other (x ∷ ls) (suc i) (suc j) l apart = room_other ls i j l (λ e. apart (ap suc e))
+reserved_other : (ls : List LogWithReserve) (i j : ℕ) (l : LogWithReserve) → i ≢ j
+    → reserved_at (slice_set ls i l) j ≡ reserved_at ls j
+reserved_other [] i j l apart = refl
+reserved_other (x ∷ ls) zero zero l apart = absurd (apart refl)
+reserved_other (x ∷ ls) zero (suc j) l apart = refl
+reserved_other (x ∷ ls) (suc i) zero l apart = refl
+reserved_other (x ∷ ls) (suc i) (suc j) l apart = reserved_other ls i j l (λ e. apart (ap suc e))
 
-room_here : (ls : List LogWithRoom) (i : ℕ) (l : LogWithRoom) → i < length ls → room_at (slice_set ls i l) i ≡ l.room
-room_here [] i l below = absurd (omega arith)
-room_here (x ∷ ls) zero l below = refl
-room_here (x ∷ ls) (suc i) l below = room_here ls i l (omega arith)
+reserved_here : (ls : List LogWithReserve) (i : ℕ) (l : LogWithReserve) → i < length ls
+    → reserved_at (slice_set ls i l) i ≡ l.reserved
+reserved_here [] i l below = absurd (omega arith)
+reserved_here (x ∷ ls) zero l below = refl
+reserved_here (x ∷ ls) (suc i) l below = reserved_here ls i l (omega arith)
 
-pub room_is : (ls : List LogWithRoom) (i : ℕ) (d : LogWithRoom) → i < length ls → room_at ls i ≡ (get_or ls i d).room
-room_is [] i d below = absurd (omega arith)
-room_is (x ∷ ls) zero d below = refl
-room_is (x ∷ ls) (suc i) d below = room_is ls i d (omega arith)
+pub reserved_is : (ls : List LogWithReserve) (i : ℕ) (d : LogWithReserve) → i < length ls
+    → reserved_at ls i ≡ (get_or ls i d).reserved
+reserved_is [] i d below = absurd (omega arith)
+reserved_is (x ∷ ls) zero d below = refl
+reserved_is (x ∷ ls) (suc i) d below = reserved_is ls i d (omega arith)
 
 -- Memory is reserved for a further place.
-module _ (ls : List LogWithRoom) (i : ℕ) (d l : LogWithRoom) (ps : List Place) (k : ℕ) (p : Place)
-    (below : i < length ls) (at : i ≡ p.shard) (grows : l.room ≡ (get_or ls i d).room + 1) (within : k < length ps)
+module _ (ls : List LogWithReserve) (i : ℕ) (d l : LogWithReserve) (ps : List Place) (k : ℕ) (p : Place)
+    (below : i < length ls) (at : i ≡ p.shard) (grows : l.reserved ≡ (get_or ls i d).reserved + 1)
+    (within : k < length ps)
     (is : p ≡ get_or ps k p)
-    (had : (sh : ℕ) → count_by (is_place_of sh) (take k ps) ≤ room_at ls sh) (sh : ℕ) where
+    (had : (sh : ℕ) → count_by (is_place_of sh) (take k ps) ≤ reserved_at ls sh) (sh : ℕ) where
   more_places : count_by (is_place_of sh) (take (k + 1) ps) ≡ count_by (is_place_of sh) (take k ps)
       + cond (p.shard == sh) 1 0
   more_places = sum_by_more (λ (q : Place). cond (is_place_of sh q) 1 0) ps k p within
       ∙ ap (λ (q : Place). count_by (is_place_of sh) (take k ps) + cond (is_place_of sh q) 1 0) (sym is)
 
   reserved_by : (b : Bool) → (p.shard == sh) ≡ b
-      → count_by (is_place_of sh) (take (k + 1) ps) ≤ room_at (slice_set ls i l) sh
+      → count_by (is_place_of sh) (take (k + 1) ps) ≤ reserved_at (slice_set ls i l) sh
   reserved_by true e =
       let same : i ≡ sh = at ∙ equal_so p.shard sh e in
-      let before : count_by (is_place_of sh) (take k ps) ≤ room_at ls i =
-      subst (λ n. count_by (is_place_of sh) (take k ps) ≤ room_at ls n) (sym same) (had sh) in
-      subst (λ n. count_by (is_place_of sh) (take (k + 1) ps) ≤ room_at (slice_set ls i l) n) same
+      let before : count_by (is_place_of sh) (take k ps) ≤ reserved_at ls i =
+      subst (λ n. count_by (is_place_of sh) (take k ps) ≤ reserved_at ls n) (sym same) (had sh) in
+      subst (λ n. count_by (is_place_of sh) (take (k + 1) ps) ≤ reserved_at (slice_set ls i l) n) same
       (omega (
         arith,
         more_places ∙ ap (λ c. count_by (is_place_of sh) (take k ps) + cond c 1 0) e,
-        room_here ls i l below,
-        room_is ls i d below,
+        reserved_here ls i l below,
+        reserved_is ls i d below,
         grows,
         before,
       ))
@@ -73,10 +77,10 @@ module _ (ls : List LogWithRoom) (i : ℕ) (d l : LogWithRoom) (ps : List Place)
         arith,
         more_places ∙ ap (λ c. count_by (is_place_of sh) (take k ps) + cond c 1 0) e,
         had sh,
-        room_other ls i sh l (λ same. differ_so p.shard sh e (sym at ∙ same)),
+        reserved_other ls i sh l (λ same. differ_so p.shard sh e (sym at ∙ same)),
       )
 
-  pub reserved_more : count_by (is_place_of sh) (take (k + 1) ps) ≤ room_at (slice_set ls i l) sh
+  pub reserved_more : count_by (is_place_of sh) (take (k + 1) ps) ≤ reserved_at (slice_set ls i l) sh
   reserved_more = reserved_by (p.shard == sh) refl
 
 -- There are as many places of a shard as records that go to it.
@@ -89,29 +93,31 @@ count_routed (r ∷ rs) sh =
 
 -- ---- One record is taken
 
-length-set : (ls : List LogWithRoom) (i : ℕ) (l : LogWithRoom) → length (slice_set ls i l) ≡ length ls
+length-set : (ls : List LogWithReserve) (i : ℕ) (l : LogWithReserve) → length (slice_set ls i l) ≡ length ls
 length-set [] i l = refl
 length-set (x ∷ ls) zero l = refl
 length-set (x ∷ ls) (suc i) l = ap suc (length-set ls i l)
 
-all_set : (P : LogValue → Type 0) (ls : List LogWithRoom) (i : ℕ) (l : LogWithRoom) → P (log_of l)
+all_set : (P : LogValue → Type 0) (ls : List LogWithReserve) (i : ℕ) (l : LogWithReserve) → P (log_of l)
     → AllByRecursion P (map log_of ls) → AllByRecursion P (map log_of (slice_set ls i l))
 all_set P [] i l p h = tt
 all_set P (x ∷ ls) zero l p h = (p, h.1)
 all_set P (x ∷ ls) (suc i) l p h = (h.0, all_set P ls i l p h.1)
 
 -- The log of the first record has memory.
-pub room_left : (ls : List LogWithRoom) (i : ℕ) (r : Routed) (rs : List Routed) → i ≡ r.shard → CanTakeAll ls (r ∷ rs)
-    → 1 ≤ room_at ls i
-room_left ls i r rs at can =
-    let counted : cond (r.shard == i) 1 0 + count_by (is_routed_to i) rs ≤ room_at ls i =
-    subst (λ n. n ≤ room_at ls i) (sum_by-cons (λ (q : Routed). cond (is_routed_to i q) 1 0) r rs) (can.room i) in
-    let had : cond true 1 0 + count_by (is_routed_to i) rs ≤ room_at ls i =
-    subst (λ c. cond c 1 0 + count_by (is_routed_to i) rs ≤ room_at ls i) (is_equal r.shard i (sym at)) counted in
+pub reserved_left : (ls : List LogWithReserve) (i : ℕ) (r : Routed) (rs : List Routed) → i ≡ r.shard
+    → CanTakeAll ls (r ∷ rs)
+    → 1 ≤ reserved_at ls i
+reserved_left ls i r rs at can =
+    let counted : cond (r.shard == i) 1 0 + count_by (is_routed_to i) rs ≤ reserved_at ls i =
+    subst (λ n. n ≤ reserved_at ls i) (sum_by-cons (λ (q : Routed). cond (is_routed_to i q) 1 0) r rs)
+    (can.reserved i) in
+    let had : cond true 1 0 + count_by (is_routed_to i) rs ≤ reserved_at ls i =
+    subst (λ c. cond c 1 0 + count_by (is_routed_to i) rs ≤ reserved_at ls i) (is_equal r.shard i (sym at)) counted in
     omega arith
 
-module _ (ls : List LogWithRoom) (i : ℕ) (d l : LogWithRoom) (r : Routed) (rs : List Routed) (at : i ≡ r.shard)
-    (below : i < length ls) (used : l.room + 1 ≡ (get_or ls i d).room)
+module _ (ls : List LogWithReserve) (i : ℕ) (d l : LogWithReserve) (r : Routed) (rs : List Routed) (at : i ≡ r.shard)
+    (below : i < length ls) (used : l.reserved + 1 ≡ (get_or ls i d).reserved)
     (is : log_of l ≡ record { kept = (get_or ls i d).kept ++ logged r.item ∷ []; last = Some r.item.seq })
     (can : CanTakeAll ls (r ∷ rs)) where
   number_more : (q : Routed) → IsSooner r q → CanTake (map log_of ls) q → IsBelow q.item.seq (log_of l)
@@ -132,29 +138,30 @@ module _ (ls : List LogWithRoom) (i : ℕ) (d l : LogWithRoom) (r : Routed) (rs 
     arrival = all_set (HasArrived q.item.arrival) ls i l (arrival_more q sooner take) take.arrival;
   }
 
-  counted : (sh : ℕ) → cond (r.shard == sh) 1 0 + count_by (is_routed_to sh) rs ≤ room_at ls sh
-  counted sh = subst (λ n. n ≤ room_at ls sh) (sum_by-cons (λ (q : Routed). cond (is_routed_to sh q) 1 0) r rs)
-      (can.room sh)
+  counted : (sh : ℕ) → cond (r.shard == sh) 1 0 + count_by (is_routed_to sh) rs ≤ reserved_at ls sh
+  counted sh = subst (λ n. n ≤ reserved_at ls sh) (sum_by-cons (λ (q : Routed). cond (is_routed_to sh q) 1 0) r rs)
+      (can.reserved sh)
 
-  used_by : (sh : ℕ) (b : Bool) → (r.shard == sh) ≡ b → count_by (is_routed_to sh) rs ≤ room_at (slice_set ls i l) sh
+  used_by : (sh : ℕ) (b : Bool) → (r.shard == sh) ≡ b
+      → count_by (is_routed_to sh) rs ≤ reserved_at (slice_set ls i l) sh
   used_by sh true e =
       let same : i ≡ sh = at ∙ equal_so r.shard sh e in
-      let had : cond true 1 0 + count_by (is_routed_to sh) rs ≤ room_at ls sh =
-      subst (λ c. cond c 1 0 + count_by (is_routed_to sh) rs ≤ room_at ls sh) e (counted sh) in
-      let had' : 1 + count_by (is_routed_to sh) rs ≤ room_at ls i =
-      subst (λ n. 1 + count_by (is_routed_to sh) rs ≤ room_at ls n) (sym same) had in
-      subst (λ n. count_by (is_routed_to sh) rs ≤ room_at (slice_set ls i l) n) same
-      (omega (arith, had', room_here ls i l below, room_is ls i d below, used))
+      let had : cond true 1 0 + count_by (is_routed_to sh) rs ≤ reserved_at ls sh =
+      subst (λ c. cond c 1 0 + count_by (is_routed_to sh) rs ≤ reserved_at ls sh) e (counted sh) in
+      let had' : 1 + count_by (is_routed_to sh) rs ≤ reserved_at ls i =
+      subst (λ n. 1 + count_by (is_routed_to sh) rs ≤ reserved_at ls n) (sym same) had in
+      subst (λ n. count_by (is_routed_to sh) rs ≤ reserved_at (slice_set ls i l) n) same
+      (omega (arith, had', reserved_here ls i l below, reserved_is ls i d below, used))
   used_by sh false e =
-      let had : cond false 1 0 + count_by (is_routed_to sh) rs ≤ room_at ls sh =
-      subst (λ c. cond c 1 0 + count_by (is_routed_to sh) rs ≤ room_at ls sh) e (counted sh) in
-      omega (arith, had, room_other ls i sh l (λ same. differ_so r.shard sh e (sym at ∙ same)))
+      let had : cond false 1 0 + count_by (is_routed_to sh) rs ≤ reserved_at ls sh =
+      subst (λ c. cond c 1 0 + count_by (is_routed_to sh) rs ≤ reserved_at ls sh) e (counted sh) in
+      omega (arith, had, reserved_other ls i sh l (λ same. differ_so r.shard sh e (sym at ∙ same)))
 
   pub taken_one : CanTakeAll (slice_set ls i l) rs
   taken_one = record {
     each = all_both (IsSooner r) (CanTake (map log_of ls)) (CanTake (map log_of (slice_set ls i l)))
         take_more rs can.in_turn.0 can.each.1;
-    room = λ sh. used_by sh (r.shard == sh) refl;
+    reserved = λ sh. used_by sh (r.shard == sh) refl;
     in_turn = can.in_turn.1;
   }
 
@@ -331,7 +338,7 @@ all_places count [] h = tt
 all_places count (r ∷ rs) h = (h.0, all_places count rs h.1)
 
 -- The shards of the records' places are there.
-pub places_within : (ls : List LogWithRoom) (rs : List Routed) (ps : List Place) → ps ≡ map place_of rs
+pub places_within : (ls : List LogWithReserve) (rs : List Routed) (ps : List Place) → ps ≡ map place_of rs
     → AllByRecursion (CanTake (map log_of ls)) rs → AllByRecursion (λ (p : Place). p.shard < length ls) ps
 places_within ls rs ps placed can =
     subst (AllByRecursion (λ (p : Place). p.shard < length ls)) (sym placed)
@@ -340,12 +347,13 @@ places_within ls rs ps placed can =
     (λ r take. omega (arith, take.within, as_many_logs ls)) rs can))
 
 -- Once memory is reserved for their places, all records can be taken.
-pub can_take_all : (before : List LogValue) (ls : List LogWithRoom) (rs : List Routed) (ps : List Place)
+pub can_take_all : (before : List LogValue) (ls : List LogWithReserve) (rs : List Routed) (ps : List Place)
     → ps ≡ map place_of rs → map log_of ls ≡ before → AllByRecursion (CanTake before) rs → AreInTurn rs
-    → ((sh : ℕ) → count_by (is_place_of sh) ps ≤ room_at ls sh) → CanTakeAll ls rs
-can_take_all before ls rs ps placed same can turns room = record {
+    → ((sh : ℕ) → count_by (is_place_of sh) ps ≤ reserved_at ls sh) → CanTakeAll ls rs
+can_take_all before ls rs ps placed same can turns reserved = record {
   each = subst (λ (ms : List LogValue). AllByRecursion (CanTake ms) rs) (sym same) can;
-  room = λ sh. subst (λ n. n ≤ room_at ls sh) (ap (count_by (is_place_of sh)) placed ∙ count_routed rs sh) (room sh);
+  reserved = λ sh. subst (λ n. n ≤ reserved_at ls sh) (ap (count_by (is_place_of sh)) placed ∙ count_routed rs sh)
+      (reserved sh);
   in_turn = turns;
 }
 

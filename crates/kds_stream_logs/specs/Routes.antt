@@ -10,7 +10,7 @@ use Rattle.kds_defs.specs.Lawful.{item_bytes}
 use Rattle.kds_defs.specs.Rates.{SizedPut, is_throttled}
 use Rattle.kds_defs.specs.Records.{logged}
 use Rattle.kds_defs.specs.Shards.{ShardState, home_among, is_open}
-use Rattle.kds_log.specs.Log.{LogValue, LogWithRoom, log_of}
+use Rattle.kds_log.specs.Log.{LogValue, LogWithReserve, log_of}
 use Rattle.kds_rate.specs.Windows.{WindowValue}
 use Rattle.kds_stream_logs.specs.declared.routes.Routed.{Routed}
 use Rattle.kds_stream_logs.specs.declared.routes.Routes.{Routes}
@@ -91,10 +91,10 @@ settled_each floor [] ls = ls
 settled_each floor (p ∷ ps) ls = settled_each floor ps (settled_at floor p.shard ls)
 
 -- The number of records for which the log at a place has memory reserved.
-abbrev pub room_at : List LogWithRoom → ℕ → ℕ
-room_at [] n = 0
-room_at (l ∷ ls) zero = l.room
-room_at (l ∷ ls) (suc n) = room_at ls n
+abbrev pub reserved_at : List LogWithReserve → ℕ → ℕ
+reserved_at [] n = 0
+reserved_at (l ∷ ls) zero = l.reserved
+reserved_at (l ∷ ls) (suc n) = reserved_at ls n
 
 -- The record `a` has a lower number than `b`, and arrived no later.
 abbrev pub IsSooner : Routed → Routed → Type 0
@@ -121,9 +121,9 @@ abbrev pub is_place_of : ℕ → Place → Bool
 is_place_of sh p = p.shard == sh
 
 -- The logs `ls` can take all of the records `rs` in turn, and each log has memory reserved for as many as go to it.
-pub record CanTakeAll (ls : List LogWithRoom) (rs : List Routed) : Type 0 where
+pub record CanTakeAll (ls : List LogWithReserve) (rs : List Routed) : Type 0 where
   pub each : AllByRecursion (CanTake (map log_of ls)) rs
-  pub room : (sh : ℕ) → count_by (is_routed_to sh) rs ≤ room_at ls sh
+  pub reserved : (sh : ℕ) → count_by (is_routed_to sh) rs ≤ reserved_at ls sh
   pub in_turn : AreInTurn rs
 
 -- ---- What is made of items

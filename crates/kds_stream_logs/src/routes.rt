@@ -11,7 +11,7 @@ ghost use Rattle.kds_log.specs.Log.{log_of};
 ghost use Rattle.kds_rate.specs.Windows.{WindowValue};
 ghost use Rattle.kds_stream_logs.specs.Rating.{ForPutsOf, IsCounted, StandFor, with_put};
 ghost use Rattle.kds_stream_logs.specs.Routes.{AreInTurn, ArePlaced, AreRouted, CanTake, CanTakeAll, IsRouted, is_held};
-ghost use Rattle.kds_stream_logs.specs.Routes.{is_place_of, place_of, room_at, settled_each, stored_item, taken};
+ghost use Rattle.kds_stream_logs.specs.Routes.{is_place_of, place_of, reserved_at, settled_each, stored_item, taken};
 ghost use Rattle.kds_stream_logs.specs.Routes.{with_each};
 ghost use Rattle.kds_stream_logs.specs.Saved.{DiffersAt, restored};
 
@@ -129,7 +129,7 @@ impl Routes {
 /// Checks a record against the throughput limits of its shard, at the time `clock`. The payload and partition key of
 /// the record together have `bytes` bytes. Returns `true` if the limits are on and the shard doesn't accept the record.
 /// Otherwise counts the record in the shard's window, and returns `false`.
-fn holds_back(
+fn holds_back_or_counts(
     windows: &mut [Window],
     enforced: bool,
     shard: ShardNo,
@@ -180,7 +180,7 @@ fn route_one(
     let shard = tree.home(item.hash);
     let bytes = item_bytes(&item);
     routes.save(windows, shard)?;
-    if holds_back(windows, enforced, shard, clock, bytes) {
+    if holds_back_or_counts(windows, enforced, shard, clock, bytes) {
         routes.hold_back(shard)?;
         return Ok(true);
     }
@@ -250,7 +250,7 @@ fn release_all(logs: &mut [ShardLog], places: &[Place])
 fn reserve_all(logs: &mut [ShardLog], places: &[Place]) -> Result<(), Memory>
     requires { AllByRecursion (λ p. p.shard < length logs.old) places.now }
     ensures same { map log_of logs.new ≡ map log_of logs.old }
-    ensures room { OnOk result ((sh : ℕ) → count_by (is_place_of sh) places.now ≤ room_at logs.new sh) }
+    ensures reserved { OnOk result ((sh : ℕ) → count_by (is_place_of sh) places.now ≤ reserved_at logs.new sh) }
 {
     for place in places {
         let shard = place.shard;

@@ -5,7 +5,7 @@
 //! number. Each type of step states how the step changes the view.
 ghost use Rattle.kds_turn.specs.Known.{first_view, note_of, keeps_rest, gets_second, both, nobody};
 ghost use Rattle.kds_turn.specs.Rule.{Orderly};
-ghost use Rattle.kds_turn.specs.Plays.{Grabs, Looked, Appended, Freed};
+ghost use Rattle.kds_turn.specs.Plays.{Locks, Loaded, Appended, Unlocked};
 
 use crate::view::View;
 use atomic_table::{Join, Play, Split, TableRule};
@@ -25,19 +25,19 @@ impl<M: Machine> TableRule<Option<M>, View, u32> for InOrder<M> {
 }
 
 /// The step that tries to acquire the lock, and with it the slot that contains the machine.
-pub struct Grab<M> {
+pub struct Lock<M> {
     marker: PhantomData<M>,
 }
 
-impl<M: Machine> Play<Option<M>, View> for Grab<M> {
-    ghost then = { Grabs M.stands_for };
+impl<M: Machine> Play<Option<M>, View> for Lock<M> {
+    ghost then = { Locks M.stands_for };
 }
 
 /// The step that loads the number of turns in the history. The seat that makes this step has then seen all these turns.
-pub struct Look;
+pub struct Load;
 
-impl<M> Play<Option<M>, View> for Look {
-    ghost then = { λ st m found n. Looked m found n };
+impl<M> Play<Option<M>, View> for Load {
+    ghost then = { λ st m found n. Loaded m found n };
 }
 
 /// States, for proofs, the turn that an `Append` step adds to the history. The caller of the step chooses this turn.
@@ -63,10 +63,10 @@ impl<M, N: Next> Play<Option<M>, View> for Append<N> {
 }
 
 /// The step that releases the lock, and with it the slot that contains the machine.
-pub struct Free;
+pub struct Unlock;
 
-impl<M> Play<Option<M>, View> for Free {
-    ghost then = { λ st m found n. Freed m n };
+impl<M> Play<Option<M>, View> for Unlock {
+    ghost then = { λ st m found n. Unlocked m n };
 }
 
 /// The step that makes the seat of a new pass. The second account of the old seat moves to the new seat.

@@ -5,9 +5,9 @@
 ghost use Rattle.std.specs.Prelude.{◌≡◌, ◌≢◌, ℕ, ◌+◌, ◌<◌, ◌^◌, [], ◌∷◌, length, true, false, Some, None};
 ghost use Rattle.kds_defs.specs.Lawful.{IsLawful};
 ghost use Rattle.kds_turn.specs.Known.{first_number, keeps_rest, gets_second, note_of, both};
-ghost use Rattle.kds_turn.specs.Plays.{IsIdle, HasEmpty, HasTurn, Grabbed, Looked, Appended, Freed};
+ghost use Rattle.kds_turn.specs.Plays.{IsIdle, HasEmpty, HasMachine, Locked, Loaded, Appended, Unlocked};
 
-use crate::rule::{Append, Deal, Free, Grab, InOrder, Look, Merge, Next, Tell};
+use crate::rule::{Append, Deal, InOrder, Load, Lock, Merge, Next, Tell, Unlock};
 use crate::view::View;
 use atomic_table::Shared;
 use kds_defs::{Machine, Turn};
@@ -44,10 +44,10 @@ pub fn lock<M: Machine, R: Wait>(
         × (board.now.table_id.slots ≡ 1) }
     requires seat { IsIdle seat.old.me × (first_number seat.old.me.0.accounts ≡ by) × (0 < by) }
     ensures seat { (seat.new.table_id ≡ seat.old.table_id) × (seat.new.id ≡ seat.old.id) }
-    ensures grabbed { Grabbed M.stands_for seat.old.me seat.new.me }
+    ensures locked { Locked M.stands_for seat.old.me seat.new.me }
 {
     for _ in rt.forever() {
-        let found = board.compare_exchange::<Grab<M>>(seat, HOLDER, 0, by as u64);
+        let found = board.compare_exchange::<Lock<M>>(seat, HOLDER, 0, by as u64);
         if found == 0 {
             return;
         }
@@ -78,14 +78,14 @@ pub fn load_turns<M: Machine>(board: &Board<M>, seat: &mut Seat<M>) -> u64
     requires { (seat.old.table_id ≡ board.now.table_id) × (board.now.table_id.words ≡ 3)
         × (board.now.table_id.slots ≡ 1) }
     ensures seat { (seat.new.table_id ≡ seat.old.table_id) × (seat.new.id ≡ seat.old.id) }
-    ensures looked { Looked seat.old.me result seat.new.me }
+    ensures loaded { Loaded seat.old.me result seat.new.me }
 {
-    board.load::<Look>(seat, TURNS)
+    board.load::<Load>(seat, TURNS)
 }
 
 /// Takes the machine out of the slot. Precondition: the seat has the lock.
 pub fn take_machine<M: Machine>(board: &Board<M>, seat: &mut Seat<M>) -> M
-    requires { (seat.old.table_id ≡ board.now.table_id) × HasTurn M.stands_for seat.old.me }
+    requires { (seat.old.table_id ≡ board.now.table_id) × HasMachine M.stands_for seat.old.me }
     ensures seat { (seat.new.table_id ≡ seat.old.table_id) × (seat.new.id ≡ seat.old.id) }
     ensures view { (seat.new.me.0 ≡ seat.old.me.0) × HasEmpty seat.new.me }
     ensures stands { M.stands_for result seat.old.me.0.seen }
@@ -121,11 +121,11 @@ pub fn append<M: Machine, N: Next>(board: &Board<M>, seat: &mut Seat<M>, _turn: 
 pub fn unlock<M: Machine>(board: &Board<M>, sleepers: &AtomicU64, seat: &mut Seat<M>)
     requires board { (seat.old.table_id ≡ board.now.table_id) × (board.now.table_id.words ≡ 3)
         × (board.now.table_id.slots ≡ 1) }
-    requires seat { HasTurn M.stands_for seat.old.me }
+    requires seat { HasMachine M.stands_for seat.old.me }
     ensures seat { (seat.new.table_id ≡ seat.old.table_id) × (seat.new.id ≡ seat.old.id) }
-    ensures freed { Freed seat.old.me seat.new.me }
+    ensures unlocked { Unlocked seat.old.me seat.new.me }
 {
-    board.store::<Free>(seat, HOLDER, 0);
+    board.store::<Unlock>(seat, HOLDER, 0);
     if sleepers.load(Ordering::SeqCst) != 0 {
         board.wake_one(HOLDER);
     }

@@ -58,9 +58,9 @@ impl Stream {
         ensures shows { (log : Journal) → Shows self.old log → Shows self.new log }
         ensures dropped { self.new ≡ settled self.old }
     {
-        settle_at(&mut self.logs, self.turn, &self.cut);
+        settle_at(&mut self.logs, self.next_to_settle, &self.cut);
         self.tree.pass_expired(self.cut);
-        self.turn = next_of(self.logs.len(), self.turn);
+        self.next_to_settle = next_of(self.logs.len(), self.next_to_settle);
         self.clock_before = self.clock;
         self.cut_before = self.cut;
     }

@@ -14,21 +14,21 @@ use kds_stream_logs::{add_shards, is_spent, made_by, reserve_shards, take_steps}
 
 impl Stream {
     /// First merges and then splits open shards, until there are `target` open shards with uniform ranges of hash keys
-    /// (Kinesis API Reference, UpdateShardCount). The scaling takes as few steps as possible. `room` is the greatest
+    /// (Kinesis API Reference, UpdateShardCount). The scaling takes as few steps as possible. `open_limit` is the greatest
     /// number of shards that may be open in this stream, given the open shards of the other streams. All memory is
-    /// allocated before the first step. The scaling is refused with `Full` if and only if `target` is above `room`.
+    /// allocated before the first step. The scaling is refused with `Full` if and only if `target` is above `open_limit`.
     /// Otherwise it is refused with `Spent` if the stream's next sequence number or its number of shards would be above
     /// the greatest `u64` after the last step.
-    pub fn scale(&mut self, target: u32, room: u64) -> Result<Answer, Memory>
+    pub fn scale(&mut self, target: u32, open_limit: u64) -> Result<Answer, Memory>
         requires { IsShardCount target }
         ensures answered { IfOk result (λ a. Decides self.old self.new a (λ log by.
-            scale_where (is_over target room) log self.old.clock by self.old.name self.old.no target)) }
+            scale_where (is_over target open_limit) log self.old.clock by self.old.name self.old.no target)) }
         ensures fields { KeepsFields self.new self.old }
         ensures refused { IfOk result (λ a. OnErr a (self.new ≡ self.old)) }
         ensures changed { IfOk result (λ a. OnOk a (IsChangedAt self.old self.new)) }
         ensures kept { OnErr result (self.new ≡ self.old) }
     {
-        if u64::from(target) > room {
+        if u64::from(target) > open_limit {
             return Ok(Err(Refusal::Full));
         }
         let starts = self.tree.starts()?;

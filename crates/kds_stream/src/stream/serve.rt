@@ -11,14 +11,14 @@ use std::alloc::Global;
 
 impl Stream {
     /// Serves a command that names this stream, or whose token (shard iterator or NextToken) belongs to this stream
-    /// (Kinesis API Reference, the operations of the commands). `room` is the greatest number of shards that may be
+    /// (Kinesis API Reference, the operations of the commands). `open_limit` is the greatest number of shards that may be
     /// open in this stream, given the open shards of the other streams. Only SplitShard and UpdateShardCount need
-    /// `room`. If memory runs out, the stream is unchanged.
-    pub fn serve(&mut self, alloc: Global, what: Command, room: u64) -> Result<Answer, Memory>
+    /// `open_limit`. If memory runs out, the stream is unchanged.
+    pub fn serve(&mut self, alloc: Global, what: Command, open_limit: u64) -> Result<Answer, Memory>
         requires lawful { IsLawfulCommand what }
         requires own { is_of_stream what ≡ true }
         requires token { (s : ℕ) → token_of what ≡ Some s → s ≡ self.old.no }
-        ensures answered { IfOk result (λ a. Serves what room self.old self.new a) }
+        ensures answered { IfOk result (λ a. Serves what open_limit self.old self.new a) }
         ensures fields { KeepsFields self.new self.old }
         ensures kept { OnErr result (self.new ≡ self.old) }
     {
@@ -31,10 +31,10 @@ impl Stream {
             Command::PutMany { name, items } => self.put_many(items),
             Command::GetIterator { name, shard, from } => Ok(self.iterator(shard, from)),
             Command::Records { iter, limit } => self.records(alloc, &iter, limit),
-            Command::Split { name, shard, at } => self.split(shard, at, room),
+            Command::Split { name, shard, at } => self.split(shard, at, open_limit),
             Command::Merge { name, shard, other } => self.merge(shard, other),
             Command::Keep { name, hours, raise } => Ok(self.keep(hours, raise)),
-            Command::Scale { name, target } => self.scale(target, room),
+            Command::Scale { name, target } => self.scale(target, open_limit),
             Command::Enforce { name, on } => Ok(self.enforce(on)),
             Command::Shards { name, after, limit } => self.shards(after, limit),
             Command::More { page, limit } => self.more(&page, limit),

@@ -16,21 +16,21 @@ use kds_log::ShardLog;
 use kds_rate::Window;
 
 impl Stream {
-    /// Whether the stream can't have one more open shard, because the number of its open shards has reached `room` or
-    /// `OPEN_SHARDS`. `room` is the greatest number of shards that may be open in this stream, given the open shards of
+    /// Whether the stream can't have one more open shard, because the number of its open shards has reached `open_limit` or
+    /// `OPEN_SHARDS`. `open_limit` is the greatest number of shards that may be open in this stream, given the open shards of
     /// the other streams.
-    fn is_full(&self, room: u64) -> bool
-        ensures { result ≡ is_full self.now room }
+    fn is_full(&self, open_limit: u64) -> bool
+        ensures { result ≡ is_full self.now open_limit }
     {
         let open = u64::from(self.open_count());
-        open >= room || open >= OPEN_SHARDS
+        open >= open_limit || open >= OPEN_SHARDS
     }
 
     /// Returns the reason why a split of the shard at the hash key `at` would be refused, or `None` if it would be
-    /// accepted. `room` is the greatest number of shards that may be open in this stream.
-    fn split_refusal(&self, shard: ShardNo, at: u128, room: u64) -> Option<Refusal>
+    /// accepted. `open_limit` is the greatest number of shards that may be open in this stream.
+    fn split_refusal(&self, shard: ShardNo, at: u128, open_limit: u64) -> Option<Refusal>
         ensures decided { RefusesAs self.now result (λ log c by s. split_line log c by s shard at)
-            (λ log c by s. split_where (is_full self.now room) log c by s shard at) }
+            (λ log c by s. split_where (is_full self.now open_limit) log c by s shard at) }
         ensures splits { IfNone result (split_refusal self.now.tree shard at ≡ None) }
         ensures free { IfNone result (self.now.next ≢ last_number) }
         ensures few { IfNone result (length (filter is_open self.now.tree) < OPEN_SHARDS) }
@@ -41,7 +41,7 @@ impl Stream {
         if let Some(refusal) = self.tree.split_refusal(shard, at) {
             return Some(refusal);
         }
-        if self.is_full(room) {
+        if self.is_full(open_limit) {
             return Some(Refusal::Full);
         }
         let next = self.next;
@@ -52,21 +52,21 @@ impl Stream {
     }
 
     /// Splits a shard at the hash key `at` (Kinesis API Reference, SplitShard). The shard is closed, with the stream's
-    /// next sequence number as its ending sequence number, and its two children are added after the last shard. `room`
+    /// next sequence number as its ending sequence number, and its two children are added after the last shard. `open_limit`
     /// is the greatest number of shards that may be open in this stream, given the open shards of the other streams.
     /// The split is refused with `NoShard` if the shard was never made or has expired, with `ShardClosed` if the shard
     /// is closed, and with `BadSplit` if one part of its range would be empty. It is refused with `Full` if the stream
-    /// already has `room` or `OPEN_SHARDS` open shards, and with `Spent` if the stream's next sequence number is the
+    /// already has `open_limit` or `OPEN_SHARDS` open shards, and with `Spent` if the stream's next sequence number is the
     /// greatest `u64`. If the split is refused or memory runs out, the stream is unchanged.
-    pub fn split(&mut self, shard: ShardNo, at: u128, room: u64) -> Result<Answer, Memory>
+    pub fn split(&mut self, shard: ShardNo, at: u128, open_limit: u64) -> Result<Answer, Memory>
         ensures answered { IfOk result (λ a. Decides self.old self.new a (λ log by.
-            split_where (is_full self.old room) log self.old.clock by self.old.no shard at)) }
+            split_where (is_full self.old open_limit) log self.old.clock by self.old.no shard at)) }
         ensures fields { KeepsFields self.new self.old }
         ensures refused { IfOk result (λ a. OnErr a (self.new ≡ self.old)) }
         ensures changed { IfOk result (λ a. OnOk a (IsChangedAt self.old self.new)) }
         ensures kept { OnErr result (self.new ≡ self.old) }
     {
-        if let Some(refusal) = self.split_refusal(shard, at, room) {
+        if let Some(refusal) = self.split_refusal(shard, at, open_limit) {
             return Ok(Err(refusal));
         }
         let seq = self.next;

@@ -5,14 +5,14 @@ use Rattle.kds_lines.proofs.feed.end_line.Goals as goal
 pub returns-then-over-clause-err : goal.returns-then-over-clause-err
 returns-then-over-clause-err g c = λ now fed start st n.
     stands_over (g.T.Taker.took c.args.taker.now) (g.T.Taker.took c.args.taker.now) (g.T.Taker.broke c.args.taker.now)
-    g.T.Taker.refuses g.T.Taker.output fed c.args.tail.now c.joined_length-len.result c.args.reading.now start now
+    g.T.Taker.refuses g.T.Taker.output fed c.args.tail.now c.joined_length-len.result c.args.line_buffer.now start now
     c.joined_length-len.ensures st n (sym c.over.ensures ∙ c.if-over.true)
 
 pub returns-in-Ok-true-clause-ok : goal.returns-in-Ok-true-clause-ok
 returns-in-Ok-true-clause-ok g c = λ now fed start st n.
     line_taken (g.T.Taker.took c.args.taker.now) (g.T.Taker.took c.take_joined.new.taker)
     (g.T.Taker.broke c.take_joined.new.taker) g.T.Taker.refuses g.T.Taker.output fed c.args.tail.now
-    c.joined_length-len.result c.args.reading.now _ start now
+    c.joined_length-len.result c.args.line_buffer.now _ start now
     c.joined_length-len.ensures st n (sym c.over.ensures ∙ c.if-over.false)
     (c.in-Ok-true.ensures.goes c.in-Ok-true.field-0-test) c.clear.ensures refl refl
 
@@ -20,7 +20,7 @@ pub returns-in-Ok-false-clause-err : goal.returns-in-Ok-false-clause-err
 returns-in-Ok-false-clause-err g c = λ now fed start st n.
     stands_stops (g.T.Taker.took c.args.taker.now) (g.T.Taker.took c.take_joined.new.taker)
     (g.T.Taker.broke c.take_joined.new.taker) g.T.Taker.refuses g.T.Taker.output fed c.args.tail.now _
-    c.joined_length-len.result c.args.reading.now start now
+    c.joined_length-len.result c.args.line_buffer.now start now
     c.joined_length-len.ensures st n (sym c.over.ensures ∙ c.if-over.false)
     (c.in-Ok-false.ensures.silent c.in-Ok-false.field-0-test)
     (c.in-Ok-false.ensures.stops c.in-Ok-false.field-0-test)
@@ -29,6 +29,6 @@ pub returns-in-Err-clause-err : goal.returns-in-Err-clause-err
 returns-in-Err-clause-err g c = λ now fed start st n.
     stands_breaks (g.T.Taker.took c.args.taker.now) (g.T.Taker.took c.take_joined.new.taker)
     (g.T.Taker.broke c.take_joined.new.taker) g.T.Taker.refuses g.T.Taker.output fed c.args.tail.now _
-    c.joined_length-len.result c.args.reading.now start now
+    c.joined_length-len.result c.args.line_buffer.now start now
     c.joined_length-len.ensures st n (sym c.over.ensures ∙ c.if-over.false) c.in-Err.ensures.same
     c.in-Err.ensures.breaks

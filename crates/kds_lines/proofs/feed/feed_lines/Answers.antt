@@ -6,7 +6,7 @@ use Rattle.kds_lines.proofs.feed.feed_lines.Goals as goal
 pub loop-at-init : goal.loop-at-init
 loop-at-init g c = (
   λ fed start st. lines_begin (g.T.Taker.took c.args.taker.now) (g.T.Taker.took c.args.taker.now)
-      (g.T.Taker.broke c.args.taker.now) g.T.Taker.refuses g.T.Taker.output fed c.args.piece.now c.args.reading.now
+      (g.T.Taker.broke c.args.taker.now) g.T.Taker.refuses g.T.Taker.output fed c.args.piece.now c.args.line_buffer.now
       start _ st,
   refl,
   omega arith,

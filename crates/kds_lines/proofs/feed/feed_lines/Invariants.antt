@@ -6,11 +6,11 @@ use Rattle.kds_lines.proofs.feed.feed_lines.Given as goal
 abbrev pub invariant-loop-at : goal.invariant-loop-at
 invariant-loop-at g l =
     ((fed : List ℕ) (start : Option (List ℕ))
-    → Stands (g.T.Taker.took l.fn.taker) g.T.Taker.output fed l.fn.reading start (g.K.Sink.held l.fn.out)
-    → FedLines (g.T.Taker.took l.taker) g.T.Taker.output fed l.piece l.rest l.reading start (g.K.Sink.held l.out))
-    × (fed_count l.reading + length l.rest ≡ fed_count l.fn.reading + length l.piece)
+    → Stands (g.T.Taker.took l.fn.taker) g.T.Taker.output fed l.fn.line_buffer start (g.K.Sink.held l.fn.out)
+    → FedLines (g.T.Taker.took l.taker) g.T.Taker.output fed l.piece l.rest l.line_buffer start (g.K.Sink.held l.out))
+    × (fed_count l.line_buffer + length l.rest ≡ fed_count l.fn.line_buffer + length l.piece)
     × (g.K.Sink.faults l.fn.out ≤ g.K.Sink.faults l.out)
-    × (length l.reading.output < OUTPUT_BYTES)
+    × (length l.line_buffer.output < OUTPUT_BYTES)
 
 abbrev pub decreases-loop-at : goal.decreases-loop-at
 decreases-loop-at g l = length l.rest

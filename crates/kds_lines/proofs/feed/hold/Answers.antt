@@ -5,7 +5,7 @@ use Rattle.kds_lines.proofs.feed.hold.Goals as goal
 
 pub returns-then-over-clause-err : goal.returns-then-over-clause-err
 returns-then-over-clause-err c = λ fed texts f n.
-    let small : c.args.reading.now.used ≤ INPUT_BYTES = omega (arith, c.args.reading.now.within) in
+    let small : c.args.line_buffer.now.used ≤ INPUT_BYTES = omega (arith, c.args.line_buffer.now.within) in
     hold_over fed c.args.rest.now _ _ _ texts c.joined_length-len.ensures small f n (sym c.over.ensures
     ∙ c.if-over.true)
 

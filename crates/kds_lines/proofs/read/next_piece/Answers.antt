@@ -18,7 +18,7 @@ returns-in-Err-flush-clause-err g c = λ all start r.
       halted = rw c.lost_after.ensures
           (fed_lost (g.T.Taker.took c.args.taker.now) (g.T.Taker.took c.feed-fed.new.taker)
           (g.T.Taker.broke c.feed-fed.new.taker) g.T.Taker.refuses g.T.Taker.output c.feed-fed.result piece
-          c.args.reading.now c.feed-fed.new.reading _ _ _
+          c.args.line_buffer.now c.feed-fed.new.line_buffer _ _ _
           c.feed-fed.ensures.ok c.feed-fed.ensures.err r.fed start r.stands (c.in-Err-flush.ensures.err start));
     }
 
@@ -31,7 +31,7 @@ returns-in-Ok-fed-clause-goes_on g c = λ all start r.
       consumed = Consumes-trans all _ _ r.fed piece r.consumed bytes;
       stands = stands_written (g.T.Taker.took c.args.taker.now) (g.T.Taker.took c.feed-fed.new.taker)
           (g.T.Taker.broke c.feed-fed.new.taker) g.T.Taker.refuses g.T.Taker.output (r.fed ++ piece)
-          c.feed-fed.new.reading c.flush.new.self start _ _
+          c.feed-fed.new.line_buffer c.flush.new.self start _ _
           c.flush.ensures.held c.flush.ensures.count c.flush.ensures.used (c.in-Ok-fed.ensures.ok r.fed start r.stands)
           (rw c.flush.ensures.output (c.in-Ok-flush.ensures.ok start));
       flushed = c.flush.ensures.output;
@@ -46,6 +46,6 @@ returns-in-Err-fed-clause-err g c = λ all start r.
       consumed = Consumes-trans all _ _ r.fed piece r.consumed bytes;
       halted = halted_written (g.T.Taker.took c.args.taker.now) (g.T.Taker.took c.feed-fed.new.taker)
           (g.T.Taker.broke c.feed-fed.new.taker) g.T.Taker.refuses g.T.Taker.output c.in-Err-fed.outcome
-          (r.fed ++ piece) c.feed-fed.new.reading.output start _ _
+          (r.fed ++ piece) c.feed-fed.new.line_buffer.output start _ _
           (c.in-Err-fed.ensures.err r.fed start r.stands) (c.in-Ok-flush.ensures.ok start);
     }

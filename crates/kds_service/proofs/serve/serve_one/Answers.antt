@@ -31,34 +31,34 @@ returns-in-None-clause-leads c b n =
 pub serve-requires-clause-token : goal.serve-requires-clause-token
 serve-requires-clause-token c = λ s is.
     let vs = values c.args.streams.now in
-    numbered c.in-Some-find.i s vs c.index_mut.result.now (sym (token_place vs c.args.what s is)
-    ∙ sym c.in-Some-find.ensures.value) c.index_mut.ensures.value
+    numbered c.in-Some-index_for.i s vs c.index_mut.result.now (sym (token_place vs c.args.what s is)
+    ∙ sym c.in-Some-index_for.ensures.value) c.index_mut.ensures.value
 
-pub returns-in-Some-find-clause-leads : goal.returns-in-Some-find-clause-leads
-returns-in-Some-find-clause-leads c =
+pub returns-in-Some-index_for-clause-leads : goal.returns-in-Some-index_for-clause-leads
+returns-in-Some-index_for-clause-leads c =
     let a = c.args in
     let vs = values a.streams.now in
     let x = c.index_mut.result.now in
     let same = same_some c.index.result.now x (sym c.index.ensures ∙ c.index_mut.ensures.value) in
-    stream_leads a.clock c.in-Some-find.i vs _ x c.serve.new.self a.what c.open_limit_for-limit.result
+    stream_leads a.clock c.in-Some-index_for.i vs _ x c.serve.new.self a.what c.open_limit_for-limit.result
     c.serve.result c.others.ensures.changed c.requires.placed.at
-    c.index_mut.ensures.value (sym c.in-Some-find.ensures.value)
-    (values_set a.streams.now.entries c.in-Some-find.i c.serve.new.self) c.requires.own
+    c.index_mut.ensures.value (sym c.in-Some-index_for.ensures.value)
+    (values_set a.streams.now.entries c.in-Some-index_for.i c.serve.new.self) c.requires.own
     (λ asks. c.open_limit_for-limit.ensures asks
     ∙ ap (λ s. OPEN_SHARDS - open_beside vs s) (c.no-no.ensures ∙ ap (λ u. u.no) same))
     c.serve.ensures.fields.0 c.serve.ensures.fields.2 c.serve.ensures.answered
 
-pub returns-in-Some-find-clause-placed : goal.returns-in-Some-find-clause-placed
-returns-in-Some-find-clause-placed c =
+pub returns-in-Some-index_for-clause-placed : goal.returns-in-Some-index_for-clause-placed
+returns-in-Some-index_for-clause-placed c =
     let a = c.args in
     let x = c.index_mut.result.now in
     let here = c.index_mut.ensures.value in
-    placed_set a.clock c.in-Some-find.i a.streams.now.entries x c.serve.new.self c.requires.placed here
+    placed_set a.clock c.in-Some-index_for.i a.streams.now.entries x c.serve.new.self c.requires.placed here
     c.serve.ensures.fields.1
     (c.serve.ensures.fields.2
-    ∙ all_get (λ v. v.clock ≡ a.clock) c.in-Some-find.i (values a.streams.now) x c.requires.placed.at here)
+    ∙ all_get (λ v. v.clock ≡ a.clock) c.in-Some-index_for.i (values a.streams.now) x c.requires.placed.at here)
 
-pub returns-in-Some-find-clause-kept : goal.returns-in-Some-find-clause-kept
-returns-in-Some-find-clause-kept c =
-    kept_set c.serve.result c.in-Some-find.i c.args.streams.now.entries c.index_mut.result.now c.serve.new.self
+pub returns-in-Some-index_for-clause-kept : goal.returns-in-Some-index_for-clause-kept
+returns-in-Some-index_for-clause-kept c =
+    kept_set c.serve.result c.in-Some-index_for.i c.args.streams.now.entries c.index_mut.result.now c.serve.new.self
     c.index_mut.ensures.value c.serve.ensures.kept

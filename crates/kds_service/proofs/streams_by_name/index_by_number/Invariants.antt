@@ -1,11 +1,11 @@
 use Rattle.std.proofs.Common.{◌≡◌, ◌==◌, drop}
 use Rattle.std.specs.List.{position_from}
 use Rattle.indexmap.specs.IndexMap.{values}
-use Rattle.kds_service.specs.Places.{place_at}
+use Rattle.kds_service.specs.Places.{index_by_number}
 use Rattle.kds_service.specs.Shown.{numbers_of}
 use Rattle.kds_service.proofs.streams_by_name.index_by_number.Given as goal
 
 -- The search among the streams that are left is the search among all.
 abbrev pub invariant-loop-i : goal.invariant-loop-i
 invariant-loop-i l = position_from (λ n. n == l.no) l.i (numbers_of (drop l.i (values l.streams)))
-    ≡ place_at (values l.streams) l.no
+    ≡ index_by_number (values l.streams) l.no

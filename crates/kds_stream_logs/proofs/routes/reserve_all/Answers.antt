@@ -23,7 +23,7 @@ loop-place-preserved c =
     record {
       same = same_at c.loop-place.logs c.shard.inside.0 c.index-logs-shard.result c.reserve_one.new.self below
           c.in_ok-reserve_one.ensures.same ∙ c.loop-place.invariant.same;
-      room = reserved_more c.loop-place.logs c.shard.inside.0 c.index-logs-shard.result c.reserve_one.new.self
-          c.args.places.now i c.place-item.result below c.shard.view_is c.in_ok-reserve_one.ensures.room
-          c.loop-place-test.true c.place-item.is c.loop-place.invariant.room;
+      reserved = reserved_more c.loop-place.logs c.shard.inside.0 c.index-logs-shard.result c.reserve_one.new.self
+          c.args.places.now i c.place-item.result below c.shard.view_is c.in_ok-reserve_one.ensures.reserved
+          c.loop-place-test.true c.place-item.is c.loop-place.invariant.reserved;
     }

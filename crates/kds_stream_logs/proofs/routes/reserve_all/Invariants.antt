@@ -1,7 +1,7 @@
 use Rattle.std.proofs.Common.{◌≡◌, ◌≤◌, ℕ, map, take}
 use Rattle.std.specs.List.{count_by}
 use Rattle.kds_log.specs.Log.{log_of}
-use Rattle.kds_stream_logs.specs.Routes.{is_place_of, room_at}
+use Rattle.kds_stream_logs.specs.Routes.{is_place_of, reserved_at}
 use Rattle.kds_stream_logs.proofs.routes.reserve_all.Given as goal
 
 -- The logs are as they were, and there is memory for the places so far.
@@ -9,5 +9,5 @@ abbrev pub invariant-loop-place : goal.invariant-loop-place
 invariant-loop-place l =
     record {
       same : map log_of l.logs ≡ map log_of l.initial.logs;
-      room : (sh : ℕ) → count_by (is_place_of sh) (take l.place-index l.places) ≤ room_at l.logs sh;
+      reserved : (sh : ℕ) → count_by (is_place_of sh) (take l.place-index l.places) ≤ reserved_at l.logs sh;
     }

@@ -3,8 +3,8 @@ use Rattle.std.proofs.lemmas.Option.{slice_get_within}
 use Rattle.kds_stream_logs.proofs.Routings.{placed_more, placed_same}
 use Rattle.kds_stream_logs.proofs.routes.route_one.Goals as goal
 
-pub returns-then-holds_back-clause-placed : goal.returns-then-holds_back-clause-placed
-returns-then-holds_back-clause-placed c _ first placed =
+pub returns-then-holds_back_or_counts-clause-placed : goal.returns-then-holds_back_or_counts-clause-placed
+returns-then-holds_back_or_counts-clause-placed c _ first placed =
     let saved = placed_same c.args.tree.now.shards c.args.clock first c.args.routes.now c.save.new.self
     c.save.ensures.routed c.save.ensures.places c.save.ensures.next placed in
     placed_same c.args.tree.now.shards c.args.clock first c.save.new.self c.hold_back.new.self

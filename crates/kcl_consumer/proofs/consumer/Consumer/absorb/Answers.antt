@@ -10,7 +10,7 @@ returns-in-Filling-clause-stands g c = λ past st.
     c.self.inside.reach c.after_reading-stage.result.1 c.self.inside.ahead c.after_reading-stage.new.ahead
     c.self.inside.asked c.forget.new.asked c.self.inside.lost c.forget.new.lost c.self.inside.given
     c.self.inside.processor past
-    c.in-Filling.is c.forget.ensures.asked c.forget.ensures.lost c.after_reading-stage.ensures.phase
+    c.in-Filling.is c.forget.ensures.asked c.forget.ensures.lost c.after_reading-stage.ensures.stage
     (subst (λ v. StandsFor g.P.Processor.stands_for v past) (sym c.self.view_is) st)
 
 pub returns-in-Giving-clause-stands : goal.returns-in-Giving-clause-stands
@@ -22,6 +22,6 @@ returns-in-Giving-clause-stands g c = λ past st.
     c.last_after-self-inside.result
     c.self.inside.processor past
     c.in-Giving.is c.forget-in-Giving.ensures.asked c.forget-in-Giving.ensures.lost
-    (c.after_giving-self-inside.ensures.phase c.self.inside.reach)
+    (c.after_giving-self-inside.ensures.stage c.self.inside.reach)
     (c.last_after-self-inside.ensures c.self.inside.reach c.self.inside.asked c.self.inside.lost)
     (subst (λ v. StandsFor g.P.Processor.stands_for v past) (sym c.self.view_is) st)

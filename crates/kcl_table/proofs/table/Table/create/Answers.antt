@@ -2,7 +2,7 @@ use Rattle.std.proofs.Common.{◌≡◌, List, None, sym, ap, subst, ◌∙◌, 
 use Rattle.std.specs.List.{insert}
 use Rattle.kds_defs.specs.declared.reply.Row.{Row}
 use Rattle.kds_defs.specs.Leases.{new_row}
-use Rattle.kcl_table.specs.Rows.{IsTable, place_of, row_of}
+use Rattle.kcl_table.specs.Rows.{IsTable, index_of, row_of}
 use Rattle.kcl_table.proofs.Changes.{insert_is, table_with}
 use Rattle.kcl_table.proofs.table.Table.create.Goals as goal
 
@@ -13,7 +13,7 @@ invariant_of-self-2 c =
     ap (λ (rs : List Row). row_of rs c.args.key) (sym (c.deref.ensures.value ∙ c.self.view_is))
     ∙ sym c.in-None.ensures in
     let new = new_row c.args.key c.args.floor c.args.start c.args.parent c.args.adjacent in
-    let place = c.index_of-index.ensures.value ∙ ap (place_of c.args.key) (c.deref-2.ensures.value ∙ c.self.view_is) in
+    let place = c.index_of-index.ensures.value ∙ ap (index_of c.args.key) (c.deref-2.ensures.value ∙ c.self.view_is) in
     let same = c.in_ok-insert.ensures.items
     ∙ ap (insert c.self.inside.rows.items c.index_of-index.result) c.first.ensures
     ∙ ap (λ (rs : List Row). insert rs c.index_of-index.result new) c.self.view_is
@@ -27,7 +27,7 @@ returns-clause-made c =
     ap (λ (rs : List Row). row_of rs c.args.key) (sym (c.deref.ensures.value ∙ c.self.view_is))
     ∙ sym c.in-None.ensures in
     let new = new_row c.args.key c.args.floor c.args.start c.args.parent c.args.adjacent in
-    let place = c.index_of-index.ensures.value ∙ ap (place_of c.args.key) (c.deref-2.ensures.value ∙ c.self.view_is) in
+    let place = c.index_of-index.ensures.value ∙ ap (index_of c.args.key) (c.deref-2.ensures.value ∙ c.self.view_is) in
     let same = c.in_ok-insert.ensures.items
     ∙ ap (insert c.self.inside.rows.items c.index_of-index.result) c.first.ensures
     ∙ ap (λ (rs : List Row). insert rs c.index_of-index.result new) c.self.view_is

@@ -1,7 +1,7 @@
 use Rattle.std.proofs.Common.{List, length, sym, ap, subst, ◌∙◌, arith}
 use Rattle.std.specs.List.{remove}
 use Rattle.kds_defs.specs.declared.reply.Row.{Row}
-use Rattle.kcl_table.specs.Rows.{IsTable, place_of, row_of}
+use Rattle.kcl_table.specs.Rows.{IsTable, index_of, row_of}
 use Rattle.kcl_table.proofs.Changes.{remove_is, table_without}
 use Rattle.kcl_table.proofs.table.Table.cut.Goals as goal
 
@@ -10,7 +10,7 @@ remove-requires c =
     let table : IsTable c.args.self.now = subst IsTable c.self.view_is c.self.invariant in
     let row = ap (λ (rs : List Row). row_of rs c.args.key) (sym (c.deref.ensures.value ∙ c.self.view_is))
     ∙ sym c.in-Some.ensures in
-    let place = c.index_of-index.ensures.value ∙ ap (place_of c.args.key) (c.deref-2.ensures.value ∙ c.self.view_is) in
+    let place = c.index_of-index.ensures.value ∙ ap (index_of c.args.key) (c.deref-2.ensures.value ∙ c.self.view_is) in
     let gone = remove_is c.args.key c.in-Some.row.now c.args.self.now table.0 row in
     omega (arith, place, gone.0, ap length c.self.view_is)
 
@@ -19,7 +19,7 @@ invariant_of-self c =
     let table : IsTable c.args.self.now = subst IsTable c.self.view_is c.self.invariant in
     let row = ap (λ (rs : List Row). row_of rs c.args.key) (sym (c.deref.ensures.value ∙ c.self.view_is))
     ∙ sym c.in-Some.ensures in
-    let place = c.index_of-index.ensures.value ∙ ap (place_of c.args.key) (c.deref-2.ensures.value ∙ c.self.view_is) in
+    let place = c.index_of-index.ensures.value ∙ ap (index_of c.args.key) (c.deref-2.ensures.value ∙ c.self.view_is) in
     let gone = remove_is c.args.key c.in-Some.row.now c.args.self.now table.0 row in
     let same = c.remove.ensures.items ∙ ap (λ (rs : List Row). remove rs c.index_of-index.result) c.self.view_is
     ∙ ap (λ i. remove c.args.self.now i) place ∙ gone.1 in
@@ -30,7 +30,7 @@ returns-clause-cut c =
     let table : IsTable c.args.self.now = subst IsTable c.self.view_is c.self.invariant in
     let row = ap (λ (rs : List Row). row_of rs c.args.key) (sym (c.deref.ensures.value ∙ c.self.view_is))
     ∙ sym c.in-Some.ensures in
-    let place = c.index_of-index.ensures.value ∙ ap (place_of c.args.key) (c.deref-2.ensures.value ∙ c.self.view_is) in
+    let place = c.index_of-index.ensures.value ∙ ap (index_of c.args.key) (c.deref-2.ensures.value ∙ c.self.view_is) in
     let gone = remove_is c.args.key c.in-Some.row.now c.args.self.now table.0 row in
     c.remove.ensures.items ∙ ap (λ (rs : List Row). remove rs c.index_of-index.result) c.self.view_is
     ∙ ap (λ i. remove c.args.self.now i) place ∙ gone.1

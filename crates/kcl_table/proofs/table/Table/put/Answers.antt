@@ -1,22 +1,22 @@
 use Rattle.std.proofs.Common.{List, length, slice_set, sym, ap, subst, ◌∙◌, arith}
 use Rattle.kds_defs.specs.declared.reply.Row.{Row}
-use Rattle.kcl_table.specs.Rows.{IsTable, place_of}
+use Rattle.kcl_table.specs.Rows.{IsTable, index_of}
 use Rattle.kcl_table.proofs.Changes.{set_is, table_changed}
 use Rattle.kcl_table.proofs.table.Table.put.Goals as goal
 
 pub index_mut-requires : goal.index_mut-requires
 index_mut-requires c =
     let table : IsTable c.args.self.now = subst IsTable c.self.view_is c.self.invariant in
-    let place = c.index_of-index.ensures.value ∙ ap (λ (r : Row). place_of r.key c.deref.result.now) c.row.view_is
-    ∙ ap (place_of c.args.row.key) (c.deref.ensures.value ∙ c.self.view_is) in
+    let place = c.index_of-index.ensures.value ∙ ap (λ (r : Row). index_of r.key c.deref.result.now) c.row.view_is
+    ∙ ap (index_of c.args.row.key) (c.deref.ensures.value ∙ c.self.view_is) in
     let within = (set_is c.args.row c.args.self.now table.0 c.requires.there).0 in
     omega (arith, place, within, ap length c.self.view_is)
 
 pub invariant_of-self : goal.invariant_of-self
 invariant_of-self c =
     let table : IsTable c.args.self.now = subst IsTable c.self.view_is c.self.invariant in
-    let place = c.index_of-index.ensures.value ∙ ap (λ (r : Row). place_of r.key c.deref.result.now) c.row.view_is
-    ∙ ap (place_of c.args.row.key) (c.deref.ensures.value ∙ c.self.view_is) in
+    let place = c.index_of-index.ensures.value ∙ ap (λ (r : Row). index_of r.key c.deref.result.now) c.row.view_is
+    ∙ ap (index_of c.args.row.key) (c.deref.ensures.value ∙ c.self.view_is) in
     let same = ap (λ (rs : List Row). slice_set rs c.index_of-index.result c.args.row) c.self.view_is
     ∙ ap (λ i. slice_set c.args.self.now i c.args.row) place
     ∙ (set_is c.args.row c.args.self.now table.0 c.requires.there).1 in
@@ -25,8 +25,8 @@ invariant_of-self c =
 pub returns : goal.returns
 returns c =
     let table : IsTable c.args.self.now = subst IsTable c.self.view_is c.self.invariant in
-    let place = c.index_of-index.ensures.value ∙ ap (λ (r : Row). place_of r.key c.deref.result.now) c.row.view_is
-    ∙ ap (place_of c.args.row.key) (c.deref.ensures.value ∙ c.self.view_is) in
+    let place = c.index_of-index.ensures.value ∙ ap (λ (r : Row). index_of r.key c.deref.result.now) c.row.view_is
+    ∙ ap (index_of c.args.row.key) (c.deref.ensures.value ∙ c.self.view_is) in
     ap (λ (rs : List Row). slice_set rs c.index_of-index.result c.args.row) c.self.view_is
     ∙ ap (λ i. slice_set c.args.self.now i c.args.row) place
     ∙ (set_is c.args.row c.args.self.now table.0 c.requires.there).1

@@ -12,7 +12,7 @@ invariant_of-result c =
         rw (
           c.new-2.ensures,
           c.new-3.ensures,
-        ) (stands_new c.new.result clock (ap (λ (s : ServiceValue). s.turn) c.new.ensures.value)
+        ) (stands_new c.new.result clock (ap (λ (s : ServiceValue). s.next_to_settle) c.new.ensures.value)
             c.new.ensures.shows),
       ),
     )

@@ -1,7 +1,7 @@
 use Rattle.std.proofs.Common.{Some, List, map, sym, ap, ◌∙◌, subst, arith}
 use Rattle.kds_defs.specs.Records.{Logged, left_among, logged}
 use Rattle.kds_defs.specs.Streams.{floor_of}
-use Rattle.kds_log.specs.Log.{LogValue, LogWithRoom, IsOrderly}
+use Rattle.kds_log.specs.Log.{LogValue, LogWithReserve, IsOrderly}
 use Rattle.kds_log.proofs.OrderLemmas.{orderly-left}
 use Rattle.kds_log.proofs.shard_log.ShardLog.trim.Goals as goal
 
@@ -18,7 +18,7 @@ returns-clause-value c =
     let f = ap (λ floor. left_among floor 0 (map logged c.self.inside.records.items)) c.floor_of.ensures in
     ap (λ (kept : List Logged). let v : LogValue = record { kept = kept; last = c.self.inside.last } in
     v) (c.drop_below.ensures.left ∙ f)
-    ∙ ap (λ (l : LogWithRoom). let v : LogValue = record {
+    ∙ ap (λ (l : LogWithReserve). let v : LogValue = record {
       kept = left_among (floor_of (Some c.args.cut)) 0 l.kept;
       last = l.last;
     } in v) c.self.view_is

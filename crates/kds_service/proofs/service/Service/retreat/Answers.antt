@@ -2,7 +2,7 @@ use Rattle.std.proofs.Common.{refl, sym, ap, subst, ◌∙◌}
 use Rattle.indexmap.specs.IndexMap.{values}
 use Rattle.kds_service.proofs.Clocked.{kept_of}
 use Rattle.kds_service.proofs.Entries.{placed_along}
-use Rattle.kds_service.specs.Clocks.{CanGoBack, retreated}
+use Rattle.kds_service.specs.Clocks.{CanRetreat, retreated}
 use Rattle.kds_service.specs.Shown.{AreAt, names_of}
 use Rattle.kds_service.proofs.service.Service.retreat.Goals as goal
 
@@ -13,4 +13,4 @@ invariant_of-self c =
     placed_along s.clock_before s.streams.entries c.retreat_all.new.streams.entries c.self.invariant.named
     c.retreat_all.ensures.keys
     (ap names_of are ∙ kept_of (λ v. v.name) retreated (λ v. refl) (values s.streams))
-    (subst (AreAt s.clock_before) (sym are) (subst CanGoBack (sym c.self.view_is) c.requires))
+    (subst (AreAt s.clock_before) (sym are) (subst CanRetreat (sym c.self.view_is) c.requires))

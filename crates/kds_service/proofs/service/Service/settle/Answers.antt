@@ -26,7 +26,7 @@ returns-clause-dropped c =
     let n = length vs in
     let place = c.in_turn-place.result in
     let count : c.len-count.result ≡ n = c.len-count.ensures.len ∙ sym (length-values_of s.streams.entries) in
-    let i : place ≡ in_turn n s.turn = c.in_turn-place.ensures ∙ ap (λ k. in_turn k s.turn) count in
+    let i : place ≡ in_turn n s.next_to_settle = c.in_turn-place.ensures ∙ ap (λ k. in_turn k s.next_to_settle) count in
     let next = c.next_of-self-inside.ensures ∙ ap (λ k. next_of k place) count ∙ ap (next_of n) i in
     same_service s.clock s.clock s.made _ _ _ _ (c.settle_stream.ensures.value ∙ ap (λ k. settled_in k vs) i) next
     ∙ ap settled_in_turn c.self.view_is

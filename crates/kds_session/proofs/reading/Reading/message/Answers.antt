@@ -25,12 +25,13 @@ returns-in-Ok-clause-after c = λ past st.
     } in
     let head = c.args.head.now in
     let asks = ap (λ b. requested head.operation head.json b)
-    (ap (λ u. take head.body (drop head.length u)) (sym c.after.ensures) ∙ sym c.body_of.ensures)
+    (ap (λ u. take head.body (drop head.length u)) (sym c.rest_after.ensures) ∙ sym c.body_of.ensures)
     ∙ sym c.in_ok-what.ensures.value ∙ c.in-Ok.is in
-    command_given laws (read_state c.args.bytes.now c.args.self.now) past head c.closes-close.result c.in-Ok.what st
-    c.requires.free c.closes-close.ensures c.requires.whole asks _
-    (command_state c.args.bytes.now c.args.self.now c.pass.new.self (head.length + head.body) _
-    (waiting_for c.closes-close.result) c.pass.ensures c.waiting_for-self.ensures)
+    command_given laws (read_state c.args.bytes.now c.args.self.now) past head c.closes_after-close.result c.in-Ok.what
+    st
+    c.requires.free c.closes_after-close.ensures c.requires.whole asks _
+    (command_state c.args.bytes.now c.args.self.now c.consume_message.new.self (head.length + head.body) _
+    (waiting_for c.closes_after-close.result) c.consume_message.ensures c.waiting_for-self.ensures)
 
 pub returns-then-close-clause-after : goal.returns-then-close-clause-after
 returns-then-close-clause-after c = λ past st.
@@ -43,12 +44,14 @@ returns-then-close-clause-after c = λ past st.
     } in
     let head = c.args.head.now in
     let asks = ap (λ b. requested head.operation head.json b)
-    (ap (λ u. take head.body (drop head.length u)) (sym c.after.ensures) ∙ sym c.body_of.ensures)
+    (ap (λ u. take head.body (drop head.length u)) (sym c.rest_after.ensures) ∙ sym c.body_of.ensures)
     ∙ sym c.in_ok-what.ensures.value ∙ c.in-Err.is in
-    fault_closes laws (read_state c.args.bytes.now c.args.self.now) past head c.closes-close.result c.in-Err.problem st
-    c.requires.free c.closes-close.ensures c.if-close.true c.requires.whole asks _
-    (closed_state c.args.bytes.now c.args.self.now c.pass-in-Err.new.self (head.length + head.body) c.put_fault.new.to
-    (answered (fault_reply c.in-Err.problem) c.closes-close.result) c.pass-in-Err.ensures
+    fault_closes laws (read_state c.args.bytes.now c.args.self.now) past head c.closes_after-close.result
+    c.in-Err.problem st
+    c.requires.free c.closes_after-close.ensures c.if-close.true c.requires.whole asks _
+    (closed_state c.args.bytes.now c.args.self.now c.consume_message-in-Err.new.self (head.length + head.body)
+    c.put_fault.new.to
+    (answered (fault_reply c.in-Err.problem) c.closes_after-close.result) c.consume_message-in-Err.ensures
     c.in_ok-put_fault-in-Err.ensures)
 
 pub returns-clause-after : goal.returns-clause-after
@@ -62,28 +65,31 @@ returns-clause-after c = λ past st.
     } in
     let head = c.args.head.now in
     let asks = ap (λ b. requested head.operation head.json b)
-    (ap (λ u. take head.body (drop head.length u)) (sym c.after.ensures) ∙ sym c.body_of.ensures)
+    (ap (λ u. take head.body (drop head.length u)) (sym c.rest_after.ensures) ∙ sym c.body_of.ensures)
     ∙ sym c.in_ok-what.ensures.value ∙ c.in-Err.is in
-    fault_goes laws (read_state c.args.bytes.now c.args.self.now) past head c.closes-close.result c.in-Err.problem st
-    c.requires.free c.closes-close.ensures c.if-close.false c.requires.whole asks _
-    (fault_state c.args.bytes.now c.args.self.now c.pass-in-Err.new.self (head.length + head.body) c.put_fault.new.to
-    (answered (fault_reply c.in-Err.problem) c.closes-close.result) c.pass-in-Err.ensures
+    fault_goes laws (read_state c.args.bytes.now c.args.self.now) past head c.closes_after-close.result c.in-Err.problem
+    st
+    c.requires.free c.closes_after-close.ensures c.if-close.false c.requires.whole asks _
+    (fault_state c.args.bytes.now c.args.self.now c.consume_message-in-Err.new.self (head.length + head.body)
+    c.put_fault.new.to
+    (answered (fault_reply c.in-Err.problem) c.closes_after-close.result) c.consume_message-in-Err.ensures
     c.in_ok-put_fault-in-Err.ensures)
 
 pub returns-in-Ok-clause-plain : goal.returns-in-Ok-clause-plain
 returns-in-Ok-clause-plain c =
     let head = c.args.head.now in (
-      λ e. waits_for c.closes-close.result (sym c.waiting_for-self.ensures ∙ e),
+      λ e. waits_for c.closes_after-close.result (sym c.waiting_for-self.ensures ∙ e),
       subst (λ (r : Result Command Fault). IfOk r IsRequest) c.in-Ok.is c.in_ok-what.ensures.lawful,
-      less_asked (read_state c.args.bytes.now c.args.self.now) head c.closes-close.result _ c.requires.free
-          c.closes-close.ensures _
-          (command_state c.args.bytes.now c.args.self.now c.pass.new.self (head.length + head.body) _
-          (waiting_for c.closes-close.result) c.pass.ensures c.waiting_for-self.ensures),
+      less_asked (read_state c.args.bytes.now c.args.self.now) head c.closes_after-close.result _ c.requires.free
+          c.closes_after-close.ensures _
+          (command_state c.args.bytes.now c.args.self.now c.consume_message.new.self (head.length + head.body) _
+          (waiting_for c.closes_after-close.result) c.consume_message.ensures c.waiting_for-self.ensures),
     )
 
 pub returns-then-close-clause-plain : goal.returns-then-close-clause-plain
 returns-then-close-clause-plain c = (
-  (λ live. absurd (cc live), ap (λ (r : Reading). r.waiting) c.pass-in-Err.ensures ∙ c.requires.free.free),
+  (λ live. absurd (cc live), ap (λ (r : Reading). r.waiting) c.consume_message-in-Err.ensures ∙ c.requires.free.free),
   inl (less_ended (read_state c.args.bytes.now c.args.self.now)
-      (read_state c.args.bytes.now (record c.pass-in-Err.new.self { standing = Closed })) c.requires.free refl),
+      (read_state c.args.bytes.now (record c.consume_message-in-Err.new.self { standing = Closed }))
+      c.requires.free refl),
 )

@@ -11,32 +11,36 @@ use Rattle.kds_session.proofs.reading.Reading.read_message.Goals as goal
 
 pub returns-in-Begun-clause-after : goal.returns-in-Begun-clause-after
 returns-in-Begun-clause-after c = λ past st.
-    let front = subst (λ (f : Front). IsFront c.after.result.now f) c.in-Begun.is c.in_ok-read_front.ensures.front in
-    let short = subst (λ (b : List ℕ). IsShort b c.in-Begun.head) c.after.ensures front in
+    let front = subst (λ (f : Front). IsFront c.rest_after.result.now f)
+    c.in-Begun.is c.in_ok-read_front.ensures.front in
+    let short = subst (λ (b : List ℕ). IsShort b c.in-Begun.head) c.rest_after.ensures front in
     (st, (λ live. inr (c.in-Begun.head, short), c.requires.free.free))
 
 pub returns-in-Begun-clause-plain : goal.returns-in-Begun-clause-plain
 returns-in-Begun-clause-plain c =
-    let front = subst (λ (f : Front). IsFront c.after.result.now f) c.in-Begun.is c.in_ok-read_front.ensures.front in
-    let short = subst (λ (b : List ℕ). IsShort b c.in-Begun.head) c.after.ensures front in
+    let front = subst (λ (f : Front). IsFront c.rest_after.result.now f)
+    c.in-Begun.is c.in_ok-read_front.ensures.front in
+    let short = subst (λ (b : List ℕ). IsShort b c.in-Begun.head) c.rest_after.ensures front in
     ((λ live. inr (c.in-Begun.head, short), c.requires.free.free), inr (refl, refl))
 
 pub returns-in-Begun-clause-kept : goal.returns-in-Begun-clause-kept
 returns-in-Begun-clause-kept c =
-    let front = subst (λ (f : Front). IsFront c.after.result.now f) c.in-Begun.is c.in_ok-read_front.ensures.front in
-    (subst (λ (b : List ℕ). IsShort b c.in-Begun.head) c.after.ensures front).found
+    let front = subst (λ (f : Front). IsFront c.rest_after.result.now f)
+    c.in-Begun.is c.in_ok-read_front.ensures.front in
+    (subst (λ (b : List ℕ). IsShort b c.in-Begun.head) c.rest_after.ensures front).found
 
 pub returns-in-Unfinished-clause-after : goal.returns-in-Unfinished-clause-after
 returns-in-Unfinished-clause-after c = λ past st.
-    let front = subst (λ (f : Front). IsFront c.after.result.now f) c.in-Unfinished.is
+    let front = subst (λ (f : Front). IsFront c.rest_after.result.now f) c.in-Unfinished.is
     c.in_ok-read_front.ensures.front in
-    let unfinished = subst (λ (b : List ℕ). IsUnfinished b) c.after.ensures front in
+    let unfinished = subst (λ (b : List ℕ). IsUnfinished b) c.rest_after.ensures front in
     (st, (λ live. unfinished, c.requires.free.free))
 
 pub returns-in_ok-refuse-in-Refused-clause-after : goal.returns-in_ok-refuse-in-Refused-clause-after
 returns-in_ok-refuse-in-Refused-clause-after c = λ past st.
-    let front = subst (λ (f : Front). IsFront c.after.result.now f) c.in-Refused.is c.in_ok-read_front.ensures.front in
-    let found = subst (λ (b : List ℕ). IsFound b (Refused c.in-Refused.status)) c.after.ensures front in
+    let front = subst (λ (f : Front). IsFront c.rest_after.result.now f)
+    c.in-Refused.is c.in_ok-read_front.ensures.front in
+    let found = subst (λ (b : List ℕ). IsFound b (Refused c.in-Refused.status)) c.rest_after.ensures front in
     refused_now c.decided_stays.ensures (read_state c.args.bytes.now c.args.self.now) c.in-Refused.status past st
     c.requires.free found _
     (refused_state c.args.bytes.now c.args.self.now c.refuse.new.self c.in-Refused.status
@@ -44,9 +48,9 @@ returns-in_ok-refuse-in-Refused-clause-after c = λ past st.
 
 pub returns-in-Unfinished-clause-plain : goal.returns-in-Unfinished-clause-plain
 returns-in-Unfinished-clause-plain c =
-    let front = subst (λ (f : Front). IsFront c.after.result.now f) c.in-Unfinished.is
+    let front = subst (λ (f : Front). IsFront c.rest_after.result.now f) c.in-Unfinished.is
     c.in_ok-read_front.ensures.front in
-    let unfinished = subst (λ (b : List ℕ). IsUnfinished b) c.after.ensures front in
+    let unfinished = subst (λ (b : List ℕ). IsUnfinished b) c.rest_after.ensures front in
     ((λ live. unfinished, c.requires.free.free), inr (refl, refl))
 
 pub returns-in_ok-refuse-in-Refused-clause-plain : goal.returns-in_ok-refuse-in-Refused-clause-plain

@@ -1,7 +1,7 @@
 use Rattle.std.proofs.Common.{◌∙◌, sym, ap, None}
 use Rattle.kds_session.specs.States.{SessionState}
 use Rattle.kds_session.specs.Steps.{IsFree, with_reading}
-use Rattle.kds_session.proofs.Stands.{next_by, read_out, read_out_room, fewer_by}
+use Rattle.kds_session.proofs.Stands.{next_by, read_out, read_out_fed, fewer_by}
 use Rattle.kds_session.proofs.Texts.{next_is}
 use Rattle.kds_session.proofs.session.Session.next.Goals as goal
 
@@ -45,5 +45,5 @@ returns-clause-fewer c =
     free c.in_ok-what.ensures.fewer (c.in_ok-commit.ensures.ok
     ∙ ap (λ (s : SessionState). with_reading s c.to_command.new.self) c.take_head-head.ensures.same)
 
-pub returns-clause-room : goal.returns-clause-room
-returns-clause-room c = read_out_room c.in_ok-what.what c.commit.new.self (returns-clause-out c)
+pub returns-clause-feed_limit : goal.returns-clause-feed_limit
+returns-clause-feed_limit c = read_out_fed c.in_ok-what.what c.commit.new.self (returns-clause-out c)

@@ -5,7 +5,7 @@ use Rattle.kds_defs.specs.declared.entry.Entry.{Entry}
 use Rattle.kds_defs.specs.declared.scale.ScaleStep.{ScaleStep}
 use Rattle.kds_defs.specs.Scaling.{LeadTo, uniform_starts}
 use Rattle.kds_defs.specs.Shards.{ShardState, is_open}
-use Rattle.kds_log.specs.Log.{LogWithRoom, log_of}
+use Rattle.kds_log.specs.Log.{LogWithReserve, log_of}
 use Rattle.kds_rate.specs.Windows.{WindowValue}
 use Rattle.kds_stream.proofs.Insides.{shown_inside}
 use Rattle.kds_stream.proofs.Puts.{led_along}
@@ -29,7 +29,7 @@ invariant_of-self-2 c =
     ∙ ap (λ n. scaled steps n v.clock c.reserve_shards.new.tree.shards) c.first.view_is
     ∙ ap (λ (xs : List ShardState). scaled steps v.next v.clock xs) own.tree in
     let logs = c.add_shards.ensures.logs
-    ∙ ap (λ (ls : List LogWithRoom). map log_of ls ++ replicate c.args.made empty_log) own.logs
+    ∙ ap (λ (ls : List LogWithReserve). map log_of ls ++ replicate c.args.made empty_log) own.logs
     ∙ ap (λ n. v.logs ++ replicate n empty_log) c.requires.made in
     let more = c.add_shards.ensures.windows in
     let windows = more.are ∙ ap (λ (us : List WindowValue). us ++ more.more) own.windows in
@@ -56,7 +56,7 @@ returns-clause-answered c log by shown =
     ∙ ap (λ n. scaled steps n v.clock c.reserve_shards.new.tree.shards) c.first.view_is
     ∙ ap (λ (xs : List ShardState). scaled steps v.next v.clock xs) own.tree in
     let logs = c.add_shards.ensures.logs
-    ∙ ap (λ (ls : List LogWithRoom). map log_of ls ++ replicate c.args.made empty_log) own.logs
+    ∙ ap (λ (ls : List LogWithReserve). map log_of ls ++ replicate c.args.made empty_log) own.logs
     ∙ ap (λ n. v.logs ++ replicate n empty_log) c.requires.made in
     let more = c.add_shards.ensures.windows in
     let windows = more.are ∙ ap (λ (us : List WindowValue). us ++ more.more) own.windows in

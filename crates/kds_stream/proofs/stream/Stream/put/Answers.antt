@@ -9,7 +9,7 @@ use Rattle.kds_defs.specs.Rates.{SizedPut, puts}
 use Rattle.kds_defs.specs.Shards.{home_among, is_open}
 use Rattle.kds_defs.specs.StreamCommands.{last_number}
 use Rattle.kds_defs.specs.Streams.{floor_of}
-use Rattle.kds_log.specs.Log.{LogValue, LogWithRoom, log_of}
+use Rattle.kds_log.specs.Log.{LogValue, LogWithReserve, log_of}
 use Rattle.kds_rate.specs.Windows.{WindowValue}
 use Rattle.kds_stream.proofs.Insides.{shown_inside}
 use Rattle.kds_stream.proofs.Clocks.{settled_stream, shows_settled}
@@ -65,7 +65,7 @@ put_at-requires-clause-within c =
       inside,
       c.shard.view_is,
       c.self.invariant.as_many,
-      ap (length {A = LogWithRoom}) c.deref_mut.ensures.value,
+      ap (length {A = LogWithReserve}) c.deref_mut.ensures.value,
       as_many_logs c.self.inside.logs.items,
     )
 
@@ -91,7 +91,8 @@ invariant_of-self-2 c =
     free refl refl refl rated c.self.invariant in
     subst (λ (us : List WindowValue). IsStream (with_logs v kept us next))
     (sym (written_back c.self.inside.windows.len ws c.self.inside.windows.items many))
-    (subst (λ (ls : List LogValue). IsStream (with_logs v ls ws next)) (sym back) (settled_stream _ sh v.turn stored))
+    (subst (λ (ls : List LogValue). IsStream (with_logs v ls ws next)) (sym back)
+    (settled_stream _ sh v.next_to_settle stored))
 
 pub returns-clause-answered : goal.returns-clause-answered
 returns-clause-answered c log by shown =
@@ -134,6 +135,6 @@ returns-clause-answered c log by shown =
     let settled = subst (λ (us : List WindowValue). Shows (with_logs v kept us next) after)
     (sym (written_back c.self.inside.windows.len ws c.self.inside.windows.items many))
     (subst (λ (ls : List LogValue). Shows (with_logs v ls ws next) after) (sym back)
-    (shows_settled _ sh v.clock v.cut v.turn after done.1)) in
+    (shows_settled _ sh v.clock v.cut v.next_to_settle after done.1)) in
     led_along (λ (u : StreamValue). put log u.clock by u.no c.args.item) v c.args.self.now _ log _ c.self.view_is
     (done.0, settled)

@@ -7,7 +7,7 @@ use Rattle.kds_defs.specs.Journal.{with_lines}
 use Rattle.kds_defs.specs.PutCommands.{put_many}
 use Rattle.kds_defs.specs.Rates.{SizedPut, puts}
 use Rattle.kds_defs.specs.Streams.{floor_of}
-use Rattle.kds_log.specs.Log.{LogValue, LogWithRoom, log_of}
+use Rattle.kds_log.specs.Log.{LogValue, LogWithReserve, log_of}
 use Rattle.kds_rate.specs.Windows.{WindowValue}
 use Rattle.kds_stream.proofs.Insides.{shown_inside}
 use Rattle.kds_stream.proofs.LogLemmas.{written_back}
@@ -56,7 +56,7 @@ put_all-requires-clause-each c =
     let placed = subst (λ o. IfSome o (λ (r : Routes). ArePlaced v.tree v.clock c.seq.inside.0 r))
     c.in-Some.is c.in_ok-made.ensures.placed in
     let are = placed.are ∙ ap (λ n. routed_items v.tree v.clock n placed.items) c.seq.view_is in
-    subst (λ (ls : List LogWithRoom). AllByRecursion (CanTake (map log_of ls)) c.in-Some.field-0.routed.items)
+    subst (λ (ls : List LogWithReserve). AllByRecursion (CanTake (map log_of ls)) c.in-Some.field-0.routed.items)
     (sym c.deref_mut-2.ensures.value)
     (can_take v placed.items c.in-Some.field-0.routed.items c.self.invariant are placed.within)
 
@@ -94,7 +94,7 @@ invariant_of-self-2 c =
     let back =
     ap (map log_of) (written_back c.self.inside.logs.len c.put_all.new.logs c.self.inside.logs.items (omega arith))
     ∙ c.in_default-put_all.ensures.ok
-    ∙ ap (λ (ls : List LogWithRoom). settled_each f ps (with_each rs (map log_of ls))) c.deref_mut-2.ensures.value
+    ∙ ap (λ (ls : List LogWithReserve). settled_each f ps (with_each rs (map log_of ls))) c.deref_mut-2.ensures.value
     ∙ ap (λ (qs : List Routed). settled_each f ps (with_each qs v.logs)) are in
     let stored = stream_same _ ws next refl rated
     (stream_puts placed.items v next drawn placed.fits c.self.invariant) in
@@ -128,7 +128,7 @@ returns-clause-answered c log by shown =
     let back =
     ap (map log_of) (written_back c.self.inside.logs.len c.put_all.new.logs c.self.inside.logs.items (omega arith))
     ∙ c.in_default-put_all.ensures.ok
-    ∙ ap (λ (ls : List LogWithRoom). settled_each f ps (with_each r.routed.items (map log_of ls)))
+    ∙ ap (λ (ls : List LogWithReserve). settled_each f ps (with_each r.routed.items (map log_of ls)))
     c.deref_mut-2.ensures.value in
     let after = with_lines (lines_of (put_many log v.clock by v.no c.args.items)) log in
     let done = puts_done v log by c.args.items shown' r _ ws placed.fits c.self.invariant.trims made placed.within

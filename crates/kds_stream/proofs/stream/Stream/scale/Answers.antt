@@ -11,10 +11,10 @@ use Rattle.kds_stream.specs.Steps.{is_over, scale_where}
 use Rattle.kds_stream.specs.Value.{StreamValue}
 use Rattle.kds_stream.proofs.stream.Stream.scale.Goals as goal
 
-pub returns-then-from-room-clause-answered : goal.returns-then-from-room-clause-answered
-returns-then-from-room-clause-answered c log by shown =
-    let more : c.args.room < c.args.target = omega arith in
-    scale_full c.args.self.now log by c.args.target shown (is_over c.args.target c.args.room) (is_less _ _ more)
+pub returns-then-from-open_limit-clause-answered : goal.returns-then-from-open_limit-clause-answered
+returns-then-from-open_limit-clause-answered c log by shown =
+    let more : c.args.open_limit < c.args.target = omega arith in
+    scale_full c.args.self.now log by c.args.target shown (is_over c.args.target c.args.open_limit) (is_less _ _ more)
 
 pub made_by-made-requires : goal.made_by-made-requires
 made_by-made-requires c =
@@ -30,19 +30,20 @@ returns-then-is_spent-clause-answered c log by shown =
     ∙ ap (λ (u : StreamValue). starts_in u.tree) c.self.view_is in
     let are : steps ≡ scale (starts_in v.tree) c.args.target = c.as_slice-steps.ensures ∙ c.in_ok-steps.ensures.value
     ∙ ap (λ (ss : List ℕ). scale ss c.args.target) starts in
-    let most : c.args.target ≤ c.args.room = omega arith in
+    let most : c.args.target ≤ c.args.open_limit = omega arith in
     let spent =
     sym (spent_so v.next c.first.inside.0 (length steps) c.len.result c.from-2.result v.tree steps
     (c.first.view_is ∙ ap (λ (u : StreamValue). u.next) c.self.view_is) refl (c.len.ensures.value
     ∙ ap (λ (u : StreamValue). length u.tree) c.self.view_is)
     (c.from-2.ensures ∙ c.made_by-made.ensures))
     ∙ sym c.is_spent.ensures ∙ c.if-is_spent.true in
-    scale_spent v log by c.args.target shown (is_over c.args.target c.args.room) steps (is_not_less _ _ most) are spent
+    scale_spent v log by c.args.target shown (is_over c.args.target c.args.open_limit) steps (is_not_less _ _ most)
+    are spent
 
 pub returns-clause-answered : goal.returns-clause-answered
 returns-clause-answered c log by shown =
     let v : StreamValue = c.args.self.now in
-    let most : c.args.target ≤ c.args.room = omega arith in
+    let most : c.args.target ≤ c.args.open_limit = omega arith in
     subst (λ full. (Ok c.in_ok-reply.reply ≡ answer_of (scale_where full log v.clock by v.name v.no c.args.target))
     × Shows c.carry_out.new.self
     (with_lines (lines_of (scale_where full log v.clock by v.name v.no c.args.target)) log))

@@ -15,7 +15,7 @@ use Rattle.kds_stream.proofs.stream.Stream.split_refusal.Goals as goal
 
 pub returns-then-not-is_listed-clause-decided : goal.returns-then-not-is_listed-clause-decided
 returns-then-not-is_listed-clause-decided c log by show =
-    split_unlisted c.args.self.now log by show (is_full c.args.self.now c.args.room) c.args.shard c.args.at
+    split_unlisted c.args.self.now log by show (is_full c.args.self.now c.args.open_limit) c.args.shard c.args.at
     (sym c.if-not-is_listed.ensures)
 
 pub returns-in-Some-clause-decided : goal.returns-in-Some-clause-decided
@@ -24,9 +24,9 @@ returns-in-Some-clause-decided c log by show =
     let show' = shown_inside log c.self.view_is show in
     let listed = subst (λ (u : StreamValue). is_listed_at (floor_of u.cut) (slice_get u.tree c.args.shard) ≡ true)
     (sym c.self.view_is) (sym c.if-not-is_listed.ensures) in
-    subst (λ (u : StreamValue). split_where (is_full u c.args.room) log u.clock by u.no c.args.shard c.args.at
+    subst (λ (u : StreamValue). split_where (is_full u c.args.open_limit) log u.clock by u.no c.args.shard c.args.at
     ≡ Refused c.in-Some.refusal) c.self.view_is
-    (split_refused v log by show' (is_full v c.args.room) c.args.shard c.args.at c.in-Some.refusal listed
+    (split_refused v log by show' (is_full v c.args.open_limit) c.args.shard c.args.at c.in-Some.refusal listed
     c.in-Some.ensures)
 
 pub returns-then-is_full-clause-decided : goal.returns-then-is_full-clause-decided
@@ -36,10 +36,10 @@ returns-then-is_full-clause-decided c log by show =
     let listed = subst (λ (u : StreamValue). is_listed_at (floor_of u.cut) (slice_get u.tree c.args.shard) ≡ true)
     (sym c.self.view_is) (sym c.if-not-is_listed.ensures) in
     let passes = sym c.in_default.is ∙ c.split_refusal.ensures in
-    subst (λ (u : StreamValue). split_where (is_full u c.args.room) log u.clock by u.no c.args.shard c.args.at
+    subst (λ (u : StreamValue). split_where (is_full u c.args.open_limit) log u.clock by u.no c.args.shard c.args.at
     ≡ Refused refusal.Full) c.self.view_is
-    (split_full v log by show' (is_full v c.args.room) c.args.shard c.args.at listed passes
-    (ap (λ (u : StreamValue). is_full u c.args.room) c.self.view_is ∙ sym c.is_full.ensures ∙ c.if-is_full.true))
+    (split_full v log by show' (is_full v c.args.open_limit) c.args.shard c.args.at listed passes
+    (ap (λ (u : StreamValue). is_full u c.args.open_limit) c.self.view_is ∙ sym c.is_full.ensures ∙ c.if-is_full.true))
 
 pub returns-then-next-clause-decided : goal.returns-then-next-clause-decided
 returns-then-next-clause-decided c log by show =
@@ -48,10 +48,10 @@ returns-then-next-clause-decided c log by show =
     let listed = subst (λ (u : StreamValue). is_listed_at (floor_of u.cut) (slice_get u.tree c.args.shard) ≡ true)
     (sym c.self.view_is) (sym c.if-not-is_listed.ensures) in
     let passes = sym c.in_default.is ∙ c.split_refusal.ensures in
-    subst (λ (u : StreamValue). split_where (is_full u c.args.room) log u.clock by u.no c.args.shard c.args.at
+    subst (λ (u : StreamValue). split_where (is_full u c.args.open_limit) log u.clock by u.no c.args.shard c.args.at
     ≡ Refused refusal.Spent) c.self.view_is
-    (split_spent v log by show' (is_full v c.args.room) c.args.shard c.args.at listed passes
-    (ap (λ (u : StreamValue). is_full u c.args.room) c.self.view_is ∙ sym c.is_full.ensures ∙ c.if-is_full.false)
+    (split_spent v log by show' (is_full v c.args.open_limit) c.args.shard c.args.at listed passes
+    (ap (λ (u : StreamValue). is_full u c.args.open_limit) c.self.view_is ∙ sym c.is_full.ensures ∙ c.if-is_full.false)
     (sym c.next.view_is ∙ c.if-next.true))
 
 pub returns-clause-decided : goal.returns-clause-decided
@@ -71,8 +71,8 @@ returns-clause-decided c log by show =
       c.self.inside.logs.small,
       as_many_logs c.self.inside.logs.items,
     ) in
-    subst (λ (u : StreamValue). split_where (is_full u c.args.room) log u.clock by u.no c.args.shard c.args.at
+    subst (λ (u : StreamValue). split_where (is_full u c.args.open_limit) log u.clock by u.no c.args.shard c.args.at
     ≡ Accepted (split_line log u.clock by u.no c.args.shard c.args.at ∷ []) reply.Done) c.self.view_is
-    (split_accepted v log by show' (is_full v c.args.room) c.args.shard c.args.at listed passes
-    (ap (λ (u : StreamValue). is_full u c.args.room) c.self.view_is ∙ sym c.is_full.ensures ∙ c.if-is_full.false)
+    (split_accepted v log by show' (is_full v c.args.open_limit) c.args.shard c.args.at listed passes
+    (ap (λ (u : StreamValue). is_full u c.args.open_limit) c.self.view_is ∙ sym c.is_full.ensures ∙ c.if-is_full.false)
     free small)

@@ -1,5 +1,5 @@
 use Rattle.kds_lines.proofs.Feeds.{flush_ok, flush_err}
-use Rattle.kds_lines.proofs.reading.LineBuffer.flush.Goals as goal
+use Rattle.kds_lines.proofs.line_buffer.LineBuffer.flush.Goals as goal
 
 pub returns-clause-ok : goal.returns-clause-ok
 returns-clause-ok g c =

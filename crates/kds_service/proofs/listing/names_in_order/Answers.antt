@@ -5,7 +5,7 @@ use Rattle.indexmap.specs.IndexMap.{values}
 use Rattle.kds_defs.specs.Listings.{names_in_order}
 use Rattle.kds_service.proofs.NameOrder.{before_orders, names_done, names_step, shown_before, sorted_names}
 use Rattle.kds_service.specs.Shown.{names_of}
-use Rattle.kds_service.proofs.listing.in_order.Goals as goal
+use Rattle.kds_service.proofs.listing.names_in_order.Goals as goal
 
 pub loop-i-preserved : goal.loop-i-preserved
 loop-i-preserved c = names_step (values c.args.streams.now) c.loop-i.i c.index.result.now c.name.result

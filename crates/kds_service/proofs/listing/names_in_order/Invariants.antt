@@ -1,7 +1,7 @@
 use Rattle.std.proofs.Common.{◌≡◌, ◌++◌, drop, map}
 use Rattle.indexmap.specs.IndexMap.{values}
 use Rattle.kds_service.specs.Shown.{names_of}
-use Rattle.kds_service.proofs.listing.in_order.Given as goal
+use Rattle.kds_service.proofs.listing.names_in_order.Given as goal
 
 -- The names so far, with those that are left, are all names.
 abbrev pub invariant-loop-i : goal.invariant-loop-i

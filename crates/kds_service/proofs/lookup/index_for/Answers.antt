@@ -2,7 +2,7 @@
 use Rattle.std.proofs.Common.{sym, ◌∙◌}
 use Rattle.indexmap.specs.IndexMap.{values}
 use Rattle.kds_service.proofs.Lookups.{token_place}
-use Rattle.kds_service.proofs.lookup.find.Goals as goal
+use Rattle.kds_service.proofs.lookup.index_for.Goals as goal
 
 pub returns-in-Some-clause-value : goal.returns-in-Some-clause-value
 returns-in-Some-clause-value c =
