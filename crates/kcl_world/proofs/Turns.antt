@@ -41,7 +41,7 @@ pub stands_at : (s s' : ServiceValue) (rs : List Row) (ts : List TenureValue) (l
 stands_at s s' rs ts log st shows =
     stands_of (seen s') rs ts log shows (rows_of (seen s) rs ts log st) (tenures_of (seen s) rs ts log st)
 
--- What each part of a turn, which are the clock's, the command's and the settling, leaves of the place of the stream
+-- What each part of a turn, which are the clock's, the command's and the settling, makes of the index of the stream
 -- that is settled next.
 abbrev pub TakesTurns : ServiceValue → ServiceValue → ServiceValue → ServiceValue → Type 0
 TakesTurns s at mid last = (at.next_to_settle ≡ s.next_to_settle) × (mid.next_to_settle ≡ at.next_to_settle)

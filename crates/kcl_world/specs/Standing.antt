@@ -35,8 +35,8 @@ Stands w log = lease.Stands (leased w) log
 abbrev pub Leads : WorldValue → WorldValue → ℕ → Command → Result Reply Refusal → Type 0
 Leads old new by what gives = lease.Leads (leased old) (leased new) by what gives
 
--- The place of the stream that is settled next. Each turn settled one of the streams that were live after it, and the
--- streams took turns.
+-- The index of the stream that is settled next. Each turn settled one of the streams that were live after it, in
+-- rotation.
 abbrev pub next_to_settle_of : List Turn → ℕ
 next_to_settle_of [] = 0
 next_to_settle_of (turn ∷ h) = next_in_turn (length (live_streams (journal (turn ∷ h)))) (next_to_settle_of h)

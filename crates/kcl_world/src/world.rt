@@ -59,8 +59,8 @@ fn advance(service: &mut Service, before: Moment, clock: Moment) -> bool
     true
 }
 
-/// Undoes a call of `advance`. `advanced` is the value that this call returned. Precondition if `advanced` is true: since
-/// that call, nothing in the service has changed, and no trimmed records have been removed.
+/// Undoes a call of `advance`. `advanced` is the value that this call returned. Precondition if `advanced` is true:
+/// since that call, nothing in the service has changed, and no trimmed records have been removed.
 fn retreat(service: &mut Service, advanced: bool)
     requires { advanced ≡ true → CanRetreat service.old }
     ensures advanced { advanced ≡ true → service.new ≡ retreated_service service.old }

@@ -79,8 +79,8 @@ pub struct TcpInput<S: Read + OpenStream + Drop> {
 }
 
 /// Reads and drops at most `count` pieces. Each read waits at most `wait` milliseconds. Returns `true` if all `count`
-/// pieces were read, which means that the client may still send bytes. The function has no contract, because no contract
-/// can state the bytes of a socket. Tests with real clients check it.
+/// pieces were read, which means that the client may still send bytes. The function has no contract, because no
+/// contract can state the bytes of a socket. Tests with real clients check it.
 fn drop_pieces<S: Read + OpenStream>(stream: &mut S, count: u32, wait: u64) -> bool {
     let wait = Some(Duration::from_millis(wait));
     if stream.set_read_timeout(wait).is_err() {

@@ -69,9 +69,9 @@ fn take_joined<T: Taker>(
     taker.take(alloc, held.as_slice(), output)
 }
 
-/// Completes the unfinished line in `line_buffer`, and hands the whole line to the taker. `tail` is the rest of the line,
-/// without its line feed. Fails if the line or the input is too long, if the taker stops the reading, or if memory runs
-/// out.
+/// Completes the unfinished line in `line_buffer`, and hands the whole line to the taker. `tail` is the rest of the
+/// line, without its line feed. Fails if the line or the input is too long, if the taker stops the reading, or if
+/// memory runs out.
 fn end_line<T: Taker>(
     alloc: Global,
     taker: &mut T,
@@ -110,8 +110,8 @@ fn end_line<T: Taker>(
     }
 }
 
-/// Completes the unfinished line in `line_buffer`, and hands the whole line to the taker. Then writes the pending output if
-/// it has `OUTPUT_BYTES` bytes or more. `tail` is the rest of the line, without its line feed.
+/// Completes the unfinished line in `line_buffer`, and hands the whole line to the taker. Then writes the pending
+/// output if it has `OUTPUT_BYTES` bytes or more. `tail` is the rest of the line, without its line feed.
 fn next_line<T: Taker, K: Sink>(
     alloc: Global,
     taker: &mut T,
@@ -175,8 +175,8 @@ fn feed_lines<'a, T: Taker, K: Sink>(
     Ok(rest)
 }
 
-/// Appends `rest`, which has no line feed, to the unfinished line that `line_buffer` holds. Fails if the line or the input
-/// becomes too long, or if memory runs out.
+/// Appends `rest`, which has no line feed, to the unfinished line that `line_buffer` holds. Fails if the line or the
+/// input becomes too long, or if memory runs out.
 fn hold(line_buffer: &mut LineBuffer, rest: &[u8]) -> Result<(), Outcome>
     ensures ok { OnOk result ((fed : List ℕ) (texts : List (List ℕ))
         → Fed fed texts line_buffer.old.used line_buffer.old.held

@@ -26,7 +26,7 @@ kept_in g same (suc i) (v ∷ vs) = ap (λ ys. g v ∷ ys) (kept_in g same i vs)
 
 -- ---- The service
 
--- Services with the same streams, and the same turn, are the same.
+-- Services with the same streams, and the same one to settle next, are the same.
 pub same_service : (c b n t u : ℕ) (vs us : List StreamValue) → vs ≡ us → t ≡ u
     → record (service c b n vs) { next_to_settle = t } ≡ record (service c b n us) { next_to_settle = u }
 same_service c b n t u vs us are is = ap (λ xs. record (service c b n xs) { next_to_settle = t }) are

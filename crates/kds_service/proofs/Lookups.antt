@@ -39,7 +39,7 @@ rest_of (command.Delete name) own makes ends lists = absurd (ends name refl)
 rest_of (command.Streams after limit) own makes ends lists = absurd (lists after limit refl)
 rest_of _ own makes ends lists = own
 
--- ---- The place that is found
+-- ---- The index that is found
 
 pub token_place : (vs : List StreamValue) (what : Command) (s : ℕ) → token_of what ≡ Some s
     → index_for vs what ≡ index_by_number vs s
@@ -51,7 +51,7 @@ name_place vs (command.Records iter limit) name is = absurd cc
 name_place vs (command.More page limit) name is = absurd cc
 name_place vs _ name is = ap (index_by vs None) is
 
--- The stream at the place of a number has the number.
+-- The stream at the index of a number has the number.
 pub numbered : (i s : ℕ) (vs : List StreamValue) (x : StreamValue) → index_by_number vs s ≡ Some i
     → slice_get vs i ≡ Some x
     → s ≡ x.no

@@ -125,7 +125,7 @@ from_on p n j (x ∷ xs) is =
     either_way (p x) (λ e. let same : n ≡ j = same_some n j (sym (hit p n x xs e) ∙ is) in omega arith)
     (λ e. let rest = from_on p (n + 1) j xs (sym (missed p n x xs e) ∙ is) in omega arith)
 
--- The first place is found exactly if the first element passes.
+-- The first index is found exactly if the first element passes.
 pub first_passes : {X : Type 0} (p : X → Bool) (n : ℕ) (x : X) (xs : List X) → position_from p n (x ∷ xs) ≡ Some (n + 0)
     → p x ≡ true
 first_passes p n x xs is =
@@ -204,7 +204,7 @@ pub none_named : (w : ServiceValue) (log : Journal) (name : List ℕ) → ShowsA
 none_named w log name all none = ap (find (λ s. same_name (name_of log s) name)) (live_are w log all)
     ∙ none_named_from log name 0 w.streams all.shown none
 
--- A place that was found is that of a stream.
+-- An index that was found is that of a stream.
 at_place : (n i : ℕ) (vs : List StreamValue) (name : List ℕ) → position_from (same_name name) n (names_of vs)
     ≡ Some (n + i)
     → (x : StreamValue) × (slice_get vs i ≡ Some x)

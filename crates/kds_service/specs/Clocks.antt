@@ -32,15 +32,15 @@ retreated_service w = record w { clock = w.clock_before; streams = map retreated
 abbrev pub CanRetreat : ServiceValue → Type 0
 CanRetreat w = AreAt w.clock_before (map retreated w.streams)
 
--- The place whose turn it is among `count` places: `n` if there is such a place, and otherwise the first.
+-- The index that comes next in a rotation over `count` indexes: `n` if there is such an index, and otherwise the first.
 abbrev pub in_turn : ℕ → ℕ → ℕ
 in_turn count n = if nat_lt n count then n else 0
 
--- The place after the one whose turn it is, in a circle of `count` places.
+-- The index after the one that is settled next, in a circle of `count` indexes.
 abbrev pub next_in_turn : ℕ → ℕ → ℕ
 next_in_turn count n = next_of count (in_turn count n)
 
--- The service `w` after the stream whose turn it is was settled. The service then remembers no earlier clock.
+-- The service `w` after one settling: the stream that was next is settled, and the service remembers no earlier clock.
 abbrev pub settled_in_turn : ServiceValue → ServiceValue
 settled_in_turn w =
     let count = length w.streams in

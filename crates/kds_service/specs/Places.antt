@@ -16,15 +16,15 @@ use Rattle.kds_stream.specs.Serving.{token_of}
 use Rattle.kds_stream.specs.Value.{StreamValue}
 use Rattle.kds_service.specs.Shown.{AreAt, names_of, numbers_of}
 
--- The place of the first of the streams `vs` that has the name `name`.
+-- The index of the first of the streams `vs` that has the name `name`.
 abbrev pub index_by_name : List StreamValue → List ℕ → Option ℕ
 index_by_name vs name = position_from (same_name name) 0 (names_of vs)
 
--- The place of the first of the streams `vs` that has the number `s`.
+-- The index of the first of the streams `vs` that has the number `s`.
 abbrev pub index_by_number : List StreamValue → ℕ → Option ℕ
 index_by_number vs s = position_from (λ n. n == s) 0 (numbers_of vs)
 
--- The place of the stream that a command is for: by the command's token, or else by its name.
+-- The index of the stream that a command is for: by the command's token, or else by its name.
 abbrev pub index_by : List StreamValue → Option ℕ → Option (List ℕ) → Option ℕ
 index_by vs (Some s) name = index_by_number vs s
 index_by vs None (Some name) = index_by_name vs name

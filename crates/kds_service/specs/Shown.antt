@@ -15,7 +15,7 @@ use Rattle.kds_stream.specs.Value.{StreamValue}
 use Rattle.kds_service.specs.Lines.{AreOf}
 
 -- What contracts see of a service: its clock, what the clock was before the last advance, how many streams were made,
--- the live streams in the order of their numbers, and the place of the stream that is settled next.
+-- the live streams in the order of their numbers, and the index of the stream that is settled next.
 pub record ServiceValue : Type 0 where
   pub clock : ℕ
   pub clock_before : ℕ

@@ -99,7 +99,7 @@ kept_settled floor log s n zero (l ∷ ls) h =
     (record { from = floor; early = omega arith; rest = same }, h.1)
 kept_settled floor log s n (suc i) (l ∷ ls) h = (h.0, kept_settled floor log s (n + 1) i ls h.1)
 
--- The stream `v` after the log at the place `i` is settled, whatever clock it remembers and whose turn it is.
+-- The stream `v` after the log at the index `i` is settled, whatever clock it remembers and whichever log is next.
 abbrev pub settled_place : StreamValue → ℕ → ℕ → Option ℕ → ℕ → StreamValue
 settled_place v i clock cut next =
     record v {

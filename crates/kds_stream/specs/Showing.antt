@@ -74,8 +74,8 @@ abbrev pub RefusesAs : StreamValue → Option Refusal → (Journal → ℕ → �
 RefusesAs v o line d = (log : Journal) (by : ℕ) → Shows v log
     → IsDecidedBy o (line log v.clock by v.no) (d log v.clock by v.no)
 
--- Whether no further shard may be open in the stream `v`: at least `open_limit` shards are open in it, or as many as may be
--- open in all streams.
+-- Whether no further shard may be open in the stream `v`: at least `open_limit` shards are open in it, or as many as
+-- may be open in all streams.
 abbrev pub is_full : StreamValue → ℕ → Bool
 is_full v open_limit =
     nat_le open_limit (length (filter is_open v.tree)) || nat_le OPEN_SHARDS (length (filter is_open v.tree))

@@ -14,7 +14,7 @@ use Rattle.kds_stream_logs.specs.Logs.{HasArrived, IsBelow, settled_at}
 
 -- A stream: its number, its name, when it was made, its retention in hours, its shards, the log of each, the window of
 -- each, whether the limits on throughput are on, its next sequence number, its clock and its cut. The last fields are
--- what clock and cut were before the last advance, if nothing has changed since, and the place of the log that is
+-- what clock and cut were before the last advance, if nothing has changed since, and the index of the log that is
 -- settled next.
 pub record StreamValue : Type 0 where
   pub no : ℕ
@@ -88,8 +88,8 @@ pub record IsKeptAt (wanted : ℕ) (old new : StreamValue) : Type 0 where
   pub clock_before : new.clock_before ≡ old.clock
   pub cut_before : new.cut_before ≡ new.cut
 
--- The stream `v` after the log whose turn it is has lost its trimmed records. The stream then remembers no earlier
--- clock.
+-- The stream `v` after one settling: the log that was next has lost its trimmed records, and the stream remembers no
+-- earlier clock.
 abbrev pub settled : StreamValue → StreamValue
 settled v =
     record v {

@@ -14,11 +14,11 @@ use kds_stream_logs::{add_shards, is_spent, made_by, reserve_shards, take_steps}
 
 impl Stream {
     /// First merges and then splits open shards, until there are `target` open shards with uniform ranges of hash keys
-    /// (Kinesis API Reference, UpdateShardCount). The scaling takes as few steps as possible. `open_limit` is the greatest
-    /// number of shards that may be open in this stream, given the open shards of the other streams. All memory is
-    /// allocated before the first step. The scaling is refused with `Full` if and only if `target` is above `open_limit`.
-    /// Otherwise it is refused with `Spent` if the stream's next sequence number or its number of shards would be above
-    /// the greatest `u64` after the last step.
+    /// (Kinesis API Reference, UpdateShardCount). The scaling takes as few steps as possible. `open_limit` is the
+    /// greatest number of shards that may be open in this stream, given the open shards of the other streams. All
+    /// memory is allocated before the first step. The scaling is refused with `Full` if and only if `target` is above
+    /// `open_limit`. Otherwise it is refused with `Spent` if the stream's next sequence number or its number of shards
+    /// would be above the greatest `u64` after the last step.
     pub fn scale(&mut self, target: u32, open_limit: u64) -> Result<Answer, Memory>
         requires { IsShardCount target }
         ensures answered { IfOk result (λ a. Decides self.old self.new a (λ log by.

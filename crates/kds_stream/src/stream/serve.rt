@@ -11,8 +11,8 @@ use std::alloc::Global;
 
 impl Stream {
     /// Serves a command that names this stream, or whose token (shard iterator or NextToken) belongs to this stream
-    /// (Kinesis API Reference, the operations of the commands). `open_limit` is the greatest number of shards that may be
-    /// open in this stream, given the open shards of the other streams. Only SplitShard and UpdateShardCount need
+    /// (Kinesis API Reference, the operations of the commands). `open_limit` is the greatest number of shards that may
+    /// be open in this stream, given the open shards of the other streams. Only SplitShard and UpdateShardCount need
     /// `open_limit`. If memory runs out, the stream is unchanged.
     pub fn serve(&mut self, alloc: Global, what: Command, open_limit: u64) -> Result<Answer, Memory>
         requires lawful { IsLawfulCommand what }

@@ -16,9 +16,9 @@ use kds_log::ShardLog;
 use kds_rate::Window;
 
 impl Stream {
-    /// Whether the stream can't have one more open shard, because the number of its open shards has reached `open_limit` or
-    /// `OPEN_SHARDS`. `open_limit` is the greatest number of shards that may be open in this stream, given the open shards of
-    /// the other streams.
+    /// Whether the stream can't have one more open shard, because the number of its open shards has reached
+    /// `open_limit` or `OPEN_SHARDS`. `open_limit` is the greatest number of shards that may be open in this stream,
+    /// given the open shards of the other streams.
     fn is_full(&self, open_limit: u64) -> bool
         ensures { result ≡ is_full self.now open_limit }
     {
@@ -52,12 +52,13 @@ impl Stream {
     }
 
     /// Splits a shard at the hash key `at` (Kinesis API Reference, SplitShard). The shard is closed, with the stream's
-    /// next sequence number as its ending sequence number, and its two children are added after the last shard. `open_limit`
-    /// is the greatest number of shards that may be open in this stream, given the open shards of the other streams.
-    /// The split is refused with `NoShard` if the shard was never made or has expired, with `ShardClosed` if the shard
-    /// is closed, and with `BadSplit` if one part of its range would be empty. It is refused with `Full` if the stream
-    /// already has `open_limit` or `OPEN_SHARDS` open shards, and with `Spent` if the stream's next sequence number is the
-    /// greatest `u64`. If the split is refused or memory runs out, the stream is unchanged.
+    /// next sequence number as its ending sequence number, and its two children are added after the last shard.
+    /// `open_limit` is the greatest number of shards that may be open in this stream, given the open shards of the
+    /// other streams. The split is refused with `NoShard` if the shard was never made or has expired, with
+    /// `ShardClosed` if the shard is closed, and with `BadSplit` if one part of its range would be empty. It is refused
+    /// with `Full` if the stream already has `open_limit` or `OPEN_SHARDS` open shards, and with `Spent` if the
+    /// stream's next sequence number is the greatest `u64`. If the split is refused or memory runs out, the stream is
+    /// unchanged.
     pub fn split(&mut self, shard: ShardNo, at: u128, open_limit: u64) -> Result<Answer, Memory>
         ensures answered { IfOk result (λ a. Decides self.old self.new a (λ log by.
             split_where (is_full self.old open_limit) log self.old.clock by self.old.no shard at)) }

@@ -1,4 +1,4 @@
--- The place of a token's stream is that of the token's number.
+-- The index of a token's stream is that of the token's number.
 use Rattle.std.proofs.Common.{sym, ◌∙◌}
 use Rattle.indexmap.specs.IndexMap.{values}
 use Rattle.kds_service.proofs.Lookups.{token_place}
