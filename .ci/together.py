@@ -3,7 +3,8 @@
 crate's edits take a third of the time that they take one by one. The check must say of each edited function that goals of its own are left. An
 edit whose function isn't known, of a definition or in a generic implementation, is tried alone, by a check of the whole copy; so is one that edits
 several functions, one after another. An edit that is refused only since a proof file names what the edit took away shows nothing of the contract:
-it is reported as STALE, and fails. `rt ci` tries the edits of must-fail/ one by one, and it decides; this is for the work on a crate.
+it is reported as STALE, and fails. Below each edit stand the goals that it leaves, which .ci/clauses.py reads. `rt ci` tries the edits of
+must-fail/ one by one, and it decides; this is for the work on a crate.
 
     .ci/together.py CRATE [EDIT..]     these edits, or all of the crate"""
 import os, pathlib, re, shutil, subprocess, sys, tempfile
@@ -102,18 +103,29 @@ def is_refused(line):
 GONE = re.compile(r'has no field|is not in scope|has no `|was not admitted|expected type `Unit ')
 
 
-def is_stale(printed, function, file, lines):
-    """Whether all that a check says against a function is that its proof names what is gone."""
-    folder = f'proofs/{file[len("src/"):-len(".rt")]}/' if file else 'proofs/'
+def told_against(printed, function, file, lines):
+    """What a check says against a function, or against any where none is given: the file, the text, and the whole line."""
+    folder = f'proofs/{file[len("src/"):-len(".rt")]}/' if file and file != 'src/lib.rt' else 'proofs/'
     name = function.split('::')[-1] if function else ''
-    told = []
     for line in printed.split('\n'):
         place = re.match(r'(?:note: )?(?:\./)?((?:src|proofs)/[^:\s]+):(\d+):\d+: (.*)', line)
         if place and (not function or (place[1] == file and int(place[2]) in lines)
                       or (place[1].startswith(folder) and re.search(rf'[/+]{name}/', place[1]))):
             if ' error' in line or line.startswith('note: '):
-                told.append(bool(place[1].startswith('proofs/') and GONE.search(place[3])))
+                yield place[1], place[3], line
+
+
+def is_stale(printed, function, file, lines):
+    """Whether all that a check says against a function is that its proof names what is gone."""
+    told = [bool(place.startswith('proofs/') and GONE.search(text)) for place, text, _ in told_against(printed, function, file, lines)]
     return bool(told) and all(told)
+
+
+def goals(printed, function, file, lines):
+    """The lines of a check that name a goal that is left: each at its place, as .ci/clauses.py reads them."""
+    for place, text, line in told_against(printed, function, file, lines):
+        if '`' in text and not (place.startswith('proofs/') and GONE.search(text)):
+            yield line
 
 
 def main():
@@ -170,6 +182,8 @@ def main():
                         failed.append(f'{name}: STALE: only its proof names what the edit took away')
                     else:
                         print(f'{crate}/{name}: refused: {function}: {line[:300]}', flush=True)
+                        for goal in goals(printed, function, file, lines):
+                            print(f'{crate}/{name}: goal: {goal}', flush=True)
                     done.append(name)
                 elif len(batch) == 1:
                     failed.append(f'{name}: {"NOT REFUSED" if status == 0 else "not tried"}: {line or printed[-600:]}')
@@ -180,4 +194,5 @@ def main():
     return 1 if failed else 0
 
 
-sys.exit(main())
+if __name__ == "__main__":
+    sys.exit(main())

@@ -1,0 +1,334 @@
+#!/usr/bin/env python3
+"""Which edit breaks which clause. The prover refuses a wrong body because it can't prove some goal: a clause of the edited
+function, or what a function that it calls requires. .ci/refusals.txt has these goals for each edit that the gate tries. It
+has one line for each edit: the crate, the name, the file that the edit changes, and the goals. `rt ci` tells only the
+first goal of an edit, and `./dev edits` tells all of them.
+
+    .ci/clauses.py LOG             compares what a log of `rt ci` or of `./dev edits` says with .ci/refusals.txt. If an
+                                   edit was kept from an earlier run, `rt ci` tells its goal once more
+    .ci/clauses.py --write LOG..   writes what the logs say into .ci/refusals.txt. A later log counts more, and one of
+                                   `./dev edits` more than one of `rt ci`. Then run ./dev names --write
+    .ci/clauses.py page            prints the table of docs/wrong-bodies.md: the clauses of the public contracts, and the
+                                   edits that break each
+    .ci/clauses.py open            prints the clauses that no edit of the gate breaks, and for which LEFT has no reason
+
+A goal is written FUNCTION.CLAUSE for a clause that the function ensures (`ensures` if its only clause has no name),
+FUNCTION>CALLED.CLAUSE for a clause that a function called there requires, and FUNCTION:GOAL for any other. If the log cuts
+off a goal, `..` stands at its end. An edit that is refused only by a limit of the prover has the goal `limit`. An edit
+that is refused only because its proof names what the edit took away, or whose goal can't be read, has the goal `?`."""
+import functools
+import re
+import sys
+
+from checks import ROOT, Tally, asked
+
+TABLE = ROOT / '.ci' / 'refusals.txt'
+HEADING = '# The goals that refuse each edit that the gate tries. .ci/clauses.py --write LOG.. writes this file.\n'
+# What a log says of an edit: `rt ci` and `rt must-fail` one goal, `./dev edits` all of them.
+TOLD = re.compile(r'^rt: must-fail (\w+)/(\S+?)\.edit: refused, as it must be(.*)$')
+TOLD_ALL = re.compile(r'^(\w+)/(\S+): goal: (.*)$')
+# a goal of the function's own, at a place of the code; and one whose answer in a proof file is wrong
+AT_CODE = re.compile(r'(?:note: )?(?:\./)?(src/[^:\s]+):(\d+):\d+: (.*)$')
+AT_PROOF = re.compile(r'(?:note: )?(?:\./)?(proofs/\S+?)(?:/Answers)?\.antt:\d+:\d+: (?:error|note): `([^`]+)`')
+
+# The public contracts whose clauses the page lists: the crate, and its functions. `OWNER::*` stands for all public
+# methods of a type, and `*` for all public functions.
+CONTRACTS = [
+    ('kds_cli_runs', ['run', 'run_replay', 'run_answer']),
+    ('kcl_audit', ['run_audit']),
+    ('kds_server', ['serve_lone', 'serve_pass', 'crew']),
+    ('kcl_live', ['run_worker', 'run_crew']),
+    ('kds_turn', ['Hall::*']),
+    ('kcl_world', ['WorldMachine::apply']),
+    ('kcl_worker', ['Worker::*']),
+    ('kcl_consumer', ['Consumer::*']),
+    ('kcl_take', ['plan']),
+    ('kcl_sync', ['plan']),
+    ('kcl_renew', ['due']),
+    ('kcl_laws', ['*']),
+]
+# The contract of a trait's method, whose clauses its implementations must meet: the implementation, and where the trait stands.
+TRAITS = {('kcl_world', 'WorldMachine::apply'): ('kds_defs', 'src/machine.rt', 'apply')}
+# A clause of a contract that follows from a clause of another name: the clause, and those that it follows from.
+THROUGH = {
+    ('kds_cli_runs', 'run.ended'): [
+        'perform_words.performed', 'perform.performed', 'run_serve.told', 'run_replay.told', 'run_answer.served',
+    ],
+    ('kds_cli_runs', 'run.sound'): ['write_rest.bits', 'record_schedule.sound', 'run_replay.sound'],
+    ('kds_cli_runs', 'run.usage'): ['perform_words.usage'],
+    ('kds_cli_runs', 'run_replay.sound'): ['write_rest.bits', 'record_schedule.sound'],
+    ('kcl_live', 'run_worker.served'): ['drive.ok', 'drive.idle'],
+    ('kcl_live', 'run_worker.served_so_far'): ['drive.err'],
+}
+# A clause that no edit of the gate breaks, and why.
+OF_THE_SCHEDULE = 'the clause speaks of the input alone: it is a law of the definitions, which no body breaks'
+LEFT = {
+    ('kds_cli_runs', 'run.safe'): OF_THE_SCHEDULE,
+    ('kds_cli_runs', 'run.served'): OF_THE_SCHEDULE,
+    ('kds_cli_runs', 'run.handed'): OF_THE_SCHEDULE,
+    ('kds_cli_runs', 'run_replay.safe'): OF_THE_SCHEDULE,
+    ('kds_cli_runs', 'run_replay.served'): OF_THE_SCHEDULE,
+    ('kds_cli_runs', 'run_replay.handed'): OF_THE_SCHEDULE,
+}
+# How many further clauses of a crate's contracts no edit of the gate breaks. Each number may only fall.
+OPEN = {}
+
+
+# ---- the code: functions, their clauses and what they call
+
+class Function:
+    def __init__(self, file, owner, name, public, first):
+        self.file, self.owner, self.name, self.public, self.first = file, owner, name, public, first
+        self.last, self.clauses, self.requires, self.body, self.in_body = first, [], [], '', False
+
+    @property
+    def path(self):
+        return f'{self.owner}::{self.name}' if self.owner else self.name
+
+
+CLAUSE = re.compile(r'^\s*(requires|ensures)(?: (\w+))? \{')
+HEAD = re.compile(r'^(\s*)(pub(?:\(\w+\))? )?(?:const |ghost |unsafe )*fn (\w+)')
+OWNER = re.compile(r'^(?:unsafe )?(?:impl(?:<.*?>)? (?:(\w+)(?:<.*?>)? for )?(\w+)|(?:pub )?trait (\w+))')
+
+
+@functools.cache
+def functions(crate):
+    """The functions of a crate, in the order of its files and lines."""
+    found = []
+    for path in sorted((ROOT / 'crates' / crate / 'src').rglob('*.rt')):
+        file, owner, now, margin = str(path.relative_to(ROOT / 'crates' / crate)), None, None, ''
+        for number, line in enumerate(path.read_text().splitlines(), 1):
+            impl, head = OWNER.match(line), HEAD.match(line)
+            if impl:
+                owner = impl[3] or impl[2] + (impl[1] or '')
+            if head and not (now and len(head[1]) > len(margin)):
+                now, margin = Function(file, owner if head[1] else None, head[3], bool(head[2]), number), head[1]
+                found.append(now)
+            if now:
+                now.last, clause = number, None if now.in_body else CLAUSE.match(line)
+                now.in_body = now.in_body or line == margin + '{'
+                if clause:
+                    (now.clauses if clause[1] == 'ensures' else now.requires).append(clause[2] or clause[1])
+                elif not line.lstrip().startswith('//'):
+                    now.body += line + '\n'
+                if line in (margin + '}', margin + '{}') or (number == now.first and line.endswith(('}', ';'))):
+                    now = None
+            if line == '}':
+                owner = None
+    return found
+
+
+def function_at(crate, file, line):
+    return next((it for it in functions(crate) if it.file == file and it.first <= line <= it.last), None)
+
+
+def function_of_proof(crate, folder):
+    """The function whose proof this folder has: proofs/FILE/TYPE/NAME, without the type where it is of none."""
+    *_, owner, name = ['', *folder.split('/')]
+    named = [it for it in functions(crate) if it.name == name]
+    return next((it for it in [*(it for it in named if it.owner == owner), *(it for it in named if not it.owner), *named]), None)
+
+
+@functools.cache
+def reached(crate, path):
+    """This function and those of the crate that it calls, directly or through others of the crate, by their paths."""
+    by_name, done = {}, set()
+    for it in functions(crate):
+        by_name.setdefault(it.name, []).append(it)
+    left = [it for it in functions(crate) if it.path == path]
+    while left:
+        now = left.pop()
+        if now.path not in done:
+            done.add(now.path)
+            for name in set(re.findall(r'\b(\w+)(?:::<[^()]*>)?\(', now.body)):
+                left += [it for it in by_name.get(name, []) if it.path not in done]
+    return done
+
+
+# ---- what refuses an edit
+
+def goal_of(crate, text):
+    """The goal that a line of the prover names, as .ci/refusals.txt writes it."""
+    if 'only by a limit of the prover' in text:
+        return 'limit'
+    code, proof = AT_CODE.search(text), AT_PROOF.search(text)
+    if code:
+        function = function_at(crate, code[1], int(code[2]))
+        named = re.search(r'\(`([^`]*)(`?)', code[3])
+        if not named:
+            return f'{function.path}:..' if function else '?'
+        goal = named[1] + ('' if named[2] else '..')
+    elif proof:
+        function, goal = function_of_proof(crate, proof[1][len('proofs/'):]), proof[2]
+        if not function:
+            return f'{proof[1]}:{goal}'
+    else:
+        return '?'
+    path = function.path if function else code[1]
+    clause = re.search(r'-clause-([\w.]+)$', goal)
+    called = re.match(r'([\w◌-]+?)-requires', goal)
+    if goal.startswith('returns') and not goal.endswith('..'):
+        only = function.clauses[0] if function and len(function.clauses) == 1 else 'ensures'
+        return f'{path}.{clause[1] if clause else only}'
+    if called and not goal.endswith('..'):
+        return f'{path}>{called[1]}.{clause[1] if clause else "requires"}'
+    return f'{path}:{goal}'
+
+
+def told_by(log):
+    """What a log says: each edit, with its goals, and whether these are all."""
+    found = {}
+    for line in log.splitlines():
+        one, each = TOLD.match(line), TOLD_ALL.match(line)
+        if one:
+            found[one[1], one[2]] = [goal_of(one[1], one[3])], False
+        elif each:
+            goals = found.get((each[1], each[2]), ([], True))
+            goal = goal_of(each[1], each[3])
+            found[each[1], each[2]] = [*goals[0], *([] if goal in goals[0] else [goal])], True
+    return found
+
+
+def stored():
+    """The table: each edit to its goals."""
+    found = {}
+    for line in TABLE.read_text().splitlines() if TABLE.exists() else []:
+        if line and not line.startswith('#'):
+            head, _, goals = line.partition(': ')
+            crate, edit, _ = head.split(' ')
+            found[crate, edit] = goals.split(', ')
+    return found
+
+
+def gate_edits():
+    """Each edit that the gate tries to its file, crates in the order of crates.txt. An edit of several files stands with its first."""
+    found = {}
+    for line in (ROOT / 'crates.txt').read_text().splitlines():
+        crate = line.split(':')[0]
+        for path in sorted((ROOT / 'crates' / crate / 'must-fail').glob('*.edit')):
+            found[crate, path.stem] = re.search(r'^file: (\S+)$', path.read_text(), re.M)[1]
+    return found
+
+
+def is_among(goal, goals):
+    return any(it == goal or (goal.endswith('..') and it.startswith(goal[:-2])) for it in goals)
+
+
+def compare(tally, log):
+    """What a log says of the edits of the gate is what the table has."""
+    table, edits = stored(), gate_edits()
+    for (crate, edit), (goals, _) in told_by(log).items():
+        if (crate, edit) in edits:
+            had = table.get((crate, edit), [])
+            for goal in goals:
+                has = ', '.join(had) or 'no line of it'
+                tally.holds(is_among(goal, had), f'{crate}/{edit} is refused by {goal}, and .ci/refusals.txt has {has}: '
+                            'run .ci/clauses.py --write with this log, and then ./dev names --write')
+
+
+def write(logs):
+    table = stored()
+    for log in logs:
+        for key, (goals, are_all) in told_by(log).items():
+            if are_all or not is_among(goals[0], table.get(key, [])):
+                table[key] = goals
+    lines = [f'{crate} {edit} {file}: {", ".join(table[crate, edit])}\n'
+             for (crate, edit), file in gate_edits().items() if (crate, edit) in table]
+    TABLE.write_text(HEADING + ''.join(lines))
+    print(f'written: {TABLE.relative_to(ROOT)}, {len(lines)} of {len(gate_edits())} edits')
+
+
+# ---- the clauses of the public contracts
+
+def contracts():
+    """Each contract: its crate, its function, and its clauses."""
+    for crate, wanted in CONTRACTS:
+        for it in functions(crate):
+            of = f'{it.owner}::*' if it.owner else '*'
+            if it.path in wanted or (it.public and of in wanted):
+                clauses = it.clauses
+                if (crate, it.path) in TRAITS:
+                    low, file, name = TRAITS[crate, it.path]
+                    clauses = next(one.clauses for one in functions(low) if one.file == file and one.name == name)
+                if clauses:
+                    yield crate, it.path, clauses
+
+
+def breaking(crate, path, clause, only):
+    """The edits of the gate that break this clause: in the function itself, or in one that it calls, by a clause of the
+    same name or one that THROUGH names. If the contract has one clause only, each clause of a called function counts."""
+    known, through = reached(crate, path), THROUGH.get((crate, f'{path}.{clause}'), [])
+    for (of, edit), goals in stored().items():
+        if of != crate:
+            continue
+        for goal in goals:
+            function, dot, broken = goal.rpartition('.')
+            if dot and '>' not in goal and ':' not in function.replace('::', '') and function in known:
+                if broken == clause or goal in through or (only and function != path):
+                    yield edit
+                    break
+
+
+def clauses():
+    """Each clause: the crate, the function, the clause, and the edits that break it."""
+    for crate, path, named in contracts():
+        for clause in named:
+            yield crate, path, clause, list(breaking(crate, path, clause, len(named) == 1))
+
+
+def page():
+    yield '| Function | Clause | Broken by |'
+    yield '|---|---|---|'
+    for crate, path, clause, edits in clauses():
+        reason = LEFT.get((crate, f'{path}.{clause}'), 'no edit of the gate')
+        name = '(it has no name)' if clause == 'ensures' else f'`{clause}`'
+        yield f'| `{crate}`: `{path}` | {name} | {", ".join(f"`{it}`" for it in edits) or reason} |'
+
+
+def open_clauses():
+    return [f'{crate}: {path}.{clause}' for crate, path, clause, edits in clauses()
+            if not edits and (crate, f'{path}.{clause}') not in LEFT]
+
+
+def check(tally):
+    """Each edit of the gate has its line in the table, and no other edit has one. An edit breaks each clause of the public
+    contracts, but for those of LEFT and as many as OPEN says."""
+    table, edits = stored(), gate_edits()
+    lacking = [f'{crate}/{edit}' for crate, edit in edits if (crate, edit) not in table]
+    tally.holds(not lacking, f'.ci/refusals.txt has no line of {len(lacking)} edits ({", ".join(lacking[:3])}, ..): '
+                'run the gate, and .ci/clauses.py --write with its log')
+    gone = [f'{crate}/{edit}' for crate, edit in table if (crate, edit) not in edits]
+    tally.holds(not gone, f'.ci/refusals.txt has lines of edits that the gate does not try: {", ".join(gone)}')
+    known = {(crate, f'{path}.{clause}'): edits for crate, path, clause, edits in clauses()}
+    for key in (*LEFT, *THROUGH):
+        tally.holds(key in known, f'.ci/clauses.py names {key[1]} of {key[0]}, which is no clause of its contracts')
+    for key in LEFT:
+        tally.holds(not known.get(key), f'LEFT in .ci/clauses.py has {key[1]} of {key[0]}, which {known.get(key)} breaks')
+    if not lacking:
+        for crate, _ in CONTRACTS:
+            now, allowed = sum(it.startswith(f'{crate}: ') for it in open_clauses()), OPEN.get(crate, 0)
+            says = f'clauses of {crate} that no edit of the gate breaks (.ci/clauses.py open): {now} now, {allowed} allowed'
+            tally.holds(now <= allowed, f'{says}: write an edit for each new one, or give the reason in LEFT there')
+            tally.holds(now >= allowed, f'{says}: set OPEN in .ci/clauses.py to {now}, so that it can only fall')
+
+
+def main():
+    words = asked(__doc__, '.ci/clauses.py LOG | --write LOG.. | page | open',
+                  lambda words: len(words) == 1 and not words[0].startswith('-') or len(words) > 1 and words[0] == '--write')
+    if words == ['page']:
+        print('\n'.join(page()))
+    elif words == ['open']:
+        print('\n'.join(open_clauses()))
+    else:
+        logs = [open(name, encoding='utf-8', errors='replace').read() for name in words if name != '--write']
+        if words[0] == '--write':
+            write(logs)
+        else:
+            tally = Tally()
+            compare(tally, logs[0])
+            return tally.end('refused edits: ')
+    return 0
+
+
+if __name__ == '__main__':
+    sys.exit(main())
