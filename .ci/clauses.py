@@ -1,21 +1,23 @@
 #!/usr/bin/env python3
-"""Which edit breaks which clause. The prover refuses a wrong body because it can't prove some goal: a clause of the edited
-function, or what a function that it calls requires. .ci/refusals.txt has these goals for each edit that the gate tries. It
-has one line for each edit: the crate, the name, the file that the edit changes, and the goals. `rt ci` tells only the
-first goal of an edit, and `./dev edits` tells all of them.
+"""Which edit breaks which clause. The prover refuses a wrong body because it can't prove some goal: a clause of the
+edited function, or what a function that it calls requires. .ci/refusals.txt has these goals for each edit that the gate
+tries. It has one line for each edit: the crate, the name, the file that the edit changes, and the goals. `rt ci` tells
+only the first goal of an edit, and `./dev edits` tells all of them.
 
     .ci/clauses.py LOG             compares what a log of `rt ci` or of `./dev edits` says with .ci/refusals.txt. If an
                                    edit was kept from an earlier run, `rt ci` tells its goal once more
     .ci/clauses.py --write LOG..   writes what the logs say into .ci/refusals.txt. A later log counts more, and one of
                                    `./dev edits` more than one of `rt ci`. Then run ./dev names --write
-    .ci/clauses.py page            prints the table of docs/wrong-bodies.md: the clauses of the public contracts, and the
-                                   edits that break each
+    .ci/clauses.py page            prints the table of docs/wrong-bodies.md: the clauses of the public contracts, and
+                                   the edits that break each
     .ci/clauses.py open            prints the clauses that no edit of the gate breaks, and for which LEFT has no reason
 
 A goal is written FUNCTION.CLAUSE for a clause that the function ensures (`ensures` if its only clause has no name),
-FUNCTION>CALLED.CLAUSE for a clause that a function called there requires, and FUNCTION:GOAL for any other. If the log cuts
-off a goal, `..` stands at its end. An edit that is refused only by a limit of the prover has the goal `limit`. An edit
-that is refused only because its proof names what the edit took away, or whose goal can't be read, has the goal `?`."""
+FUNCTION>CALLED.CLAUSE for a clause that a function called there requires, and FUNCTION:GOAL for any other. If the log
+cuts off a goal, `..` stands at its end. An edit that is refused only by a limit of the prover has the goal `limit`. An
+edit that is refused only because its proof names what the edit took away, or whose goal can't be read, has the goal
+`?`."""
+import fnmatch
 import functools
 import re
 import sys
@@ -47,7 +49,7 @@ CONTRACTS = [
     ('kcl_renew', ['due']),
     ('kcl_laws', ['*']),
 ]
-# The contract of a trait's method, whose clauses its implementations must meet: the implementation, and where the trait stands.
+# An implementation of a trait's method must meet the trait's clauses: the implementation, and where the trait stands.
 TRAITS = {('kcl_world', 'WorldMachine::apply'): ('kds_defs', 'src/machine.rt', 'apply')}
 # A clause of a contract that follows from a clause of another name: the clause, and those that it follows from.
 THROUGH = {
@@ -59,8 +61,25 @@ THROUGH = {
     ('kds_cli_runs', 'run_replay.sound'): ['write_rest.bits', 'record_schedule.sound'],
     ('kcl_live', 'run_worker.served'): ['drive.ok', 'drive.idle'],
     ('kcl_live', 'run_worker.served_so_far'): ['drive.err'],
+    ('kcl_worker', 'Worker::next.next'): [
+        'next_in_part.some', 'next_in_part.none', 'next_while_stopping.some', 'next_while_stopping.none',
+        'from_consumers.given', 'from_renewals.given', 'from_takes.given', 'from_sync.given',
+    ],
+    ('kcl_worker', 'Worker::absorb.absorbed'): [
+        'after_renewal.leaves', 'after_renewal.processors', 'after_consumer.held', 'after_consumer.consumers',
+        'write_held.ensures', 'tenancy_of.ensures', 'taken_of.ensures', 'add_taken.held', 'add_taken.consumers',
+    ],
+    ('kcl_consumer', 'Consumer::absorb.phase'): [
+        'after_giving.phase', 'after_marking.phase', 'after_opening.phase', 'after_ending.phase', 'after_reading.phase',
+        'stage_after_give.phase', 'Ahead::front_stage.phase', 'Ahead::pop_first.ensures', 'Ahead::is_filled.ensures',
+    ],
+    ('kcl_consumer', 'Consumer::absorb.given'): ['last_after.ensures'],
+    ('kcl_world', 'WorldMachine::apply.answered'): [
+        'lease_answer.ensures', 'read.ensures', 'read.answered', 'answer.answered', 'answer.ensures',
+    ],
 }
-# A clause that no edit of the gate breaks, and why.
+# A clause that no edit of the gate breaks, and why. A `*` stands for any method.
+STAYS = 'it says what stays the same, and no line that stands there writes it'
 OF_THE_SCHEDULE = 'the clause speaks of the input alone: it is a law of the definitions, which no body breaks'
 LEFT = {
     ('kds_cli_runs', 'run.safe'): OF_THE_SCHEDULE,
@@ -69,6 +88,13 @@ LEFT = {
     ('kds_cli_runs', 'run_replay.safe'): OF_THE_SCHEDULE,
     ('kds_cli_runs', 'run_replay.served'): OF_THE_SCHEDULE,
     ('kds_cli_runs', 'run_replay.handed'): OF_THE_SCHEDULE,
+    ('kcl_live', 'run_worker.kept'): STAYS,
+    ('kcl_live', 'run_worker.made'): STAYS,
+    ('kcl_worker', 'Worker::*.made'): STAYS,
+    ('kcl_worker', 'Worker::*.maker'): STAYS,
+    ('kcl_consumer', 'Consumer::*.made'): STAYS,
+    ('kcl_consumer', 'Consumer::*.processor'): STAYS,
+    ('kds_turn', 'Hall::*.kept'): STAYS,
 }
 # How many further clauses of a crate's contracts no edit of the gate breaks. Each number may only fall.
 OPEN = {}
@@ -102,7 +128,7 @@ def functions(crate):
             if impl:
                 owner = impl[3] or impl[2] + (impl[1] or '')
             if head and not (now and len(head[1]) > len(margin)):
-                now, margin = Function(file, owner if head[1] else None, head[3], bool(head[2]), number), head[1]
+                now, margin = Function(file, owner if head[1] else None, head[3], head[2] == 'pub ', number), head[1]
                 found.append(now)
             if now:
                 now.last, clause = number, None if now.in_body else CLAUSE.match(line)
@@ -126,7 +152,8 @@ def function_of_proof(crate, folder):
     """The function whose proof this folder has: proofs/FILE/TYPE/NAME, without the type where it is of none."""
     *_, owner, name = ['', *folder.split('/')]
     named = [it for it in functions(crate) if it.name == name]
-    return next((it for it in [*(it for it in named if it.owner == owner), *(it for it in named if not it.owner), *named]), None)
+    of_type, free = [it for it in named if it.owner == owner], [it for it in named if not it.owner]
+    return next(iter([*of_type, *free, *named]), None)
 
 
 @functools.cache
@@ -201,7 +228,7 @@ def stored():
 
 
 def gate_edits():
-    """Each edit that the gate tries to its file, crates in the order of crates.txt. An edit of several files stands with its first."""
+    """Each edit that the gate tries to its file, or its first one, crates in the order of crates.txt."""
     found = {}
     for line in (ROOT / 'crates.txt').read_text().splitlines():
         crate = line.split(':')[0]
@@ -222,7 +249,7 @@ def compare(tally, log):
             had = table.get((crate, edit), [])
             for goal in goals:
                 has = ', '.join(had) or 'no line of it'
-                tally.holds(is_among(goal, had), f'{crate}/{edit} is refused by {goal}, and .ci/refusals.txt has {has}: '
+                tally.holds(is_among(goal, had), f'{crate}/{edit}: {goal} refuses it, and .ci/refusals.txt has {has}: '
                             'run .ci/clauses.py --write with this log, and then ./dev names --write')
 
 
@@ -255,8 +282,8 @@ def contracts():
 
 
 def breaking(crate, path, clause, only):
-    """The edits of the gate that break this clause: in the function itself, or in one that it calls, by a clause of the
-    same name or one that THROUGH names. If the contract has one clause only, each clause of a called function counts."""
+    """The edits of the gate that break this clause: in the function itself, or in one that it calls, by a clause of
+    the same name or one that THROUGH names. If the contract has one clause only, each clause of a called one counts."""
     known, through = reached(crate, path), THROUGH.get((crate, f'{path}.{clause}'), [])
     for (of, edit), goals in stored().items():
         if of != crate:
@@ -267,6 +294,11 @@ def breaking(crate, path, clause, only):
                 if broken == clause or goal in through or (only and function != path):
                     yield edit
                     break
+
+
+def reason(crate, clause):
+    """The reason that LEFT gives for this clause, if any."""
+    return next((why for (of, name), why in LEFT.items() if of == crate and fnmatch.fnmatchcase(clause, name)), None)
 
 
 def clauses():
@@ -280,19 +312,19 @@ def page():
     yield '| Function | Clause | Broken by |'
     yield '|---|---|---|'
     for crate, path, clause, edits in clauses():
-        reason = LEFT.get((crate, f'{path}.{clause}'), 'no edit of the gate')
+        why = reason(crate, f'{path}.{clause}') or 'no edit of the gate'
         name = '(it has no name)' if clause == 'ensures' else f'`{clause}`'
-        yield f'| `{crate}`: `{path}` | {name} | {", ".join(f"`{it}`" for it in edits) or reason} |'
+        yield f'| `{crate}`: `{path}` | {name} | {", ".join(f"`{it}`" for it in edits) or why} |'
 
 
 def open_clauses():
     return [f'{crate}: {path}.{clause}' for crate, path, clause, edits in clauses()
-            if not edits and (crate, f'{path}.{clause}') not in LEFT]
+            if not edits and not reason(crate, f'{path}.{clause}')]
 
 
 def check(tally):
-    """Each edit of the gate has its line in the table, and no other edit has one. An edit breaks each clause of the public
-    contracts, but for those of LEFT and as many as OPEN says."""
+    """Each edit of the gate has its line in the table, and no other edit has one. An edit breaks each clause of the
+    public contracts, but for those of LEFT and as many as OPEN says."""
     table, edits = stored(), gate_edits()
     lacking = [f'{crate}/{edit}' for crate, edit in edits if (crate, edit) not in table]
     tally.holds(not lacking, f'.ci/refusals.txt has no line of {len(lacking)} edits ({", ".join(lacking[:3])}, ..): '
@@ -301,20 +333,20 @@ def check(tally):
     tally.holds(not gone, f'.ci/refusals.txt has lines of edits that the gate does not try: {", ".join(gone)}')
     known = {(crate, f'{path}.{clause}'): edits for crate, path, clause, edits in clauses()}
     for key in (*LEFT, *THROUGH):
-        tally.holds(key in known, f'.ci/clauses.py names {key[1]} of {key[0]}, which is no clause of its contracts')
+        tally.holds(key in known or '*' in key[1], f'.ci/clauses.py names {key[1]} of {key[0]}, which is no clause of its contracts')
     for key in LEFT:
-        tally.holds(not known.get(key), f'LEFT in .ci/clauses.py has {key[1]} of {key[0]}, which {known.get(key)} breaks')
+        tally.holds(not known.get(key), f'LEFT in .ci/clauses.py has {key[1]} of {key[0]}: {known.get(key)} break it')
     if not lacking:
         for crate, _ in CONTRACTS:
             now, allowed = sum(it.startswith(f'{crate}: ') for it in open_clauses()), OPEN.get(crate, 0)
-            says = f'clauses of {crate} that no edit of the gate breaks (.ci/clauses.py open): {now} now, {allowed} allowed'
+            says = f'clauses of {crate} that no edit breaks (.ci/clauses.py open): {now} now, {allowed} allowed'
             tally.holds(now <= allowed, f'{says}: write an edit for each new one, or give the reason in LEFT there')
             tally.holds(now >= allowed, f'{says}: set OPEN in .ci/clauses.py to {now}, so that it can only fall')
 
 
 def main():
     words = asked(__doc__, '.ci/clauses.py LOG | --write LOG.. | page | open',
-                  lambda words: len(words) == 1 and not words[0].startswith('-') or len(words) > 1 and words[0] == '--write')
+                  lambda words: words and (len(words) > 1) == (words[0] == '--write') == words[0].startswith('-'))
     if words == ['page']:
         print('\n'.join(page()))
     elif words == ['open']:
