@@ -31,7 +31,7 @@ TOLD = re.compile(r'^rt: must-fail (\w+)/(\S+?)\.edit: refused, as it must be(.*
 TOLD_ALL = re.compile(r'^(\w+)/(\S+): goal: (.*)$')
 # a goal of the function's own, at a place of the code; and one whose answer in a proof file is wrong
 AT_CODE = re.compile(r'(?:note: )?(?:\./)?(src/[^:\s]+):(\d+):\d+: (.*)$')
-AT_PROOF = re.compile(r'(?:note: )?(?:\./)?(proofs/\S+?)(?:/Answers)?\.antt:\d+:\d+: (?:error|note): `([^`]+)`')
+AT_PROOF = re.compile(r'(?:note: )?(?:\./)?(proofs/\S+?)((?:/Answers)?\.antt):(\d+):\d+: (?:error|note): `([^`]+)`')
 
 # The public contracts whose clauses the page lists: the crate, and its functions. `OWNER::*` stands for all public
 # methods of a type, and `*` for all public functions.
@@ -59,6 +59,8 @@ THROUGH = {
     ('kds_cli_runs', 'run.sound'): ['write_rest.bits', 'record_schedule.sound', 'run_replay.sound'],
     ('kds_cli_runs', 'run.usage'): ['perform_words.usage'],
     ('kds_cli_runs', 'run_replay.sound'): ['write_rest.bits', 'record_schedule.sound'],
+    ('kcl_audit', 'run_audit.safe'): ['tell_end.told', 'end_audit.told'],
+    ('kcl_audit', 'run_audit.legal'): ['tell_end.told', 'end_audit.told'],
     ('kcl_live', 'run_worker.served'): ['drive.ok', 'drive.idle'],
     ('kcl_live', 'run_worker.served_so_far'): ['drive.err'],
     ('kcl_worker', 'Worker::next.next'): [
@@ -75,7 +77,7 @@ THROUGH = {
     ],
     ('kcl_consumer', 'Consumer::absorb.given'): ['last_after.ensures'],
     ('kcl_world', 'WorldMachine::apply.answered'): [
-        'lease_answer.ensures', 'read.ensures', 'read.answered', 'answer.answered', 'answer.ensures',
+        'answer.leads', 'lease_answer.leads', 'read.leads', 'read.ensures',
     ],
 }
 # A clause that no edit of the gate breaks, and why. A `*` stands for any method.
@@ -174,6 +176,13 @@ def reached(crate, path):
 
 # ---- what refuses an edit
 
+def answered(crate, file, line, names):
+    """The end of a goal's name, where the answers of all clauses are one record: by the field that stands at this line."""
+    lines = (ROOT / 'crates' / crate / file).read_text().splitlines()[:line]
+    fields = [found[1] for found in (re.match(r'\s+(\w+) = ', it) for it in lines) if found and found[1] in names]
+    return f'-clause-{fields[-1]}' if fields else ''
+
+
 def goal_of(crate, text):
     """The goal that a line of the prover names, as .ci/refusals.txt writes it."""
     if 'only by a limit of the prover' in text:
@@ -186,9 +195,11 @@ def goal_of(crate, text):
             return f'{function.path}:..' if function else '?'
         goal = named[1] + ('' if named[2] else '..')
     elif proof:
-        function, goal = function_of_proof(crate, proof[1][len('proofs/'):]), proof[2]
-        if not function:
+        function, goal = function_of_proof(crate, proof[1][len('proofs/'):]), proof[4]
+        if not function or not proof[2].startswith('/'):
             return f'{proof[1]}:{goal}'
+        if goal == 'returns' and len(function.clauses) > 1:
+            goal += answered(crate, proof[1] + proof[2], int(proof[3]), function.clauses)
     else:
         return '?'
     path = function.path if function else code[1]
@@ -290,8 +301,11 @@ def breaking(crate, path, clause, only):
             continue
         for goal in goals:
             function, dot, broken = goal.rpartition('.')
+            if goal in through:
+                yield edit
+                break
             if dot and '>' not in goal and ':' not in function.replace('::', '') and function in known:
-                if broken == clause or goal in through or (only and function != path):
+                if broken == clause or (only and function != path):
                     yield edit
                     break
 
@@ -333,7 +347,7 @@ def check(tally):
     tally.holds(not gone, f'.ci/refusals.txt has lines of edits that the gate does not try: {", ".join(gone)}')
     known = {(crate, f'{path}.{clause}'): edits for crate, path, clause, edits in clauses()}
     for key in (*LEFT, *THROUGH):
-        tally.holds(key in known or '*' in key[1], f'.ci/clauses.py names {key[1]} of {key[0]}, which is no clause of its contracts')
+        tally.holds(key in known or '*' in key[1], f'.ci/clauses.py names {key[1]} of {key[0]}, which is no clause there')
     for key in LEFT:
         tally.holds(not known.get(key), f'LEFT in .ci/clauses.py has {key[1]} of {key[0]}: {known.get(key)} break it')
     if not lacking:

@@ -20,6 +20,7 @@ import sys
 import clauses
 import idle
 import shown
+import together
 import wrap
 from checks import ROOT, Tally, asked
 from drill import drilled
@@ -517,6 +518,15 @@ def check_idle(tally):
         tally.holds(False, f'{where}: nothing names {name}')
 
 
+def check_edits(tally):
+    """Each text that an edit replaces stands once in its file."""
+    for folder in ('must-fail', 'more-edits'):
+        for path in sorted(ROOT.glob(f'crates/*/{folder}/*.edit')):
+            _, changes = together.read(path)
+            stands = changes and together.applied(path.parts[-3], changes, {}) is not None
+            tally.holds(stands, f'{path.relative_to(ROOT)}: what it replaces does not stand once in its file')
+
+
 def check_turns(tally):
     """No page has a turn of phrase of TURNS, and comments of the code have as many as TURNED says."""
     pages = [*PAGES, ROOT / 'CHANGELOG.md', ROOT / 'kds', ROOT / 'dev', *sorted((ROOT / 'help').iterdir())]
@@ -652,6 +662,7 @@ def main():
     check_policy(tally, ROOT / 'viewer' / 'journal.html', write)
     check_rules(tally)
     check_width(tally)
+    check_edits(tally)
     check_idle(tally)
     check_turns(tally)
     check_shared(tally)
