@@ -51,6 +51,12 @@ CONTRACTS = [
 ]
 # An implementation of a trait's method must meet the trait's clauses: the implementation, and where the trait stands.
 TRAITS = {('kcl_world', 'WorldMachine::apply'): ('kds_defs', 'src/machine.rt', 'apply')}
+# What is read, answered and written for one connection; and how its bytes end.
+ENDED = ['serve.ended', 'exchange.goes_on', 'exchange.ended', 'read_next.ends', 'read_piece.ends', 'read_large_piece.ends']
+SERVED = [
+    *ENDED, 'exchange.waits', 'make_turn.goes_on', 'serve_next.goes_on', 'flush.written', 'flush.stands', 'write_early.goes_on',
+    'write_early.ended', 'read_next.grows', 'read_piece.grows', 'read_large_piece.grows',
+]
 # A clause of a contract that follows from a clause of another name: the clause, and those that it follows from.
 THROUGH = {
     ('kds_cli_runs', 'run.ended'): [
@@ -59,6 +65,11 @@ THROUGH = {
     ('kds_cli_runs', 'run.sound'): ['write_rest.bits', 'record_schedule.sound', 'run_replay.sound'],
     ('kds_cli_runs', 'run.usage'): ['perform_words.usage'],
     ('kds_cli_runs', 'run_replay.sound'): ['write_rest.bits', 'record_schedule.sound'],
+    ('kds_server', 'serve_lone.served'): [*SERVED, 'AloneTurner::turn.made'],
+    ('kds_server', 'serve_lone.complete'): ENDED,
+    ('kds_server', 'serve_pass.served'): [*SERVED, 'HostedTurner::turn.made'],
+    ('kds_server', 'serve_pass.complete'): ENDED,
+    ('kds_server', 'serve_pass.seen'): ['HostedTurner::turn.made', 'HostedTurner::turn.kept'],
     ('kcl_audit', 'run_audit.safe'): ['tell_end.told', 'end_audit.told'],
     ('kcl_audit', 'run_audit.legal'): ['tell_end.told', 'end_audit.told'],
     ('kcl_live', 'run_worker.served'): ['drive.ok', 'drive.idle'],
@@ -82,6 +93,7 @@ THROUGH = {
 }
 # A clause that no edit of the gate breaks, and why. A `*` stands for any method.
 STAYS = 'it says what stays the same, and no line that stands there writes it'
+FIELD = 'it returns a field, and no other field has the type of this one'
 OF_THE_SCHEDULE = 'the clause speaks of the input alone: it is a law of the definitions, which no body breaks'
 LEFT = {
     ('kds_cli_runs', 'run.safe'): OF_THE_SCHEDULE,
@@ -94,6 +106,15 @@ LEFT = {
     ('kcl_live', 'run_worker.made'): STAYS,
     ('kcl_worker', 'Worker::*.made'): STAYS,
     ('kcl_worker', 'Worker::*.maker'): STAYS,
+    ('kcl_worker', 'Worker::call.waiting'): STAYS,
+    ('kcl_worker', 'Worker::name.ensures'): FIELD,
+    ('kcl_worker', 'Worker::held.ensures'): FIELD,
+    ('kcl_worker', 'Worker::retired.ensures'): FIELD,
+    ('kcl_consumer', 'Consumer::key.ensures'): FIELD,
+    ('kcl_consumer', 'Consumer::tenure.ensures'): FIELD,
+    ('kcl_consumer', 'Consumer::last_given.ensures'): FIELD,
+    ('kcl_consumer', 'Consumer::into_processor.ensures'): FIELD,
+    ('kcl_consumer', 'Consumer::lose.given'): STAYS,
     ('kcl_consumer', 'Consumer::*.made'): STAYS,
     ('kcl_consumer', 'Consumer::*.processor'): STAYS,
     ('kds_turn', 'Hall::*.kept'): STAYS,
