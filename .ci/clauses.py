@@ -52,10 +52,12 @@ CONTRACTS = [
 # An implementation of a trait's method must meet the trait's clauses: the implementation, and where the trait stands.
 TRAITS = {('kcl_world', 'WorldMachine::apply'): ('kds_defs', 'src/machine.rt', 'apply')}
 # What is read, answered and written for one connection; and how its bytes end.
-ENDED = ['serve.ended', 'exchange.goes_on', 'exchange.ended', 'read_next.ends', 'read_piece.ends', 'read_large_piece.ends']
+ENDED = [
+    'serve.ended', 'exchange.goes_on', 'exchange.ended', 'read_next.ends', 'read_piece.ends', 'read_large_piece.ends',
+]
 SERVED = [
-    *ENDED, 'exchange.waits', 'make_turn.goes_on', 'serve_next.goes_on', 'flush.written', 'flush.stands', 'write_early.goes_on',
-    'write_early.ended', 'read_next.grows', 'read_piece.grows', 'read_large_piece.grows',
+    *ENDED, 'exchange.waits', 'make_turn.goes_on', 'serve_next.goes_on', 'flush.written', 'flush.stands',
+    'write_early.goes_on', 'write_early.ended', 'read_next.grows', 'read_piece.grows', 'read_large_piece.grows',
 ]
 # A clause of a contract that follows from a clause of another name: the clause, and those that it follows from.
 THROUGH = {
@@ -198,7 +200,7 @@ def reached(crate, path):
 # ---- what refuses an edit
 
 def answered(crate, file, line, names):
-    """The end of a goal's name, where the answers of all clauses are one record: by the field that stands at this line."""
+    """The end of a goal's name, if the answers of all clauses are one record: by the field that stands at this line."""
     lines = (ROOT / 'crates' / crate / file).read_text().splitlines()[:line]
     fields = [found[1] for found in (re.match(r'\s+(\w+) = ', it) for it in lines) if found and found[1] in names]
     return f'-clause-{fields[-1]}' if fields else ''
@@ -368,7 +370,7 @@ def check(tally):
     tally.holds(not gone, f'.ci/refusals.txt has lines of edits that the gate does not try: {", ".join(gone)}')
     known = {(crate, f'{path}.{clause}'): edits for crate, path, clause, edits in clauses()}
     for key in (*LEFT, *THROUGH):
-        tally.holds(key in known or '*' in key[1], f'.ci/clauses.py names {key[1]} of {key[0]}, which is no clause there')
+        tally.holds(key in known or '*' in key[1], f'.ci/clauses.py has {key[1]} of {key[0]}, which is no clause')
     for key in LEFT:
         tally.holds(not known.get(key), f'LEFT in .ci/clauses.py has {key[1]} of {key[0]}: {known.get(key)} break it')
     if not lacking:

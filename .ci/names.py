@@ -1,7 +1,8 @@
 #!/usr/bin/env python3
 """What the documents state is so: each name, place, link and count, each output that is stored among the examples, the parts that
 scripts make, and the lists of files for each kind of change. And the rules of the code hold that CONTRIBUTING.md gives in numbers. It needs
-no built program. Which edit of the gate breaks which clause it reads from .ci/refusals.txt: `.ci/clauses.py --write LOG` writes that file from a log of the gate.
+no built program. Which edit of the gate breaks which clause stands in .ci/refusals.txt. `.ci/clauses.py --write LOG`
+writes that file from a log of the gate.
 
     ./dev names            checks, and counts what passed and what failed
     ./dev names --write    first writes the parts that scripts make (between `<!-- begin SCRIPT -->` and `<!-- end -->`), the counts, and the sums
