@@ -84,9 +84,9 @@ THROUGH = {
         'after_renewal.leaves', 'after_renewal.processors', 'after_consumer.held', 'after_consumer.consumers',
         'write_held.ensures', 'tenancy_of.ensures', 'taken_of.ensures', 'add_taken.held', 'add_taken.consumers',
     ],
-    ('kcl_consumer', 'Consumer::absorb.phase'): [
-        'after_giving.phase', 'after_marking.phase', 'after_opening.phase', 'after_ending.phase', 'after_reading.phase',
-        'stage_after_give.phase', 'Ahead::front_stage.phase', 'Ahead::pop_first.ensures', 'Ahead::is_filled.ensures',
+    ('kcl_consumer', 'Consumer::absorb.stage'): [
+        'after_giving.stage', 'after_marking.stage', 'after_opening.stage', 'after_ending.stage', 'after_reading.stage',
+        'stage_after_give.stage', 'Ahead::front_stage.stage', 'Ahead::pop_first.ensures', 'Ahead::is_filled.ensures',
     ],
     ('kcl_consumer', 'Consumer::absorb.given'): ['last_after.ensures'],
     ('kcl_world', 'WorldMachine::apply.answered'): [
