@@ -1,5 +1,5 @@
 -- A worker as callers see it, and the record that it stands for.
-use Rattle.std.specs.Prelude.{ℕ, ◌≡◌, Bool, not, ◌&&◌, List, [], ◌∷◌, ◌++◌, Option, Some, Result}
+use Rattle.std.specs.Prelude.{ℕ, ◌≡◌, Bool, not, ◌&&◌, List, [], ◌∷◌, ◌++◌, Option, Some, None, Result}
 use Rattle.std.specs.List.{list_any, AllByRecursion}
 use Rattle.std.specs.Option.{option_map}
 use Rattle.kds_base.specs.declared.lease_key.ShardRef.{ShardRef}
@@ -33,6 +33,17 @@ pub record WorkerStanding (P F : Type 0) : Type 0 where
   pub consumers : List (Standing P)
   pub retired : List (Retirement P)
   pub maker : F
+
+-- `new` is the worker `old` after a call: its name, its settings and its maker are the same.
+pub record IsSameWorker {P F : Type 0} (new old : WorkerStanding P F) : Type 0 where
+  pub made : new.made ≡ old.made
+  pub maker : new.maker ≡ old.maker
+
+-- `new` is the worker `old` after a call, and awaits no answer.
+pub record IsFreed {P F : Type 0} (new old : WorkerStanding P F) : Type 0 where
+  pub made : new.made ≡ old.made
+  pub maker : new.maker ≡ old.maker
+  pub free : new.waiting ≡ None
 
 -- The worker after its consumers that are over were retired.
 abbrev pub settled_in : {P F : Type 0} → WorkerStanding P F → WorkerStanding P F

@@ -8,7 +8,7 @@ pub loop-due-preserved : goal.loop-due-preserved
 loop-due-preserved g c =
     let inv = c.loop-due.invariant in
     record {
-      made = c.in-Ok.ensures.made ∙ inv.made;
+      made = c.in-Ok.ensures.same.made ∙ inv.made;
       free = c.in-Ok.ensures.waiting ∙ inv.free;
       called = λ past s.
           let r = inv.called past s in
@@ -21,5 +21,5 @@ returns-in-Err-clause-left g c = λ past s.
     let inv = c.loop-due.invariant in
     let r = inv.called past s in
     due_again g.P.Processor.stands_for c.loop-due.worker c.call-called.new.self (with_calls r.0 past)
-    c.in-Err.ensures.made r.1 (c.in-Err.ensures.err (with_calls r.0 past) r.1)
+    c.in-Err.ensures.same.made r.1 (c.in-Err.ensures.err (with_calls r.0 past) r.1)
     (is_some_of (due_in c.loop-due.worker.consumers) c.due.result _ (sym c.due.ensures) c.in-Some.is)

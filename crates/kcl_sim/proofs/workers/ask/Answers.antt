@@ -8,4 +8,4 @@ returns-then-idle-clause-is c = λ e s. sym (idle_command c.args.worker.now e c.
 pub returns-else-idle-clause-is : goal.returns-else-idle-clause-is
 returns-else-idle-clause-is c = λ e s.
     sym (next_command c.args.worker.now c.next.new.self e c.args.now c.next.result (sym c.if-idle.ensures)
-    c.next.ensures.made c.next.ensures.maker c.next.ensures.next s).0
+    c.next.ensures.same.made c.next.ensures.same.maker c.next.ensures.next s).0

@@ -7,7 +7,8 @@ loop-worker-preserved c = (
   c.in_ok-call.ensures.waiting ∙ c.loop-worker.invariant.0,
   λ e s.
       let p = c.loop-worker.invariant.1 e s in
-      called_on c.loop-worker.worker c.call.new.self e p.0 c.in_ok-call.ensures.made c.in_ok-call.ensures.maker
+      called_on c.loop-worker.worker c.call.new.self e p.0 c.in_ok-call.ensures.same.made
+      c.in_ok-call.ensures.same.maker
       c.in_ok-call.ensures.ok p.1 p.2,
 )
 
