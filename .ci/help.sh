@@ -677,6 +677,8 @@ bench/replay puts nosuch
 bench/replay --beside
 bench/replay --beside nosuch
 bench/serve 0
+bench/serve --beside
+bench/serve --beside nosuch
 bench/serve -1
 bench/serve 1 2
 bench/soak 0
