@@ -275,12 +275,13 @@ def is_among(goal, goals):
 
 
 def compare(tally, log):
-    """What a log says of the edits of the gate is what the table has."""
+    """What a log says of the edits of the gate is what the table has. Where the prover met a limit of its own, now or
+    when the table was written, nothing is compared: it meets limits sooner on a slow machine."""
     table, edits = stored(), gate_edits()
     for (crate, edit), (goals, _) in told_by(log).items():
         if (crate, edit) in edits:
             had = table.get((crate, edit), [])
-            for goal in goals:
+            for goal in () if 'limit' in (*goals, *had) else goals:
                 has = ', '.join(had) or 'no line of it'
                 tally.holds(is_among(goal, had), f'{crate}/{edit}: {goal} refuses it, and .ci/refusals.txt has {has}: '
                             'run .ci/clauses.py --write with this log, and then ./dev names --write')
