@@ -3,7 +3,11 @@
 both are put to, their shards are closed by a split or a merge, two days go by, and puts of a byte follow, one stream after the other, since a turn
 drops what is trimmed in one shard of one stream. No record is put into a closed shard, so nothing but these turns lets its records go. The most
 memory that the program took in five rounds is at most a little above that of one. A program that drops nothing, or that of one stream
-or of one shard alone, takes some megabytes more with each round."""
+or of one shard alone, takes some megabytes more with each round.
+
+And little room is taken in advance. It counts though nothing touches it: what is compared is the most addresses
+that the program had. A read of one record takes no room for all records of its shard, and a PutRecords of 500 takes
+about as much as ten of 50."""
 import base64
 import contextlib
 import itertools
@@ -20,6 +24,7 @@ PUTS = 40  # of a stream in a round: 4 MB
 TURNS = 200
 DAY = 86_400_000
 ROOM = 4_000_000  # half of the payloads of a round
+BATCHES = 1_048  # of 250 records: just below 2^18, so that the log of the shard hardly has room that isn't used
 
 
 def shard(number):
@@ -47,10 +52,18 @@ def schedule(rounds):
         yield from (put(at + DAY + 1, 'st'[place % 2], 'eA==', 'a') for place in range(TURNS))
 
 
-def most(rounds):
-    """The most memory that a replay of so many rounds took, in bytes. The system tells it while the program stands: what it keeps of a program that
-    ended counts what this script had taken itself."""
-    lines = list(schedule(rounds))
+def puts(batches, records):
+    """PutRecords of small records into a shard with a reader."""
+    items = ','.join(['{"PartitionKey":"a","Data":""}'] * records)
+    yield '1000 api CreateStream {"StreamName":"s","ShardCount":1}'
+    yield from ('1000 raw 1 make 1/0', '1000 raw 1 take 1/0 0 w1', '1000 raw 1 open 1')
+    yield from [f'1000 api PutRecords {{"StreamName":"s","Records":[{items}]}}'] * batches
+
+
+def most(name, schedule, kind):
+    """The most memory (VmHWM) or addresses (VmPeak) that a replay of these lines took, in bytes. The system tells it
+    while the program stands: what it keeps of a program that ended counts what this script had taken itself."""
+    lines = list(schedule)
     replay = subprocess.Popen([KDS, 'replay'], stdin=subprocess.PIPE, stdout=subprocess.PIPE)
     limit = threading.Timer(SECONDS, replay.kill)
     limit.daemon = True
@@ -64,10 +77,10 @@ def most(rounds):
         replay.stdin.close()
     answers += replay.stdout
     limit.cancel()
-    refused = [answer for answer in answers if not answer.startswith(b'200')]
+    refused = [answer for answer in answers if not answer.startswith((b'200', b'ok'))]
     if replay.wait() != 0 or len(answers) != len(lines) or refused:
-        fail(f'{rounds} rounds: status {replay.returncode}, {len(answers)} answers of {len(lines)}, refused: {refused[:1]}')
-    return int(re.search(r'^VmHWM:\s*(\d+) kB$', status, re.M).group(1)) * 1024
+        fail(f'{name}: status {replay.returncode}, {len(answers)} answers of {len(lines)}, refused: {refused[:1]}')
+    return int(re.search(rf'^{kind}:\s*(\d+) kB$', status, re.M).group(1)) * 1024
 
 
 def put_all(to, lines):
@@ -83,10 +96,15 @@ def main():
     global KDS  # the program to be checked
     asked(__doc__, '.ci/memory.py')
     KDS = program()
-    one, five = most(1), most(5)
-    told = f'{one:,} bytes at most in one round, {five:,} in five'
     tally = Tally()
+    one, five = (most(f'{rounds} rounds', schedule(rounds), 'VmHWM') for rounds in (1, 5))
+    told = f'{one:,} bytes at most in one round, {five:,} in five'
     tally.holds(five <= one + ROOM, f'what is trimmed leaves the memory: {told}')
+    full = list(puts(BATCHES, 250))
+    read = most('puts and a read', [*full, '1000 raw 1 read 1 0 1'], 'VmPeak') - most('puts', full, 'VmPeak')
+    tally.holds(read <= ROOM, f'a read of one record takes room for one: {read:,} bytes of addresses more')
+    batch = most('a batch of 500', puts(1, 500), 'VmPeak') - most('batches of 50', puts(10, 50), 'VmPeak')
+    tally.holds(batch <= ROOM, f'a PutRecords takes room for its records: {batch:,} bytes of addresses more')
     return tally.end(f'{told}: ')
 
 
