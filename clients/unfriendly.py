@@ -334,6 +334,16 @@ class Places(unittest.TestCase):
             ended.set()
             sending.join()
 
+    def test_what_a_closed_one_still_sends(self):
+        """It is dropped: no reset tells the client, before it has sent all, that nobody reads it."""
+        self.serve(1)
+        connection, = self.clients(1)
+        connection.sendall(request('ListStreams', b'{}', close=True))
+        self.assertEqual([status for status, _ in responses(connection, 1)], [200])
+        for _ in range(5):
+            time.sleep(0.02)
+            connection.sendall(b'x')
+
     def test_no_thread_can_be_made(self):
         """Where the system has no room for a thread's stack, the thread that accepts serves, and then accepts again."""
         self.serve(3)
