@@ -107,6 +107,7 @@ LEFT = {
     ('kcl_live', 'run_worker.kept'): STAYS,
     ('kcl_live', 'run_worker.made'): STAYS,
     ('kcl_worker', 'Worker::*.same'): STAYS,
+    ('kcl_worker', 'Worker::absorb.made'): STAYS,
     ('kcl_worker', 'Worker::call.waiting'): STAYS,
     ('kcl_worker', 'Worker::name.ensures'): FIELD,
     ('kcl_worker', 'Worker::held.ensures'): FIELD,
