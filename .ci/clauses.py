@@ -19,6 +19,7 @@ edit that is refused only because its proof names what the edit took away, or wh
 `?`."""
 import fnmatch
 import functools
+import os
 import re
 import sys
 
@@ -382,9 +383,15 @@ def check(tally):
             tally.holds(now >= allowed, f'{says}: set OPEN in .ci/clauses.py to {now}, so that it can only fall')
 
 
+def are_words(words):
+    logs = words[1:] if words[:1] == ['--write'] else words
+    if words in (['page'], ['open']):
+        return True
+    return bool(logs) and (logs is not words or len(logs) == 1) and all(map(os.path.isfile, logs))
+
+
 def main():
-    words = asked(__doc__, '.ci/clauses.py LOG | --write LOG.. | page | open',
-                  lambda words: words and (len(words) > 1) == (words[0] == '--write') == words[0].startswith('-'))
+    words = asked(__doc__, '.ci/clauses.py LOG | --write LOG.. | page | open, and a LOG is a file', are_words)
     if words == ['page']:
         print('\n'.join(page()))
     elif words == ['open']:
