@@ -123,7 +123,10 @@ LEFT = {
     ('kds_turn', 'Hall::*.kept'): STAYS,
 }
 # How many further clauses of a crate's contracts no edit of the gate breaks. Each number may only fall.
-OPEN = {}
+OPEN = {
+    'kds_cli_runs': 15, 'kcl_audit': 4, 'kds_server': 12, 'kcl_live': 8, 'kds_turn': 17, 'kcl_world': 4,
+    'kcl_worker': 21, 'kcl_consumer': 15, 'kcl_laws': 4,
+}
 
 
 # ---- the code: functions, their clauses and what they call
@@ -321,6 +324,8 @@ def breaking(crate, path, clause, only):
     """The edits of the gate that break this clause: in the function itself, or in one that it calls, by a clause of
     the same name or one that THROUGH names. If the contract has one clause only, each clause of a called one counts."""
     known, through = reached(crate, path), THROUGH.get((crate, f'{path}.{clause}'), [])
+    # a clause of another function by the same name says something else, if LEFT has this one
+    lone = reason(crate, f'{path}.{clause}')
     for (of, edit), goals in stored().items():
         if of != crate:
             continue
@@ -330,7 +335,7 @@ def breaking(crate, path, clause, only):
                 yield edit
                 break
             if dot and '>' not in goal and ':' not in function.replace('::', '') and function in known:
-                if broken == clause or (only and function != path):
+                if (broken == clause and (function == path or not lone)) or (only and function != path):
                     yield edit
                     break
 
