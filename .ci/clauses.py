@@ -10,7 +10,8 @@ only the first goal of an edit, and `./dev edits` tells all of them.
                                    `./dev edits` more than one of `rt ci`. Then run ./dev names --write
     .ci/clauses.py page            prints the table of docs/wrong-bodies.md: the clauses of the public contracts, and
                                    the edits that break each
-    .ci/clauses.py open            prints the clauses that no edit of the gate breaks, and for which LEFT has no reason
+    .ci/clauses.py open            prints the clauses that no stored goal is of, and for which LEFT has no reason. An
+                                   edit may break them all the same, if `rt ci` told another goal of it
 
 A goal is written FUNCTION.CLAUSE for a clause that the function ensures (`ensures` if its only clause has no name),
 FUNCTION>CALLED.CLAUSE for a clause that a function called there requires, and FUNCTION:GOAL for any other. If the log
@@ -356,7 +357,7 @@ def page():
     yield '| Function | Clause | Broken by |'
     yield '|---|---|---|'
     for crate, path, clause, edits in clauses():
-        why = reason(crate, f'{path}.{clause}') or 'no edit of the gate'
+        why = reason(crate, f'{path}.{clause}') or 'not told of any edit'
         name = '(it has no name)' if clause == 'ensures' else f'`{clause}`'
         yield f'| `{crate}`: `{path}` | {name} | {", ".join(f"`{it}`" for it in edits) or why} |'
 
