@@ -121,9 +121,10 @@ class Runs(unittest.TestCase):
     @classmethod
     def setUpClass(cls):
         with contextlib.ExitStack() as stack:
-            cls.server = stack.enter_context(serving(members=64))
+            # each has a server of its own: the stand-in counts the open shards of all streams on its server
+            cls.server, cls.other = (stack.enter_context(serving(members=64)) for _ in range(2))
             cls.stand = stack.enter_context(standing(Stand(cls.server.port)))
-            planted = stack.enter_context(standing(Planted(cls.server.port)))
+            planted = stack.enter_context(standing(Planted(cls.other.port)))
             pool = stack.enter_context(concurrent.futures.ThreadPoolExecutor(3))
             cls.as_reference = pool.submit(run, '--endpoint', cls.stand.endpoint)
             cls.faulty = pool.submit(run, '--endpoint', planted.endpoint)
@@ -171,7 +172,7 @@ class Runs(unittest.TestCase):
     def test_nothing_is_left(self):
         for done in (self.as_reference, self.faulty):
             done.result()
-        self.assertEqual([], left(self.server.port))
+        self.assertEqual([[], []], [left(server.port) for server in (self.server, self.other)])
 
 
 class Moto(unittest.TestCase):
