@@ -1,4 +1,4 @@
--- What an audit of bytes says, given what was found along their lines.
+-- The result of an audit of all bytes (`audit_of`), found from the progress along the lines that were taken.
 use Rattle.std.proofs.Common.{◌≡◌, ℕ, Bool, true, false, List, [], ◌∷◌, ◌++◌, refl, sym, ap, ◌∙◌}
 use Rattle.std.proofs.lemmas.List.{append-nil}
 use Rattle.kds_base.proofs.Facts.{apart}
@@ -13,28 +13,32 @@ use Rattle.kcl_audit.specs.Stages.{end_by, is_bad, is_sound}
 
 -- ---- A bad entry
 
--- Once a bad entry was found, nothing that follows changes this.
+-- Once a bad entry was found, no further line changes the progress.
 stays : (n : ℕ) (r : Rule) (texts : List (List ℕ)) → progress_from (found n r) texts ≡ found n r
 stays n r [] = refl
 stays n r (text ∷ texts) = stays n r texts
 
+-- The progress after two lists of lines is the one after the second list, from the progress after the first on.
 pub appended : (p : Progress) (texts rest : List (List ℕ))
     → progress_from p (texts ++ rest) ≡ progress_from (progress_from p texts) rest
 appended p [] rest = refl
 appended p (text ∷ texts) rest = appended (step p text) texts rest
 
+-- If the progress says that a bad entry was found, it has the entry's number and the rule.
 pub bad_is : (p : Progress) → is_bad p ≡ true → (n : ℕ) × (r : Rule) × (p ≡ found n r)
 bad_is (found n r) h = (n, r, refl)
 bad_is _ h = absurd cc
 
+-- It can't be that a bad entry was found and that `is_bad` is false.
 pub is_bad_found : (p : Progress) → ((n : ℕ) × ((r : Rule) × (p ≡ found n r))) → false ≡ is_bad p → ⊥
 is_bad_found p h g = apart (is_bad p) (ap is_bad h.1.1) (sym g)
 
+-- If no bad entry was found, nothing was written along the lines.
 pub unreported : (p : Progress) → is_bad p ≡ false → report p ≡ []
 unreported (found n r) h = absurd cc
 unreported _ h = refl
 
--- A bad entry decides what an audit of all bytes says.
+-- If a bad entry was found along the first lines `texts` of the bytes, it is the result of the audit of all bytes.
 pub found_in : (bytes : List ℕ) (texts rest : List (List ℕ)) (n : ℕ) (r : Rule) → (lined bytes).texts ≡ texts ++ rest
     → progress texts ≡ found n r
     → audit_of bytes ≡ unsound n r
@@ -42,9 +46,10 @@ found_in bytes texts rest n r parts is =
     ap (λ p. finish p (lined bytes).end)
     (ap (progress_from fresh) parts ∙ appended fresh texts rest ∙ ap (λ p. progress_from p rest) is ∙ stays n r rest)
 
--- ---- The end of the lines
+-- ---- The result at the end of the lines
 
--- All lines were taken, and the end of the input decides what the audit says.
+-- If `texts` are all lines of the bytes, the result of the audit follows from the progress after them and from how the
+-- bytes end.
 pub ended : (bytes : List ℕ) (texts rest : List (List ℕ)) (end : End) → (lined bytes).texts ≡ texts ++ rest → rest ≡ []
     → (lined bytes).end ≡ end
     → audit_of bytes ≡ finish (progress texts) end
@@ -52,10 +57,13 @@ ended bytes texts rest end parts none is =
     ap (λ ts. finish (progress ts) (lined bytes).end) (parts ∙ ap (λ r. texts ++ r) none ∙ append-nil texts)
     ∙ ap (finish (progress texts)) is
 
+-- If the result is that every entry is good, it has the number of the entries.
 pub sound_is : (end : AuditEnd) → is_sound end ≡ true → (n : ℕ) × (end ≡ sound n)
 sound_is (sound n) h = (n, refl)
 sound_is _ h = absurd cc
 
+-- If the lines end without the result that every entry is good, and the input isn't too long, then the result is a bad
+-- entry.
 pub unsound_is : (p : Progress) (b : Bool) → is_sound (finish p (end_by b)) ≡ false → (n : ℕ) × (r : Rule)
     × (finish p (end_by b) ≡ unsound n r)
 unsound_is fresh true h = (next 0, rule.Form, refl)

@@ -1,4 +1,4 @@
--- The entries that a text can tell are fit to be judged.
+-- Every entry that a text can have has numbers in the ranges on which the judge relies (`IsFit`).
 use Rattle.std.proofs.Common.{ℕ, ◌+◌, ◌≤◌, Bool, true, false, arith}
 use Rattle.kds_defs.specs.declared.entry.Entry.{Entry}
 use Rattle.kds_defs.specs.declared.entry.Entry.TheVariants as entry
@@ -6,10 +6,13 @@ use Rattle.kds_defs.specs.declared.limits.TheConstants.{RECORD_BYTES}
 use Rattle.kcl_journal.specs.Ranges.{AreSizesBy, IsTellable, is_first}
 use Rattle.kcl_audit_streams.specs.Verdict.{IsFit}
 
+-- If the sizes of a record are in the ranges of the text, the payload and the key are together at most as long as a
+-- record may be. The Bool says which version of the text it is.
 sizes_fit : (b : Bool) (bytes key_bytes : ℕ) → AreSizesBy b bytes key_bytes → bytes + key_bytes ≤ RECORD_BYTES
 sizes_fit true bytes key_bytes h = omega (arith, h.0, h.1)
 sizes_fit false bytes key_bytes h = h.1
 
+-- Every entry that a text in the version `v` can have has numbers in the ranges on which the judge relies.
 pub tellable_fit : (v : ℕ) (what : Entry) → IsTellable v what → IsFit what
 tellable_fit v (entry.Made s name count) h = h.1.1
 tellable_fit v (entry.Put s sh number hash bytes key_bytes) h =

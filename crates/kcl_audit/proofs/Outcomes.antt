@@ -1,4 +1,4 @@
--- What each end of the reading of a text tells of its audit.
+-- What is true of an audit (`TellsAudit`) for each outcome of the reading of its input.
 use Rattle.std.proofs.Common.{◌≡◌, ℕ, true, false, List, [], Option, refl, sym}
 use Rattle.kds_ends.specs.declared.status.Status.{Status}
 use Rattle.kds_ends.specs.declared.status.Status.TheVariants as status
@@ -12,30 +12,34 @@ use Rattle.kcl_audit.specs.Audited.{TellsAudit, TellsEnd}
 use Rattle.kcl_audit.proofs.Ends.{is_bad_found}
 use Rattle.kcl_audit.proofs.Telling.{bad_tells, end_tells, memory_tells, read_tells, write_tells}
 
--- All was written, unless the sink failed or memory ran out.
+-- If neither the sink failed nor memory ran out, all of the output along the lines was written.
 all_of : (o : Outcome) (back : List ℕ) → (o ≡ outcome.Write → ⊥) → (o ≡ outcome.Memory → ⊥) → Unwritten o back
     → back ≡ []
 all_of outcome.Write back w m u = absurd (w refl)
 all_of outcome.Memory back w m u = absurd (m refl)
 all_of _ back w m u = u
 
--- The lines were taken whole, unless memory ran out.
+-- If memory didn't run out, all of the lines `texts` were taken, none in part.
 taken_of : (o : Outcome) (v : TakerValue) (texts rest : List (List ℕ)) → (o ≡ outcome.Memory → ⊥)
     → HasTaken o (Took v) (Broke v) texts rest → Took v texts
 taken_of outcome.Memory v texts rest m t = absurd (m refl)
 taken_of _ v texts rest m t = t
 
 module _ (v : TakerValue) (bytes : List ℕ) (left start mid : Option (List ℕ)) where
+  -- The reading of `bytes` by the audit `v` ended with the outcome `o`. `left` is what the source still has, and the
+  -- sink held `start` before the reading and `mid` after it.
   abbrev Reads : Outcome → Type 0
   Reads o = Told o (Took v) (Broke v) IsOver texts_report bytes left start mid
 
+  -- If the sink failed, what the status Write says is true, whatever the outcome is.
   pub told_write : (o : Outcome) → Reads o → TellsAudit status.Write bytes start mid
   told_write o t = write_tells bytes t.texts t.rest t.front t.back start mid t.parts t.output_is t.written
 
+  -- If memory ran out, what the status Memory says is true, whatever the outcome is.
   pub told_memory : (o : Outcome) → Reads o → TellsAudit status.Memory bytes start mid
   told_memory o t = memory_tells bytes t.texts t.rest t.front t.back start mid t.parts t.output_is t.written
 
-  -- An entry was bad.
+  -- If an entry is bad, and neither the sink failed nor memory ran out, what the status Unsound says is true.
   pub told_bad : (o : Outcome) → (o ≡ outcome.Write → ⊥) → (o ≡ outcome.Memory → ⊥)
       → ((texts : List (List ℕ)) → Took v texts → true ≡ is_bad (progress texts)) → Reads o
       → TellsAudit status.Unsound bytes start mid
@@ -44,17 +48,20 @@ module _ (v : TakerValue) (bytes : List ℕ) (left start mid : Option (List ℕ)
       (all_of o t.back w m t.unwritten)
       (sym (bad t.texts (taken_of o v t.texts t.rest m t.taken)))
 
-  -- No entry was bad.
+  -- In this module, no entry among the lines that were taken is bad.
   module _ (good : (texts : List (List ℕ)) → Took v texts → false ≡ is_bad (progress texts)) where
+    -- If the source failed, what the status Read says is true.
     pub told_read : Reads outcome.Read → TellsAudit status.Read bytes start mid
     told_read t = read_tells bytes t.texts t.rest t.front t.back start mid t.parts t.output_is t.written t.unwritten
         (sym (good t.texts t.taken))
 
-    -- A line is left out only behind a bad entry.
+    -- The audit stops the reading only after a bad entry, so this outcome is impossible here.
     pub told_stopped : (n : ℕ) (s : Status) → Reads (outcome.Stopped n) → TellsAudit s bytes start mid
     told_stopped n s t = absurd (is_bad_found (progress t.texts) t.because.3 (good t.texts t.taken))
 
   module _ (now : Option (List ℕ)) (s : Status) where
+    -- If the input ended after a line feed, and the end of the audit did what the status `s` says (`TellsEnd`), then
+    -- what this status says of the whole audit is true.
     pub told_whole : ((texts : List (List ℕ)) → Took v texts
         → TellsEnd s (finish (progress texts) (end_by false)) (report (progress texts)) mid now)
         → Reads outcome.Whole → TellsAudit s bytes start now
@@ -63,6 +70,8 @@ module _ (v : TakerValue) (bytes : List ℕ) (left start mid : Option (List ℕ)
         t.because.1 t.because.0 s
         (ends t.texts t.taken)
 
+    -- If the input ended inside a line, and the end of the audit did what the status `s` says (`TellsEnd`), then what
+    -- this status says of the whole audit is true.
     pub told_unfinished : (n : ℕ) → ((texts : List (List ℕ)) → Took v texts
         → TellsEnd s (finish (progress texts) (end_by true)) (report (progress texts)) mid now)
         → Reads (outcome.Unfinished n) → TellsAudit s bytes start now

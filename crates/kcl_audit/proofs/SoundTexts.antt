@@ -1,4 +1,4 @@
--- A text whose audit is sound is that of a legal journal.
+-- If the result of an audit is that every entry is good, the bytes are the text of a legal journal.
 use Rattle.std.proofs.Common.{◌≡◌, ℕ, ◌+◌, ◌≤◌, ◌<◌, ◌^◌, Bool, true, false, List, [], ◌∷◌, ◌++◌, length, map, Option}
 use Rattle.std.proofs.Common.{Some, None, refl, sym, ap, subst, arith}
 use Rattle.std.proofs.Common.{◌∙◌, inl, inr}
@@ -28,8 +28,9 @@ use Rattle.kcl_audit.specs.Progress.{line_of, next, progress, progress_from, sou
 use Rattle.kcl_audit.specs.Text.{IsJournal, counted, heading_text, journal_of, with_feed}
 use Rattle.kcl_audit.proofs.Fits.{tellable_fit}
 
--- ---- The whole lines of bytes
+-- ---- Bytes and their lines
 
+-- The lines `ts`, each with a line feed at its end, one after another.
 abbrev lines_text : List (List ℕ) → List ℕ
 lines_text ts = flat_map with_feed ts
 
@@ -37,6 +38,7 @@ by_over : (b : Bool) → (if b then too_long else unfinished) ≡ whole → ⊥
 by_over true h = cc
 by_over false h = cc
 
+-- If the bytes after the last line feed end a line, they are none.
 last_whole : (used : ℕ) (piece : List ℕ) → (last_of used piece).end ≡ whole
     → piece ≡ lines_text (last_of used piece).texts
 last_whole used [] h = refl
@@ -49,6 +51,8 @@ over_whole true piece rest later go h = absurd cc
 over_whole false piece rest later go h =
     ap (λ r. piece ++ 10 ∷ r) (go h) ∙ sym (append_assoc piece (10 ∷ []) (lines_text later.texts))
 
+-- If the bytes end after a line feed, and no length is too great, the bytes are their lines, each with a line feed.
+-- Here for the pieces `ps` of the bytes.
 whole_from : (used : ℕ) (ps : List (List ℕ)) → (lined_from used ps).end ≡ whole
     → join_with_byte 10 ps ≡ lines_text (lined_from used ps).texts
 whole_from used [] h = refl
@@ -58,27 +62,34 @@ whole_from used (piece ∷ another ∷ more) h =
     (lined_from (used + length piece + 1) (another ∷ more)) (
     whole_from (used + length piece + 1) (another ∷ more)) h
 
+-- If the bytes end after a line feed, and no length is too great, the bytes are their lines, each with a line feed.
 pub whole_text : (bytes : List ℕ) → (lined bytes).end ≡ whole → bytes ≡ lines_text (lined bytes).texts
 whole_text bytes h = sym (join_with_byte-slice_split 10 bytes) ∙ whole_from 0 (pieces bytes) h
 
--- ---- How a sound audit ends
+-- ---- The end of an audit that finds every entry good
 
+-- If the result is that all `n` entries are good, the last line was read after them, and the input ended after its line
+-- feed.
 finish_so : (p : Progress) (end : End) (n : ℕ) → finish p end ≡ sound n → (p ≡ closed n) × (end ≡ whole)
 finish_so (closed count) whole n h = grind (arith, h)
 finish_so _ _ n h = absurd (grind (arith, h))
 
+-- After a bad entry, the progress is never `closed`.
 found_stays : (m : ℕ) (r : Rule) (texts : List (List ℕ)) (n : ℕ) → progress_from (found m r) texts ≡ closed n → ⊥
 found_stays m r [] n h = cc
 found_stays m r (t ∷ ts) n h = found_stays m r ts n h
 
+-- If the progress is `closed` and stays so, no further line was read.
 closed_so : (count : ℕ) (texts : List (List ℕ)) (n : ℕ) → progress_from (closed count) texts ≡ closed n
     → (texts ≡ []) × (n ≡ count)
 closed_so count [] n h = let same : count ≡ n = cc in (refl, sym same)
 closed_so count (t ∷ ts) n h = absurd (found_stays (next (next count)) rule.Form ts n h)
 
--- ---- The lines of a sound audit
+-- ---- The lines of an audit that finds every entry good
 
--- The lines are the texts of entries of a legal journal, after those of `log`, and of the last line.
+-- The lines `texts` are those of the entries `entries`, followed by the last line. The journal `log` with these entries
+-- added is legal, and the last line's clock isn't below its clock. `n` is the number of all entries, if `count` came
+-- before these lines.
 record AreSound (v : ℕ) (log : Journal) (count : ℕ) (texts : List (List ℕ)) (n : ℕ) : Type 0 where
   entries : List EntryLine
   end : ℕ
@@ -89,17 +100,21 @@ record AreSound (v : ℕ) (log : Journal) (count : ℕ) (texts : List (List ℕ)
   legal : IsLegal (with_lines (map line_of entries) log)
   order : last_clock (with_lines (map line_of entries) log) ≤ end
 
+-- A journal with lines added one by one has them in reverse order in front.
 pub lines_are : (xs : List Line) (log : Journal) → with_lines xs log ≡ reverse xs ++ log
 lines_are [] log = refl
 lines_are (x ∷ xs) log = lines_are xs (x ∷ log) ∙ sym (append_assoc (reverse xs) (x ∷ []) log)
     ∙ ap (λ ys. ys ++ log) (sym (reverse-append (x ∷ []) xs))
 
+-- In this module, three laws are taken as given: what is read as an entry is the entry's text, what is read as the last
+-- line is its text, and a line with a good verdict is good (`IsGood`).
 module _ (reads : (v : ℕ) (text : List ℕ) (line : EntryLine) → entry_of v text ≡ Some line → IsEntryLine v line
     × (text ≡ entry_spelling v line))
     (end_reads : (text : List ℕ) (clock : ℕ) → end_of text ≡ Some clock → (clock < 2 ^ 62)
     × (text ≡ end_spelling clock))
     (ok : (log : Journal) (c by : ℕ) (what : Entry) → IsFit what → verdict log (entry_line c by what) ≡ Ok tt
     → IsGood log (entry_line c by what)) where
+  -- If the first line is read as the entry `e`, and `AreSound` holds for the lines after it, then it holds for all.
   entry_sound : (v : ℕ) (log : Journal) (count : ℕ) (text : List ℕ) (texts : List (List ℕ)) (n : ℕ) (e : EntryLine)
       (x : Verdict) → entry_of v text ≡ Some e
       → verdict log (line_of e) ≡ x → IsLegal log
@@ -128,6 +143,8 @@ module _ (reads : (v : ℕ) (text : List ℕ) (line : EntryLine) → entry_of v 
       }
   entry_sound v log count text texts n e (Err r) read is legal later h = absurd (found_stays (next count) r texts n h)
 
+  -- If the first line is read as the last line of a journal, `AreSound` holds for it. `b` says whether its clock is
+  -- below that of the journal, which can't be.
   end_sound : (v : ℕ) (log : Journal) (count : ℕ) (text : List ℕ) (texts : List (List ℕ)) (n c : ℕ) (b : Bool)
       → end_of text ≡ Some c
       → nat_lt c (last_clock log) ≡ b → IsLegal log
@@ -148,6 +165,7 @@ module _ (reads : (v : ℕ) (text : List ℕ) (line : EntryLine) → entry_of v 
         order = not_past (last_clock log) c is;
       }
 
+  -- If the first line isn't an entry, it is the last line of a journal, and `AreSound` holds.
   other_sound : (v : ℕ) (log : Journal) (count : ℕ) (text : List ℕ) (texts : List (List ℕ)) (n : ℕ) (o : Option ℕ)
       → end_of text ≡ o → IsLegal log
       → progress_from (after_other log count o) texts ≡ closed n → AreSound v log count (text ∷ texts) n
@@ -155,6 +173,8 @@ module _ (reads : (v : ℕ) (text : List ℕ) (line : EntryLine) → entry_of v 
   other_sound v log count text texts n (Some c) read legal h =
       end_sound v log count text texts n c (nat_lt c (last_clock log)) read refl legal h
 
+  -- If `AreSound` holds for the lines after the first one, from the progress after it on, then it holds for all. `o` is
+  -- the entry as which the first line is read, if it is one.
   line_sound : (v : ℕ) (log : Journal) (count : ℕ) (text : List ℕ) (texts : List (List ℕ)) (n : ℕ)
       (o : Option EntryLine) → entry_of v text ≡ o → IsLegal log
       → ((log' : Journal) (count' : ℕ) → IsLegal log' → progress_from (going v log' count') texts ≡ closed n
@@ -165,6 +185,8 @@ module _ (reads : (v : ℕ) (text : List ℕ) (line : EntryLine) → entry_of v 
   line_sound v log count text texts n (Some e) read legal later h =
       entry_sound v log count text texts n e (verdict log (line_of e)) read refl legal later h
 
+  -- If the progress after the lines `texts` is `closed`, from that of the legal journal `log` on, then `AreSound` holds
+  -- for them.
   sound_from : (v : ℕ) (log : Journal) (count : ℕ) (texts : List (List ℕ)) (n : ℕ) → IsLegal log
       → progress_from (going v log count) texts ≡ closed n
       → AreSound v log count texts n
@@ -172,7 +194,8 @@ module _ (reads : (v : ℕ) (text : List ℕ) (line : EntryLine) → entry_of v 
   sound_from v log count (t ∷ ts) n legal h = line_sound v log count t ts n (entry_of v t) refl legal
       (λ log' count' legal' h'. sound_from v log' count' ts n legal' h') h
 
-  -- The bytes are the text of a journal in the version `v`.
+  -- If `AreSound` holds for the lines `texts`, and the bytes are the heading of the version `v` and these lines, then
+  -- the bytes are the text of a legal journal.
   journal_by : (bytes : List ℕ) (n v : ℕ) (texts : List (List ℕ)) → IsVersion v → AreSound v [] 0 texts n
       → bytes ≡ heading_text v ++ lines_text texts
       → IsJournal bytes n
@@ -193,6 +216,8 @@ module _ (reads : (v : ℕ) (text : List ℕ) (line : EntryLine) → entry_of v 
         many = s.many;
       }
 
+  -- If the first line is the heading or not (`b`), and the audit goes on to the last line from there, then the bytes
+  -- are the text of a legal journal.
   first_by : (bytes : List ℕ) (n : ℕ) (t : List ℕ) (ts : List (List ℕ)) (b : Bool) → bytes_eq t heading ≡ b
       → bytes ≡ lines_text (t ∷ ts)
       → progress_from (if b then going VERSION [] 0 else step (going FIRST_VERSION [] 0) t) ts ≡ closed n
@@ -203,11 +228,14 @@ module _ (reads : (v : ℕ) (text : List ℕ) (line : EntryLine) → entry_of v 
   first_by bytes n t ts false is text h =
       journal_by bytes n FIRST_VERSION (t ∷ ts) (inl refl) (sound_from FIRST_VERSION [] 0 (t ∷ ts) n tt h) text
 
+  -- If the progress after all lines of the bytes is `closed`, the bytes are the text of a legal journal.
   fresh_by : (bytes : List ℕ) (n : ℕ) (texts : List (List ℕ)) → bytes ≡ lines_text texts
       → progress_from fresh texts ≡ closed n → IsJournal bytes n
   fresh_by bytes n [] text h = absurd cc
   fresh_by bytes n (t ∷ ts) text h = first_by bytes n t ts (bytes_eq t heading) refl text h
 
+  -- If the result of an audit of the bytes is that all `n` entries are good, then the bytes are the text of a legal
+  -- journal with `n` entries.
   pub sound_text : (bytes : List ℕ) (n : ℕ) → audit_of bytes ≡ sound n → IsJournal bytes n
   sound_text bytes n h =
       let so = finish_so (progress (lined bytes).texts) (lined bytes).end n h in

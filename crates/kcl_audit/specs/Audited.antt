@@ -1,4 +1,4 @@
--- What the end of an audit tells of the bytes of a text and of the output.
+-- What each status at the end of an audit says: about the bytes of the text, and about what was written to the sink.
 use Rattle.std.specs.Prelude.{◌≡◌, ◌⊎◌, ℕ, List, [], ◌++◌, true, false}
 use Rattle.std.specs.declared.option.Option.{Option}
 use Rattle.std.specs.Io.KnownBytes.{Appends}
@@ -11,10 +11,10 @@ use Rattle.kcl_audit.specs.Progress.{AuditEnd, audit_of, over, sound, unsound}
 use Rattle.kcl_audit.specs.Text.{IsJournal, audit_text, journal_of}
 use Rattle.kcl_audit.specs.Stages.{is_sound}
 
--- What an audit of `bytes` that ended with this status has done. The sink held `held` before, and holds `now`. With
--- Done every entry is sound. With Unsound one entry is bad, and it was written which one, and why. With TooLong a
--- length is too great. With Read nothing was written, and with Write and Memory a prefix of what an audit of these
--- bytes says.
+-- What is true if an audit of `bytes` ended with the status. The sink held `held` before the audit, and holds `now`
+-- after it. Done: every entry is good. Unsound: an entry is bad. In both cases, the whole text of the audit was
+-- written. TooLong: a line or the input is too long, and nothing was written. Read: the source failed, and nothing was
+-- written. Write, Memory: a prefix of the audit's text was written. An audit ends with no other status.
 abbrev pub TellsAudit : Status → List ℕ → Option (List ℕ) → Option (List ℕ) → Type 0
 TellsAudit Done bytes held now = (n : ℕ) × (audit_of bytes ≡ sound n) × Appends held now (audit_text (audit_of bytes))
 TellsAudit Unsound bytes held now = (n : ℕ) × (r : Rule) × (audit_of bytes ≡ unsound n r)
@@ -25,7 +25,7 @@ TellsAudit Write bytes held now = AppendsFront held now (audit_text (audit_of by
 TellsAudit Memory bytes held now = AppendsFront held now (audit_text (audit_of bytes))
 TellsAudit _ bytes held now = ⊥
 
--- An audit may end with the status.
+-- The status is one with which an audit may end.
 abbrev pub IsAuditStatus : Status → Type 0
 IsAuditStatus Done = Unit {0}
 IsAuditStatus Unsound = Unit {0}
@@ -35,29 +35,30 @@ IsAuditStatus Write = Unit {0}
 IsAuditStatus Memory = Unit {0}
 IsAuditStatus _ = ⊥
 
--- The status for each way in which an audit ends.
+-- The status of an audit that ends as `audit_of` says, if no source and no sink fails and memory doesn't run out.
 abbrev pub audit_status : AuditEnd → Status
 audit_status (sound n) = Done
 audit_status (unsound n r) = Unsound
 audit_status over = TooLong
 
--- The status is that of an audit of the bytes, or Memory.
+-- The status is the one that the audit of the bytes has by its result (`audit_status`), or it is Memory.
 abbrev pub AuditsAs : List ℕ → Status → Type 0
 AuditsAs bytes status = (status ≡ audit_status (audit_of bytes)) ⊎ (status ≡ Memory)
 
--- The bytes are the text of a legal journal with its last line, and the state after this journal is safe at the clock
--- of that line.
+-- The bytes are the text of a legal journal with its last line, and the state after this journal is safe (`IsSafe`) at
+-- the clock of the last line.
 pub record IsSafely (bytes : List ℕ) : Type 0 where
   pub count : ℕ
   pub journal : IsJournal bytes count
   pub safe : IsSafe (journal_of journal.entries) journal.end
 
--- The bytes aren't the text of a legal journal with its last line.
+-- The bytes aren't the text of a legal journal with its last line, whatever the number of entries.
 abbrev pub IsNoJournal : List ℕ → Type 0
 IsNoJournal bytes = (n : ℕ) → IsJournal bytes n → ⊥
 
--- The lines have ended and the audit ends with `end`, after `along` was written along the lines. With Done and Unsound
--- the rest of what the audit says was written, with Write a prefix of this rest, and with Memory nothing.
+-- What is written after the lines of an audit whose result is `end`, if `along` was written along the lines. With Done
+-- and Unsound, which say whether every entry is good, it is the rest of the audit's text. With Write it is a prefix of
+-- this rest, and with Memory nothing.
 abbrev pub TellsEnd : Status → AuditEnd → List ℕ → Option (List ℕ) → Option (List ℕ) → Type 0
 TellsEnd Done end along held now =
     (is_sound end ≡ true) × ((added : List ℕ) × (along ++ added ≡ audit_text end) × Appends held now added)

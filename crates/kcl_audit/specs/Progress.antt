@@ -1,4 +1,4 @@
--- How far an audit is along the lines of a journal's text.
+-- An audit goes over the lines of a journal's text one by one: its progress after each line, and its result at the end.
 use Rattle.std.specs.Prelude.{ℕ, ◌+◌, ◌-◌, ◌^◌, min, if◌then◌else◌, List, [], ◌∷◌, Option, Some, None, Ok, Err}
 use Rattle.std.specs.Str.{bytes_eq}
 use Rattle.kcl_laws.specs.ShownLines.{entry_line}
@@ -12,84 +12,99 @@ use Rattle.kcl_audit_streams.specs.Verdict.{Verdict, end_verdict, verdict}
 use Rattle.kds_lines.specs.Lines as input
 use Rattle.kds_lines.specs.Lines.{End, lined}
 
--- The line of the journal that an entry line tells.
+-- The line of a journal that has the clock, the actor and the entry of `e`. The text shows no keys and payloads, so
+-- zero bytes stand for them.
 abbrev pub line_of : EntryLine → Line
 line_of e = entry_line e.clock e.by e.what
 
--- `fresh`: no line has come yet. `going`: the version of the text, the journal of its entries, and their number.
--- `closed`: the last line came after this many entries. `found`: the entry with this number breaks this rule.
+-- How far an audit is. `fresh`: no line was read yet. `going`: the version of the text, the journal of the entries so
+-- far, all of them good, and their number. `closed`: the last line was read, after this number of entries. `found`: the
+-- entry with this number is bad, and breaks this rule.
 pub data Progress : Type 0 where
   fresh : Progress
   going : ℕ → Journal → ℕ → Progress
   closed : ℕ → Progress
   found : ℕ → Rule → Progress
 
--- The number after `n`. A count that has reached the greatest `u64` stays there.
+-- The number after `n`. It never exceeds the greatest `u64`, at which a count stays.
 abbrev pub next : ℕ → ℕ
 next n = min (n + 1) (2 ^ 64 - 1)
 
--- The progress after an entry, given its verdict.
+-- The progress after the entry `e`, on which the verdict is the last argument. `count` entries came before it, those of
+-- the journal `log`.
 abbrev pub after_entry : ℕ → Journal → ℕ → EntryLine → Verdict → Progress
 after_entry version log count e (Ok u) = going version (line_of e ∷ log) (next count)
 after_entry version log count e (Err r) = found (next count) r
 
--- The progress after the last line, given its verdict.
+-- The progress after the last line of the text, on which the verdict is the last argument, and before which `count`
+-- entries came.
 abbrev pub after_end : ℕ → Verdict → Progress
 after_end count (Ok u) = closed count
 after_end count (Err r) = found (next count) r
 
--- The progress after a line that isn't an entry.
+-- The progress after a line that isn't an entry. It must be the last line of the text, and then its clock is given.
+-- Otherwise (None), it breaks the rule `Form`.
 abbrev pub after_other : Journal → ℕ → Option ℕ → Progress
 after_other log count None = found (next count) rule.Form
 after_other log count (Some clock) = after_end count (end_verdict log clock)
 
+-- The progress after the line `text`, before which the `count` entries of the journal `log` came. The last argument is
+-- the entry as which the line is read, if it is one.
 abbrev pub after_line : ℕ → Journal → ℕ → List ℕ → Option EntryLine → Progress
 after_line version log count text (Some e) = after_entry version log count e (verdict log (line_of e))
 after_line version log count text None = after_other log count (end_of text)
 
--- The progress after a line that follows the `count` entries of the journal `log`.
+-- The progress after the line `text` of a text in the version `version`. The `count` entries of the journal `log` came
+-- before it.
 abbrev pub line_step : ℕ → Journal → ℕ → List ℕ → Progress
 line_step version log count text = after_line version log count text (entry_of version text)
 
--- The first line may be the heading of the second version. A line behind the last line counts as the entry after it.
+-- The progress after one more line, `text`. The first line of a text may be the heading of the second version. A line
+-- after the last line (`closed`) breaks the rule `Form`, and counts as an entry after the last line, which counts as
+-- one too. After a bad entry, nothing changes.
 abbrev pub step : Progress → List ℕ → Progress
 step fresh text = if bytes_eq text heading then going VERSION [] 0 else line_step FIRST_VERSION [] 0 text
 step (going version log count) text = line_step version log count text
 step (closed count) text = found (next (next count)) rule.Form
 step (found n r) text = found n r
 
+-- The progress after the lines `texts`, if it was `p` before them.
 abbrev pub progress_from : Progress → List (List ℕ) → Progress
 progress_from p [] = p
 progress_from p (text ∷ texts) = progress_from (step p text) texts
 
+-- The progress of an audit after the lines `texts`, which are the first ones of the text.
 abbrev pub progress : List (List ℕ) → Progress
 progress texts = progress_from fresh texts
 
--- ---- How an audit ends
+-- ---- The result of an audit
 
--- `sound`: every entry is good. `unsound`: the entry with this number breaks this rule. `over`: a length is too great.
+-- The result of an audit. `sound`: every entry is good, and this is their number. `unsound`: the entry with this number
+-- is the first bad one, and breaks this rule. `over`: a line or the input is too long, and no entry before is bad.
 pub data AuditEnd : Type 0 where
   sound : ℕ → AuditEnd
   unsound : ℕ → Rule → AuditEnd
   over : AuditEnd
 
--- The end of the audit if the text stops after `count` entries without its last line.
+-- The result if the input ends after `count` entries without the last line of a journal. `end` says how it ends.
 abbrev pub without_end : ℕ → End → AuditEnd
 without_end count input.too_long = over
 without_end count _ = unsound (next count) rule.Form
 
--- The end of the audit if nothing, or a line without its line feed, follows the last line.
+-- The result if the input ends after the last line of a journal, before which `count` entries came. The text must end
+-- with this line and its line feed, as `whole` says. Otherwise something follows, or the input is too long.
 abbrev pub behind_end : ℕ → End → AuditEnd
 behind_end count input.whole = sound count
 behind_end count input.unfinished = unsound (next (next count)) rule.Form
 behind_end count input.too_long = over
 
+-- The result of an audit with the progress `p`, if the input ends as `end` says.
 abbrev pub finish : Progress → End → AuditEnd
 finish fresh end = without_end 0 end
 finish (going version log count) end = without_end count end
 finish (closed count) end = behind_end count end
 finish (found n r) end = unsound n r
 
--- What the audit of the bytes says.
+-- The result of an audit of the bytes.
 abbrev pub audit_of : List ℕ → AuditEnd
 audit_of bytes = finish (progress (lined bytes).texts) (lined bytes).end

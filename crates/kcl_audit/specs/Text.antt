@@ -12,28 +12,32 @@ use Rattle.kcl_audit_streams.specs.declared.rule.Rule.{Rule}
 use Rattle.kcl_audit_streams.specs.declared.rule.Rule.TheVariants as rule
 use Rattle.kcl_audit.specs.Progress.{AuditEnd, sound, unsound, over, Progress, found, line_of, next}
 
--- The journal of the entries `es`, of which the first is the oldest.
+-- The journal of the entries `es`, of which the first is the oldest. A journal has the newest line first.
 abbrev pub journal_of : List EntryLine → Journal
 journal_of es = reverse (map line_of es)
 
+-- The text with a line feed at its end.
 abbrev pub with_feed : List ℕ → List ℕ
 with_feed text = text ++ 10 ∷ []
 
--- The first line of a text, which only the second version has.
+-- The first line of a text in the version `version`, with its line feed. The first version has no such line, so it is
+-- empty.
 abbrev pub heading_text : ℕ → List ℕ
 heading_text version = if is_first version then [] else with_feed heading
 
--- The text of the entries, followed by the last line.
+-- The text of a journal in the version `version`: the heading, if this version has one, then a line for each of the
+-- entries `es`, and then the last line, which has the clock `end`.
 abbrev pub entries_text : ℕ → List EntryLine → ℕ → List ℕ
 entries_text version es end =
     heading_text version ++ (flat_map (λ e. with_feed (entry_spelling version e)) es ++ with_feed (end_spelling end))
 
--- `n` and the number of the entries together, as a `u64` counts them.
+-- The number `n` plus the number of the entries, counted up to the greatest `u64`.
 abbrev pub counted : ℕ → List EntryLine → ℕ
 counted n [] = n
 counted n (e ∷ es) = counted (next n) es
 
--- The bytes are the text of a legal journal of `count` entries, with its last line.
+-- The bytes are the text of a legal journal in one of the versions, and its last line has a clock that isn't below that
+-- of the newest entry. `count` is the number of the entries, counted up to the greatest `u64`.
 pub record IsJournal (bytes : List ℕ) (count : ℕ) : Type 0 where
   pub version : ℕ
   pub entries : List EntryLine
@@ -46,30 +50,36 @@ pub record IsJournal (bytes : List ℕ) (count : ℕ) : Type 0 where
   pub text : bytes ≡ entries_text version entries end
   pub many : count ≡ counted 0 entries
 
--- ---- What is written
+-- ---- What an audit writes
 
+-- The name of a rule as an audit writes it. For the rule that the machine would refuse a command, it is the name of the
+-- refusal.
 abbrev pub rule_name : Rule → List ℕ
 rule_name rule.Form = codes "Form"
 rule_name rule.Clock = codes "Clock"
 rule_name rule.Entry = codes "Entry"
 rule_name (rule.By r) = refusal_name r
 
--- What is written of a bad entry, with the name of the rule that it breaks.
+-- The report on a bad entry with the number `n`, which breaks the rule with the name `name`, as a line.
 abbrev pub named_text : ℕ → List ℕ → List ℕ
 named_text n name = codes "entry " ++ (decimal n ++ 32 ∷ with_feed name)
 
+-- The report on a bad entry with the number `n`, which breaks the rule `r`, as a line.
 abbrev pub entry_text : ℕ → Rule → List ℕ
 entry_text n r = named_text n (rule_name r)
 
+-- The report that all `n` entries are good, as a line.
 abbrev pub sound_text : ℕ → List ℕ
 sound_text n = codes "sound " ++ with_feed (decimal n)
 
+-- The whole text that an audit with this result writes. If a line or the input is too long, it is empty.
 abbrev pub audit_text : AuditEnd → List ℕ
 audit_text (sound n) = sound_text n
 audit_text (unsound n r) = entry_text n r
 audit_text over = []
 
--- What was written along the lines, which is a report on the first bad entry if one was found.
+-- What an audit with this progress has written along the lines: the report on the first bad entry, if one was found,
+-- and otherwise nothing.
 abbrev pub report : Progress → List ℕ
 report (found n r) = entry_text n r
 report _ = []

@@ -1,4 +1,6 @@
--- The line that a command on leases gives, if it is accepted, and what a judge makes of it.
+-- The verdict on an entry of a lease, and the judge's model after it. A judge gives the entry's command to its own
+-- leases, and compares the line to which the command leads with the entry. A judgement is right (`Judges`) if both the
+-- verdict and the model after it are.
 use Rattle.std.proofs.Common.{◌≡◌, ℕ, ◌+◌, ◌-◌, ◌≤◌, ◌≢◌, length, true, false, List, [], ◌∷◌, Option, Some, None, refl}
 use Rattle.std.proofs.Common.{sym, ap, subst, ◌∙◌, arith}
 use Rattle.std.specs.Prelude.{◌==◌, ◌||◌, is_some, if◌then◌else◌, Result, Ok, Err}
@@ -44,14 +46,15 @@ use Rattle.kcl_audit_streams.specs.Verdict.{Verdict, judged, same_entry, same_or
 use Rattle.kcl_audit_streams.proofs.SameEntries.{same_refl}
 use Rattle.kcl_audit_streams.proofs.StreamTold.{then_refuse}
 
--- The decision is a refusal, or gives just the line.
+-- The decision is a refusal, or gives just the line `line`.
 abbrev pub GivesLine : Decision → Line → Type 0
 GivesLine (Refused r) line = Unit {0}
 GivesLine (Accepted lines reply) line = lines ≡ line ∷ []
 
 -- ---- Each command
 
--- The line of a command on leases that gives just one. What other commands give is left open.
+-- The list with the line that the command of a lease adds if it is accepted. For a command that adds no line or no line
+-- known beforehand, it is `lines`.
 abbrev its_lines : Journal → ℕ → ℕ → Command → List Line → List Line
 its_lines log c by (command.MakeLease key from) lines =
     plain_line c by (entry.LeaseMade key (counting_origin log key from)) ∷ []
@@ -65,6 +68,7 @@ its_lines log c by (command.Mark t counter to) lines = plain_line c by (entry.Ma
 its_lines log c by (command.CutLease key counter) lines = plain_line c by (entry.LeaseCut key counter) ∷ []
 its_lines log c by _ lines = lines
 
+-- If a command is accepted, the lines that it adds are `its_lines`.
 one_line : (log : Journal) (c by : ℕ) (what : Command) (lines : List Line) (r : Reply)
     → Outcome log c by what lines (Ok r)
     → lines ≡ its_lines log c by what lines
@@ -74,6 +78,7 @@ one_line log c by _ _ _ (Adds _ _ _ (Takes key counter owner r there same fits))
 one_line log c by _ _ _ (Answers _ _ (Surveys keys rows)) = refl
 one_line log c by _ _ _ _ = refl
 
+-- If the line that a command adds is `line`, the decision on the command is a refusal or gives just this line.
 gives_line : (log : Journal) (c by : ℕ) (what : Command) (line : Line)
     → ((lines : List Line) → its_lines log c by what lines ≡ line ∷ [])
     → GivesLine (decide log c by what) line
@@ -85,7 +90,7 @@ gives_line log c by what line is = of_decision (decide log c by what) refl
 
 -- ---- The judgement
 
--- The verdict on another entry than the one that the command gives.
+-- If the decision gives the line `line`, whose entry is another one than `what`, then `what` breaks the rule `Entry`.
 pub judged_other : (d : Decision) (line : Line) (what : Entry) (r : Reply) → GivesLine d line → answer_of d ≡ Ok r
     → same_entry line.what what ≡ false → Err rule.Entry ≡ judged d what
 judged_other (Refused q) line what r h is differ = absurd cc
@@ -93,27 +98,33 @@ judged_other (Accepted lines reply) line what r h is differ =
     let one : judged (Accepted (line ∷ []) reply) what ≡ Err rule.Entry = rw differ refl in
     sym (ap (λ (ls : List Line). judged (Accepted ls reply) what) h ∙ one)
 
--- The verdict on an entry whose command is refused.
+-- If the decision is the refusal `r`, the entry breaks the rule that its command is refused with `r`.
 pub judged_refused : (d : Decision) (what : Entry) (r : Refusal) → Err r ≡ answer_of d → Err (rule.By r) ≡ judged d what
 judged_refused (Refused q) what r is = let same : r ≡ q = cc in ap (λ (x : Refusal). Err (rule.By x)) same
 judged_refused (Accepted lines reply) what r is = absurd cc
 
+-- If `n` is at least 1, taking 1 from it and adding 1 gives `n`.
 pub one_less : (n : ℕ) → 1 ≤ n → n - 1 + 1 ≡ n
 one_less n h = omega arith
 
+-- If a decision is a refusal or gives just the line `line`, then the verdict by its answer (`answer_verdict`) is the
+-- verdict on the entry of `line`.
 pub judged_line : (d : Decision) (line : Line) → GivesLine d line → answer_verdict (answer_of d) ≡ judged d line.what
 judged_line (Refused r) line h = refl
 judged_line (Accepted lines reply) line h =
     let one : judged (Accepted (line ∷ []) reply) line.what ≡ Ok tt = rw (same_refl line.what) refl in
     sym (ap (λ (ls : List Line). judged (Accepted ls reply) line.what) h ∙ one)
 
+-- The decision is a refusal or gives just the line `line`. If the model `new` represents the journal with the lines of
+-- the decision, then `new` is right after the verdict on `line` (`After`).
 pub after_line : (d : Decision) (line : Line) (new : LeasesValue) (log : Journal) → GivesLine d line
     → Stands new (with_lines (lines_of d) log) → After (answer_verdict (answer_of d)) new line log
 after_line (Refused r) line new log h st = (tt, st)
 after_line (Accepted lines reply) line new log h st =
     (subst (λ (ls : List Line). Stands new (with_lines ls log)) h st, tt)
 
--- The verdict on an entry that states all that its command gives, and what stands after it.
+-- The command `what` led from `old` to `new` with the answer `answer`. If it gives just `line` whenever it is accepted,
+-- then the verdict by the answer is right, and so is the model `new` after it.
 pub leads_entry : (old new : LeasesValue) (by : ℕ) (what : Command) (answer : Result Reply Refusal) (line : Line)
     (log : Journal) → Leads old new by what answer
     → GivesLine (decide log old.shards.clock by what) line → Stands old log
@@ -127,8 +138,10 @@ leads_entry old new by what answer line log leads h st =
           (after_line d line new log h l.1),
     )
 
--- ---- Each entry that states all that its command gives
+-- ---- Each entry to which its command leads whenever it is accepted
 
+-- The lemma `leads_entry` for the entry `e`: if the command of `e` is `cmd`, and it gives just the line of `e` whenever
+-- it is accepted, the judgement by its answer is right (`Judges`).
 entry_by : (old new : LeasesValue) (by : ℕ) (cmd : Command) (answer : Result Reply Refusal) (e : Entry) (v : Verdict)
     (log : Journal) → v ≡ answer_verdict answer → Leads old new by cmd answer → Stands old log
     → told log (entry_line old.shards.clock by e) e ≡ decide log old.shards.clock by cmd
@@ -139,9 +152,12 @@ entry_by old new by cmd answer e v log is leads st tells gives =
     let line = entry_line old.shards.clock by e in
     (is ∙ l.0 ∙ ap (λ d. judged d e) (sym tells), subst (λ (w : Verdict). After w new line log) (sym is) l.1)
 
+-- In this module, the leases were `old`, and are `new` after a command with the answer `answer`. `v` is the verdict by
+-- this answer (`answer_verdict`).
 module _ (old new : LeasesValue) (by : ℕ) (answer : Result Reply Refusal) (v : Verdict) (is : v ≡ answer_verdict answer)
     (log : Journal) (st : Stands old log) where
-  -- The entry is judged by its command, which gives the entry's line.
+  -- If the command `cmd` leads to just the entry `e` whenever it is accepted, then the judgement of `e` by the answer
+  -- to `cmd` is right.
   given_by : (cmd : Command) (e : Entry) → Leads old new by cmd answer
       → told log (entry_line old.shards.clock by e) e ≡ decide log old.shards.clock by cmd
       → ((lines : List Line) → its_lines log old.shards.clock by cmd lines ≡ entry_line old.shards.clock by e ∷ [])
@@ -150,44 +166,56 @@ module _ (old new : LeasesValue) (by : ℕ) (answer : Result Reply Refusal) (v :
       entry_by old new by cmd answer e v log is leads st tells
       (gives_line log old.shards.clock by cmd (entry_line old.shards.clock by e) gives)
 
+  -- If the entry has the origin that the machine would give the row, the judgement by the answer to MakeLease is right.
   pub made_entry : (key : ShardRef) (from : Origin) → counting_origin log key from ≡ from
       → Leads old new by (command.MakeLease key from) answer → Judges old new by (entry.LeaseMade key from) v log
   made_entry key from counts leads = given_by (command.MakeLease key from) (entry.LeaseMade key from) leads refl
       (λ ls. ap (λ (o : Origin). plain_line old.shards.clock by (entry.LeaseMade key o) ∷ []) counts)
 
+  -- If the entry's counter is at least 1, the judgement of a renewal by the answer to Renew is right.
   pub renewed_entry : (t n : ℕ) → 1 ≤ n → Leads old new by (command.Renew t (n - 1)) answer
       → Judges old new by (entry.Renewed t n) v log
   renewed_entry t n some leads = given_by (command.Renew t (n - 1)) (entry.Renewed t n) leads refl
       (λ ls. ap (λ (m : ℕ). plain_line old.shards.clock by (entry.Renewed t m) ∷ []) (one_less n some))
 
+  -- If the entry's counter is at least 1, the judgement of a freeing by the answer to Free is right.
   pub freed_entry : (t n : ℕ) → 1 ≤ n → Leads old new by (command.Free t (n - 1)) answer
       → Judges old new by (entry.Freed t n) v log
   freed_entry t n some leads = given_by (command.Free t (n - 1)) (entry.Freed t n) leads refl
       (λ ls. ap (λ (m : ℕ). plain_line old.shards.clock by (entry.Freed t m) ∷ []) (one_less n some))
 
+  -- The judgement of an opening by the answer to OpenShard is right.
   pub opened_entry : (t : ℕ) → Leads old new by (command.OpenShard t) answer → Judges old new by (entry.Opened t) v log
   opened_entry t leads = given_by (command.OpenShard t) (entry.Opened t) leads refl (λ ls. refl)
 
+  -- The judgement of a give by the answer to Give is right.
   pub given_entry : (t : ℕ) → Leads old new by (command.Give t) answer → Judges old new by (entry.Given t) v log
   given_entry t leads = given_by (command.Give t) (entry.Given t) leads refl (λ ls. refl)
 
+  -- If the entry's counter is at least 1, the judgement of a mark by the answer to Mark is right.
   pub marked_entry : (t n : ℕ) (to : Target) → 1 ≤ n → Leads old new by (command.Mark t (n - 1) to) answer
       → Judges old new by (entry.Marked t n to) v log
   marked_entry t n to some leads = given_by (command.Mark t (n - 1) to) (entry.Marked t n to) leads refl
       (λ ls. ap (λ (m : ℕ). plain_line old.shards.clock by (entry.Marked t m to) ∷ []) (one_less n some))
 
+  -- The judgement of the removal of a row by the answer to CutLease is right.
   pub cut_entry : (key : ShardRef) (n : ℕ) → Leads old new by (command.CutLease key n) answer
       → Judges old new by (entry.LeaseCut key n) v log
   cut_entry key n leads = given_by (command.CutLease key n) (entry.LeaseCut key n) leads refl (λ ls. refl)
 
--- ---- A making, whose origin must be the one that counts
+-- ---- An entry that makes a row: its origin must be the one that the machine would give the row
 
+-- Two entries that make a row of the same key are the same exactly if their origins are.
 same_lease : (key : ShardRef) (a b : Origin) → same_entry (entry.LeaseMade key a) (entry.LeaseMade key b)
     ≡ same_origin a b
 same_lease key a b = rw (key_itself key) refl
 
+-- In this module, the leases represent the journal `log`, and the entry says that the row of the key `key` was made
+-- with the origin `from`.
 module _ (s : Facing) (rs : List Row) (ts : List TenureValue) (by : ℕ) (key : ShardRef) (from : Origin) (log : Journal)
     (st : Stands (leases s rs ts) log) where
+  -- The verdict on the entry follows from whether the shard is listed, whether the key has a row, and whether the
+  -- origin is right (`lease_verdict`).
   made_by : judged (told log (entry_line s.clock by (entry.LeaseMade key from)) (entry.LeaseMade key from))
       (entry.LeaseMade key from)
       ≡ lease_verdict (is_listed_key log s.clock key) (is_some (row log key))
@@ -195,7 +223,7 @@ module _ (s : Facing) (rs : List Row) (ts : List TenureValue) (by : ℕ) (key : 
   made_by = then_refuse _ _ _ _ _
       (then_refuse _ _ _ _ _ (ap agrees (same_lease key (counting_origin log key from) from)))
 
-  -- The shard of the key isn't listed.
+  -- If the key's shard isn't listed, the entry breaks the rule that its command is refused with ShardGone.
   pub made_gone : is_listed_key log s.clock key ≡ false
       → Judges (leases s rs ts) (leases s rs ts) by (entry.LeaseMade key from) (Err (rule.By refusal.ShardGone)) log
   made_gone gone = (
@@ -204,7 +232,8 @@ module _ (s : Facing) (rs : List Row) (ts : List TenureValue) (by : ℕ) (key : 
     (tt, st),
   )
 
-  -- The key has a row.
+  -- If the key's shard is listed and the key has a row already, the entry breaks the rule that its command is refused
+  -- with LeaseThere.
   pub made_there : is_listed_key log s.clock key ≡ true → is_some (row_of rs key) ≡ true
       → Judges (leases s rs ts) (leases s rs ts) by (entry.LeaseMade key from) (Err (rule.By refusal.LeaseThere)) log
   made_there listed there =
@@ -213,7 +242,8 @@ module _ (s : Facing) (rs : List Row) (ts : List TenureValue) (by : ℕ) (key : 
         (tt, st),
       )
 
-  -- Another origin counts.
+  -- If the key's shard is listed and the key has no row, but the machine would give the row another origin, the entry
+  -- breaks the rule `Entry`.
   pub made_other : is_listed_key log s.clock key ≡ true → is_some (row_of rs key) ≡ false
       → same_origin (counting_origin log key from) from ≡ false
       → Judges (leases s rs ts) (leases s rs ts) by (entry.LeaseMade key from) (Err rule.Entry) log
@@ -221,13 +251,15 @@ module _ (s : Facing) (rs : List Row) (ts : List TenureValue) (by : ℕ) (key : 
       let has : is_some (row log key) ≡ false = ap is_some (st.row_is key) ∙ none in
       (sym (made_by ∙ (λ i. lease_verdict (listed i) (has i) (other i))), (tt, st))
 
-  -- The origin that counts, in terms of the rows that the judge keeps.
+  -- For a parent `o`, the rows that the judge keeps say that the parent's row reaches the parent's end exactly if the
+  -- journal says so.
   reaches_is : (o : Option ℕ) → is_live log key.stream ≡ true
       → parent_reaches log rs key.stream o ≡ parent_reaches_end log key.stream o
   reaches_is None live = refl
   reaches_is (Some n) live =
       λ i. row_reaches_end (sym (st.row_is (ref key.stream n)) i) (if live i then shard_at log key.stream n else None)
 
+  -- The origin that the machine would give the row is the one that is computed from the rows that the judge keeps.
   pub counts_is : (y : Shard) → Some y ≡ option_map shown (live_shard log key)
       → counting_from log rs key.stream y from ≡ counting_origin log key from
   counts_is y some =
@@ -238,16 +270,20 @@ module _ (s : Facing) (rs : List Row) (ts : List TenureValue) (by : ℕ) (key : 
       ∙ ap (λ o. if parent_reaches_end log key.stream (parent_of o)
       || parent_reaches_end log key.stream (adjacent_of o) then origin.TrimHorizon else from) (sym of.at)
 
--- ---- A take, whose tenure must be the next
+-- ---- An entry of a take: its tenure must have the next number
 
+-- In this module, the leases represent the journal `log`. The entry says that the worker `owner` took the row of the
+-- key `key`, which began the tenure `t` and raised the counter to `n`.
 module _ (s : Facing) (rs : List Row) (ts : List TenureValue) (by : ℕ) (key : ShardRef) (t n owner : ℕ) (some : 1 ≤ n)
     (log : Journal) (st : Stands (leases s rs ts) log) where
+  -- If the take is accepted, it gives just the line with the next tenure's number.
   its_line : GivesLine (take_lease log s.clock by key (n - 1) owner)
       (plain_line s.clock by (entry.Taken key (taken_count log + 1) n owner))
   its_line = gives_line log s.clock by (command.Take key (n - 1) owner) _
       (λ ls. ap (λ (m : ℕ). plain_line s.clock by (entry.Taken key (taken_count log + 1) m owner) ∷ [])
       (one_less n some))
 
+  -- If the take is refused with `r`, the entry breaks the rule that its command is refused with `r`.
   pub taken_refused : (r : Refusal) → Err r ≡ start_answer (row_of rs key) (n - 1) (length ts == last_number)
       → Judges (leases s rs ts) (leases s rs ts) by (entry.Taken key t n owner) (Err (rule.By r)) log
   taken_refused r h = (
@@ -256,6 +292,8 @@ module _ (s : Facing) (rs : List Row) (ts : List TenureValue) (by : ℕ) (key : 
     (tt, st),
   )
 
+  -- If the take is accepted, but the tenure in the entry doesn't have the next number, the entry breaks the rule
+  -- `Entry`.
   pub taken_other : (start : Checkpoint) → Ok start ≡ start_answer (row_of rs key) (n - 1) (length ts == last_number)
       → t ≢ length ts + 1 → Judges (leases s rs ts) (leases s rs ts) by (entry.Taken key t n owner) (Err rule.Entry) log
   taken_other start h other =
@@ -270,6 +308,7 @@ module _ (s : Facing) (rs : List Row) (ts : List TenureValue) (by : ℕ) (key : 
         (tt, st),
       )
 
+  -- If the tenure in the entry has the next number, the judgement by the answer to Take is right.
   pub taken_entry : (new : LeasesValue) (answer : Result Reply Refusal) (v : Verdict) → v ≡ answer_verdict answer
       → t ≡ length ts + 1 → Leads (leases s rs ts) new by (command.Take key (n - 1) owner) answer
       → Judges (leases s rs ts) new by (entry.Taken key t n owner) v log

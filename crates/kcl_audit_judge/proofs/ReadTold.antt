@@ -1,4 +1,5 @@
--- What the entry of a read tells, in terms of what a judge keeps.
+-- The verdict on an entry of a read, which the judge computes from its model: from the tenure, and from the records of
+-- the shard.
 use Rattle.std.proofs.Common.{◌≡◌, ℕ, ◌-◌, Bool, true, false, List, [], ◌∷◌, map, slice_set, Option, Some, None, refl}
 use Rattle.std.proofs.Common.{sym, ap, subst, ◌∙◌}
 use Rattle.std.specs.Prelude.{◌&&◌, slice_get, Ok, Err, IfSome}
@@ -37,18 +38,24 @@ use Rattle.kcl_audit_streams.proofs.Keys.{live_found, stream_found}
 use Rattle.kcl_audit_streams.proofs.SameEntries.{flag_so, list_so}
 use Rattle.kcl_audit_judge.proofs.LeaseLines.{judged_refused}
 
+-- A tenure of the journal goes on reading where the judge's model of it does.
 reach_same : (o : Option TenureState) → reach_in o ≡ reach_of (option_map kept o)
 reach_same None = refl
 reach_same (Some T) = refl
 
+-- In this module, the model of the journal `log` has the streams `w`, the rows `rs` and the tenures `ts`. The entry
+-- says that the tenure `t` read the records `ns` with the limit `limit`, and whether this ended the shard (`ended`).
+-- `position` is where the tenure goes on reading.
 module _ (w : StreamsValue) (rs : List Row) (ts : List TenureValue) (by t limit position : ℕ) (ended : Bool)
     (ns : List ℕ) (place : position ≡ reach_of (tenure_at ts t))
     (log : Journal) (st : Stands (leases (facing w.clock (Shows w)) rs ts) log) where
+  -- The decision on the entry's command is that on a Read at `position`.
   tells : told log (entry_line w.clock by (entry.Read t limit ended ns)) (entry.Read t limit ended ns)
       ≡ decide log w.clock by (command.Read t position limit)
   tells = ap (λ p. decide log w.clock by (command.Read t p limit)) (reach_same (tenure log t)
       ∙ ap reach_of (st.tenure_is t) ∙ sym place)
 
+  -- If this Read is refused with `r`, the entry breaks the rule that its command is refused with `r`.
   pub read_refused_entry : (r : Refusal)
       → Leads (leases (facing w.clock (Shows w)) rs ts) (leases (facing w.clock (Shows w)) rs ts) by
       (command.Read t position limit) (Err r)
@@ -60,11 +67,13 @@ module _ (w : StreamsValue) (rs : List Row) (ts : List TenureValue) (by t limit 
     (tt, st),
   )
 
+  -- The entry is the same as one with the end `e` and the numbers `ms` exactly if its end and its numbers are these.
   same_read : (e : Bool) (ms : List ℕ) → same_entry (entry.Read t limit e ms) (entry.Read t limit ended ns)
       ≡ (same_flag e ended && same_list ms ns)
   same_read e ms = rw (is_itself t, is_itself limit) refl
 
-  -- If the tenure may read, it reads this batch.
+  -- In this module, the tenure may read. `v` is its stream, `ms` are the sequence numbers of the batch at `position`,
+  -- and `e` says whether the shard ends with this batch.
   module _ (y : Tenure) (reads : Ok y ≡ reader_answer (own_tenure (tenure_at ts t) by) log w.clock position)
       (v : StreamValue) (live : live_at w.streams y.key.stream ≡ Some v)
       (ms : List ℕ) (ms_are : ms
@@ -73,16 +82,20 @@ module _ (w : StreamsValue) (rs : List Row) (ts : List TenureValue) (by t limit 
       (e : Bool) (e_is : e ≡ (is_closed_at (slice_get v.tree y.key.shard)
       && are_none (left_among (floor_in v w.clock) (place_after position ms)
       (records_in v.records y.key.shard)))) where
+    -- `v` is the model of the tenure's stream in the journal.
     shown_stream : IsStream log y.key.stream v
     shown_stream = stream_found w log y.key.stream v st.shows (live_found (stream_at w.streams y.key.stream) v live).0
 
+    -- The tenure's stream is live.
     its_live : v.live ≡ true
     its_live = (live_found (stream_at w.streams y.key.stream) v live).1
 
+    -- `ms` are the sequence numbers of the batch in the journal.
     pub numbers_are : ms ≡ numbers_of (batch log w.clock y.key.stream y.key.shard position limit)
     numbers_are = ms_are ∙ sym
         (batch_is log w.clock y.key.stream y.key.shard position limit v shown_stream its_live st.shows.order)
 
+    -- `e` says whether the shard ends with this batch in the journal.
     pub end_is : e ≡ ends_at log w.clock y.key.stream y.key.shard
         (place_after position (numbers_of (batch log w.clock y.key.stream y.key.shard position limit)))
     end_is =
@@ -91,7 +104,7 @@ module _ (w : StreamsValue) (rs : List Row) (ts : List TenureValue) (by t limit 
         st.shows.order)
         ∙ ap (λ ls. ends_at log w.clock y.key.stream y.key.shard (place_after position ls)) numbers_are
 
-    -- The line that the command gives.
+    -- The Read is accepted, and gives just the line with the numbers `ms` and the end `e`.
     pub gives_line : (r : Reply)
         × (decide log w.clock by (command.Read t position limit)
         ≡ Accepted (plain_line w.clock by (entry.Read t limit e ms) ∷ []) r)
@@ -105,6 +118,7 @@ module _ (w : StreamsValue) (rs : List Row) (ts : List TenureValue) (by t limit 
               ∙ ap (λ ls. Accepted (plain_line w.clock by (entry.Read t limit e ls) ∷ []) g.0) (sym numbers_are),
         )
 
+    -- The entry is good if its end is `e` and its numbers are `ms`. Otherwise it breaks the rule `Entry`.
     pub read_verdict : judged
         (told log (entry_line w.clock by (entry.Read t limit ended ns)) (entry.Read t limit ended ns))
         (entry.Read t limit ended ns) ≡ agrees (same_flag e ended && same_list ms ns)
@@ -112,7 +126,8 @@ module _ (w : StreamsValue) (rs : List Row) (ts : List TenureValue) (by t limit 
         ap (λ d. judged d (entry.Read t limit ended ns)) (tells ∙ gives_line.1)
         ∙ ap agrees (same_read e ms)
 
-    -- The entry has another end, or other numbers.
+    -- If the entry has another end than `e`, or other numbers than `ms`, it breaks the rule `Entry`, and the model
+    -- stays as it is.
     pub read_other : (same_flag e ended && same_list ms ns) ≡ false
         → Judges (leases (facing w.clock (Shows w)) rs ts) (leases (facing w.clock (Shows w)) rs ts) by
         (entry.Read t limit ended ns) (Err rule.Entry) log

@@ -1,4 +1,6 @@
--- The verdict on each entry of a stream, in terms of what a judge keeps, and the streams after a good entry.
+-- The verdict on an entry of a stream is the one that the judge computes from its model of the streams
+-- (`stream_verdict`). After a good entry, the changed model (`streams_after`) represents the journal with the entry's
+-- line.
 use Rattle.std.proofs.Common.{◌≡◌, ◌≢◌, ℕ, zero, suc, ◌+◌, ◌-◌, ◌<◌, ◌≤◌, Bool, true, false, List, [], ◌∷◌, ◌++◌}
 use Rattle.std.proofs.Common.{length, slice_get}
 use Rattle.std.proofs.Common.{Option, Some, None, refl, sym, ap, subst, ◌∙◌, arith}
@@ -27,9 +29,10 @@ use Rattle.kcl_audit_streams.proofs.StreamSteps.{IsLater, made_kept, made_step, 
 use Rattle.kcl_audit_streams.proofs.StreamTold.{gone_told, live_told}
 use Rattle.kcl_audit_judge.proofs.LiveStreams.{full_is, made_told}
 
--- ---- The verdict
+-- ---- The verdict on an entry of a stream
 
--- The verdict on an entry of a stream that may be live.
+-- The verdict on an entry of the stream `o` that doesn't make it is the one that the judge computes from this stream,
+-- if it is live. If it isn't, the entry's command is refused.
 later_told : (w : StreamsValue) (log : Journal) (by : ℕ) (what : Entry) → Shows w log → IsLater what → (o : Option ℕ)
     → stream_of what ≡ o → o ≢ None
     → judged (told log (entry_line w.clock by what) what) what
@@ -51,12 +54,14 @@ later_told w log by what sh later (Some s) is of = found (stream_at w.streams s)
     found None at = gone_told log w.clock by s what later is (stream_none w log s sh at).gone
     found (Some v) at = some v v.live (stream_found w log s v sh at) refl
 
+-- The verdict on an entry of a stream is the one that the judge computes from its model of the streams
+-- (`stream_verdict`).
 pub stream_told : (w : StreamsValue) (log : Journal) (by : ℕ) (what : Entry) → Shows w log → stream_of what ≢ None
     → judged (told log (entry_line w.clock by what) what) what ≡ stream_verdict w.streams w.clock what
 stream_told w log by (entry.Made s name count) sh of = made_told log w.streams sh.all w.clock by s count name
 stream_told w log by what sh of = later_told w log by what sh tt (stream_of what) refl of
 
--- ---- The list of the streams
+-- ---- One changed stream in the list
 
 length-changed : (i : ℕ) (g : StreamValue → StreamValue) (vs : List StreamValue)
     → length (changed_at i g vs) ≡ length vs
@@ -64,16 +69,18 @@ length-changed i g [] = refl
 length-changed zero g (v ∷ vs) = refl
 length-changed (suc i) g (v ∷ vs) = ap suc (length-changed i g vs)
 
+-- In this module, `line` is a line of the stream `s`, whose clock isn't below that of the journal `log`.
 module _ (log : Journal) (line : Line) (s : ℕ) (order : last_clock log ≤ line.clock) (of : stream_of line.what
     ≡ Some s) where
-  -- The streams with greater numbers are as they were.
+  -- The models of streams with greater numbers than `s` are still right after the line.
   above : (n : ℕ) (vs : List StreamValue) → s < n → AreStreams log n vs → AreStreams (line ∷ log) n vs
   above n [] lt h = tt
   above n (v ∷ vs) lt h =
       let apart : s ≢ n = λ e. omega arith in
       (stream_other log line n v order (of_other line.what s n of apart) h.0, above (n + 1) vs (omega arith) h.1)
 
-  -- The stream is changed at its index.
+  -- If `g` changes the model of the stream `s` as the line changes the stream, then the list with this change is right
+  -- after the line. Its first stream has the number `n`.
   changed_streams : (n i : ℕ) (vs : List StreamValue) (v : StreamValue) (g : StreamValue → StreamValue) → s ≡ n + i
       → slice_get vs i ≡ Some v
       → IsStream (line ∷ log) s (g v) → AreStreams log n vs
@@ -94,7 +101,8 @@ module _ (log : Journal) (line : Line) (s : ℕ) (order : last_clock log ≤ lin
         changed_streams (n + 1) i vs v g on is next h.1,
       )
 
-  -- A new stream comes last.
+  -- If the line makes the stream `s`, the list with its model at the end is right after the line. The first stream of
+  -- the list has the number `n`.
   last_stream : (n : ℕ) (vs : List StreamValue) (v : StreamValue) → s ≡ n + length vs → IsStream (line ∷ log) s v
       → AreStreams log n vs
       → AreStreams (line ∷ log) n (vs ++ v ∷ [])
@@ -105,8 +113,10 @@ module _ (log : Journal) (line : Line) (s : ℕ) (order : last_clock log ≤ lin
       let on : s ≡ n + 1 + length vs = omega arith in
       (stream_other log line n u order (of_other line.what s n of apart) h.0, last_stream (n + 1) vs v on next h.1)
 
-  -- ---- All that is shown
+  -- ---- All streams
 
+  -- If `g` changes the model of the stream `s` as the line changes the stream, then the list of all streams with this
+  -- change represents the journal with the line.
   pub shows_changed : (vs : List StreamValue) (f : StreamValue → Verdict) (g : StreamValue
       → StreamValue) (o : IsOf vs s f)
       → made_count (line ∷ log) ≡ made_count log → ShowsAll vs log
@@ -127,6 +137,8 @@ module _ (log : Journal) (line : Line) (s : ℕ) (order : last_clock log ≤ lin
             fresh_other log line 0 sh.none (of_other line.what s 0 of apart));
       }
 
+  -- If the line makes the next stream, the list of all streams with its model at the end represents the journal with
+  -- the line.
   pub shows_made : (vs : List StreamValue) (v : StreamValue) → s ≡ length vs + 1
       → made_count (line ∷ log) ≡ made_count log + 1 → ShowsAll vs log
       → IsStream (line ∷ log) s v → ShowsAll (vs ++ v ∷ []) (line ∷ log)
@@ -145,8 +157,9 @@ module _ (log : Journal) (line : Line) (s : ℕ) (order : last_clock log ≤ lin
             fresh_other log line 0 sh.none (of_other line.what s 0 of apart));
       }
 
--- ---- Each good entry
+-- ---- The model after each good entry
 
+-- The stream that is live and for which the verdict is Ok is the model of the stream with the number `s`.
 its_stream : (vs : List StreamValue) (log : Journal) (s : ℕ) (f : StreamValue → Verdict) (o : IsOf vs s f)
     → ShowsAll vs log → IsStream log s o.value
 its_stream vs log s f o sh =
@@ -154,6 +167,8 @@ its_stream vs log s f o sh =
     let at : 1 + (s - 1) ≡ s = omega arith in
     subst (λ m. IsStream log m o.value) at (stream_get log 1 (s - 1) vs o.value sh.streams o.at)
 
+-- After a good entry of the stream `o` that doesn't make it, the changed list represents the journal with the entry's
+-- line.
 all_later : (vs : List StreamValue) (log : Journal) (d by : ℕ) (what : Entry) → ShowsAll vs log → last_clock log ≤ d
     → IsLater what
     → (o : Option ℕ) → stream_of what ≡ o → o ≢ None → in_its vs o (entry_verdict (lacks_room vs 1) d what) ≡ Ok tt
@@ -166,6 +181,7 @@ all_later vs log d by what sh order later (Some s) is of good =
     (made_kept what (made_count log) later) sh
     (stream_step d by s o.value log (lacks_room vs 1) what later is o.good order (its_stream vs log s f o sh))
 
+-- After a good entry of a stream, the changed list represents the journal with the entry's line.
 all_after : (vs : List StreamValue) (log : Journal) (d by : ℕ) (what : Entry) → ShowsAll vs log → last_clock log ≤ d
     → stream_of what ≢ None
     → stream_verdict vs d what ≡ Ok tt → ShowsAll (streams_after d what vs) (entry_line d by what ∷ log)
@@ -177,7 +193,8 @@ all_after vs log d by (entry.Made s name count) sh order of good =
     (made_step log d by s count name (sh.others s beyond))
 all_after vs log d by what sh order of good = all_later vs log d by what sh order tt (stream_of what) refl of good
 
--- The streams and the clock after a good entry show the journal with its line.
+-- After a good entry of a stream, the model whose streams are changed as `streams_after` says represents the journal
+-- with the entry's line.
 pub shows_after : (old new : StreamsValue) (log : Journal) (by : ℕ) (what : Entry) → Shows old log
     → stream_of what ≢ None
     → stream_verdict old.streams old.clock what ≡ Ok tt

@@ -1,4 +1,4 @@
--- How an entry of a lease is judged.
+-- The verdicts of a judge on entries of leases. A judge checks the entries of a journal one by one.
 use Rattle.std.specs.Prelude.{ℕ, Bool, not, if◌then◌else◌, Option, Some, None, Result, Ok, Err}
 use Rattle.kds_defs.specs.declared.reply.Refusal.{Refusal}
 use Rattle.kds_defs.specs.declared.reply.Refusal.TheVariants as refusal
@@ -7,20 +7,21 @@ use Rattle.kcl_book.specs.Tenures.{TenureValue}
 use Rattle.kcl_audit_streams.specs.Verdict.{Verdict}
 use Rattle.kcl_audit_streams.specs.Judging.{agrees, refused}
 
--- The verdict on an entry that states all that its command gives, from the answer to this command.
+-- The verdict on an entry whose command leads to just this entry whenever it is accepted. `Ok`: the command is
+-- accepted, so the entry is good. `Err`: it is refused.
 abbrev pub answer_verdict : Result Reply Refusal → Verdict
 answer_verdict (Ok reply) = Ok tt
 answer_verdict (Err r) = refused r
 
--- The position where a tenure reads on, if there is a tenure.
+-- The sequence number from which the tenure goes on reading, or 0 if there is no tenure.
 abbrev pub reach_of : Option TenureValue → ℕ
 reach_of None = 0
 reach_of (Some t) = t.reach
 
--- ---- The making of a row
+-- ---- An entry that makes a row
 
--- The verdict on the making of a row. `listed` says whether its shard is listed, `there` whether there is a row, and
--- `counts` whether the origin is the one that counts.
+-- The verdict on an entry that makes a row of the lease table. `listed` says whether the key's shard is listed, `there`
+-- whether the key has a row already, and `counts` whether the entry has the origin that the machine would give the row.
 abbrev pub lease_verdict : Bool → Bool → Bool → Verdict
 lease_verdict listed there counts =
     if not listed then refused refusal.ShardGone else

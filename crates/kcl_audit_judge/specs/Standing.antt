@@ -1,4 +1,5 @@
--- Which journals the rows and the tenures of a judge stand for, beside its streams.
+-- A judge keeps a model of the journal so far: its streams, the rows of its lease table, and its tenures. These
+-- definitions say which journals the model represents, and what a judgement does to it.
 use Rattle.std.specs.Prelude.{ℕ, ◌≡◌, List, ◌∷◌, OnOk, OnErr}
 use Rattle.kds_defs.specs.declared.entry.Entry.{Entry}
 use Rattle.kds_defs.specs.declared.reply.Row.{Row}
@@ -11,28 +12,30 @@ use Rattle.kcl_leases.specs.Standing as holding
 use Rattle.kcl_audit_streams.specs.Verdict.{Verdict, judged}
 use Rattle.kcl_audit_streams.specs.Standing.{Shows, StreamsValue}
 
--- ---- Rows and tenures beside the streams
+-- ---- Rows and tenures with the streams
 
--- The rows `rows` and the tenures `ts`, beside the streams `w`, are those of the journal `log`.
+-- The streams `w`, the rows `rows` and the tenures `ts` represent the journal `log`: they are the ones of this journal.
 abbrev pub HoldBeside : StreamsValue → List Row → List TenureValue → Journal → Type 0
 HoldBeside w rows ts log = holding.Stands (over w.clock (Shows w) rows ts) log
 
--- If `rows` and `ts` are the rows and tenures of a journal, then so are `rows'` and `ts'`.
+-- Each journal that `w`, `rows` and `ts` represent is also represented by `w`, `rows'` and `ts'`.
 abbrev pub Keeps : StreamsValue → List Row → List TenureValue → List Row → List TenureValue → Type 0
 Keeps w rows ts rows' ts' = (log : Journal) → HoldBeside w rows ts log → HoldBeside w rows' ts' log
 
--- After a judgement of a line, `new` stands for the journal with the line if the line is good, and otherwise for the
--- journal as before.
+-- The model `new` is right after a judgement with the verdict `v`: it represents the journal with the line added if the
+-- line is good, and otherwise the journal `log` without it.
 abbrev pub After : Verdict → LeasesValue → Line → Journal → Type 0
 After v new line log = OnOk v (holding.Stands new (line ∷ log)) × OnErr v (holding.Stands new log)
 
--- `v` is the verdict on the entry `what` of the actor `by`, and `new` is what stands after it.
+-- `v` is the right verdict on the entry `what` of the actor `by` after the journal `log`, at the clock of the model
+-- `old`. The model `new` is right after this judgement (`After`).
 abbrev pub Judges : LeasesValue → LeasesValue → ℕ → Entry → Verdict → Journal → Type 0
 Judges old new by what v log =
     (v ≡ judged (told log (entry_line old.shards.clock by what) what) what)
     × After v new (entry_line old.shards.clock by what) log
 
--- `Judges` holds for each journal that has the rows `rows` and the tenures `ts`, beside the streams `w`.
+-- `Judges` holds for each journal that `w`, `rows` and `ts` represent. The model has the rows `rows'` and the tenures
+-- `ts'` after the judgement.
 abbrev pub JudgesBeside : StreamsValue → List Row → List TenureValue → List Row → List TenureValue → ℕ → Entry → Verdict
     → Type 0
 JudgesBeside w rows ts rows' ts' by what v =
@@ -41,19 +44,21 @@ JudgesBeside w rows ts rows' ts' by what v =
 
 -- ---- A judge
 
--- The streams of a judge, the rows of the leases, and the tenures.
+-- A judge as contracts see it: its streams with their clock, its rows and its tenures.
 pub record JudgeValue : Type 0 where
   pub streams : StreamsValue
   pub rows : List Row
   pub tenures : List TenureValue
 
+-- The judge with these streams, rows and tenures.
 abbrev pub judge : StreamsValue → List Row → List TenureValue → JudgeValue
 judge w rows ts = record { streams = w; rows = rows; tenures = ts }
 
--- The judge's streams show the journal, and its rows and tenures are the journal's.
+-- The judge represents the journal: it has the streams, the rows and the tenures of the journal.
 abbrev pub Holds : JudgeValue → Journal → Type 0
 Holds a log = HoldBeside a.streams a.rows a.tenures log
 
--- The judge has the journal's last clock, and `Holds` holds for the journal.
+-- The judge represents the journal (`Holds`), and its clock is that of the journal's newest line, or 0 if there is
+-- none.
 abbrev pub Stands : JudgeValue → Journal → Type 0
 Stands a log = (a.streams.clock ≡ last_clock log) × Holds a log

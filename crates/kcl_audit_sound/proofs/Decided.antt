@@ -1,4 +1,5 @@
--- A text can tell the lines of each command that is accepted after a legal journal.
+-- Each line of a command that is accepted after a legal journal can be written as text: its numbers are in the ranges
+-- that a text of the journal allows (`IsEntryLine`).
 use Rattle.std.proofs.Common.{◌≡◌, ℕ, ◌+◌, ◌^◌, ◌<◌, ◌≤◌, Bool, true, false, List, [], ◌∷◌, length, arith}
 use Rattle.std.specs.Prelude.{Ok, Result, ◌==◌, ◌&&◌, not, if◌then◌else◌}
 use Rattle.std.specs.List.{AllByRecursion}
@@ -36,31 +37,37 @@ use Rattle.kcl_audit_streams.proofs.BatchSteps.{below, below_beginning, below_le
 use Rattle.kcl_audit_sound.proofs.Counts.{listed_fits, made_fits, named_fits, shards_fit, taken_fits}
 use Rattle.kcl_audit_sound.proofs.Streams.{AreTold, IsBy, line_told, plan_at, put_told, puts_told, steps_told}
 
--- The counter after a write is at least 1 and fits into 64 bits, if the row's counter isn't the last number.
+-- If a command names the counter `n` of a row, which isn't the last number, then the counter after the write is at
+-- least 1 and fits into 64 bits. Here for the counter in the command.
 next_counter : (n counter : ℕ) → not (n == counter) ≡ false → (n == last_number) ≡ false → counter < 2 ^ 64
     → (1 ≤ counter + 1) × (counter + 1 < 2 ^ 64)
 next_counter n counter same free fits = (omega arith, grind (arith, nat_tests))
 
+-- The lemma `next_counter`, here for the counter of the row.
 row_counter : (n counter : ℕ) → not (n == counter) ≡ false → (n == last_number) ≡ false → counter < 2 ^ 64
     → (1 ≤ n + 1) × (n + 1 < 2 ^ 64)
 row_counter n counter same free fits = (omega arith, grind (arith, nat_tests))
 
+-- If `n` is at most `last_number` and isn't this number, then `n` + 1 fits into 64 bits.
 after_free : (n : ℕ) → (n == last_number) ≡ false → n ≤ last_number → n + 1 < 2 ^ 64
 after_free n free le = grind (arith, nat_tests)
 
 both_hold : (a b : Bool) → not (a && b) ≡ false → (a ≡ true) × (b ≡ true)
 both_hold a b h = (grind (arith, h), grind (arith, h))
 
+-- If an origin is in its range, so is the origin that a new row gets instead, which may be TRIM_HORIZON.
 origin_counts : (b : Bool) (from : Origin) → IsOrigin from → IsOrigin (if b then origin.TrimHorizon else from)
 origin_counts true from is = tt
 origin_counts false from is = is
 
--- ---- The numbers of a batch
+-- ---- The sequence numbers of a batch fit into 64 bits
 
+-- If the sequence numbers of the records rise from `first` and stay below `next`, then `first` is at most `next`.
 rise_to : (first : ℕ) (rs : List Logged) (next : ℕ) → RiseBetween first rs next → first ≤ next
 rise_to first [] next h = h
 rise_to first (r ∷ rs) next h = omega (arith, h.0, rise_to (r.seq + 1) rs next h.1)
 
+-- If the sequence numbers of the records rise and stay below `next`, each of them is below `next`.
 below_next : (first : ℕ) (rs : List Logged) (next : ℕ) → RiseBetween first rs next → below next rs
 below_next first [] next h = tt
 below_next first (r ∷ rs) next h = (omega (arith, rise_to (r.seq + 1) rs next h.1), below_next (r.seq + 1) rs next h.1)
@@ -69,12 +76,16 @@ live_below : (live : Bool) (m : ℕ) (rs : List Logged) → below m rs → below
 live_below true m rs h = h
 live_below false m rs h = tt
 
+-- If the sequence numbers of the records are below `m`, which is at most `last_number`, then each of them fits into 64
+-- bits.
 numbers_fit : (m : ℕ) (rs : List Logged) → m ≤ last_number → below m rs → AllByRecursion Is64 (numbers_of rs)
 numbers_fit m [] le h = tt
 numbers_fit m (r ∷ rs) le h = (omega (arith, le, h.0), numbers_fit m rs le h.1)
 
--- ---- Each command
+-- ---- The lines of each command
 
+-- In this module, three laws are taken as given: a stream's shards are numbered from 0 on, the sequence numbers of a
+-- shard's records rise and stay below the stream's next one, and this next one is at most `last_number`.
 module _
     (numbered : (log : Journal) (s : ℕ) → AreNumbered 0 (shards log s))
     (drawn : (log : Journal) → IsLegal log → (s sh : ℕ) → AreDrawn log s sh)
@@ -90,7 +101,7 @@ module _
       (below_left next (trim_floor log c s) place (records log s sh)
       (below_next (start_of (shard_at log s sh)) (records log s sh) next (drawn log legal s sh)))))
 
-  -- A text can tell the one line of a command.
+  -- If a command adds just the line `line`, this line can be written as text (`IsEntryLine`).
   told_one : (log : Journal) (c by : ℕ) (what : Command) (line : Line) (r : Reply) → Tells log c by what line r
       → IsLegal log → IsBy c by
       → IsLawfulCommand what → AreNumbers what → IsEntryLine VERSION (told_by line)
@@ -150,6 +161,7 @@ module _
       )
   told_one log c by _ _ _ (Cuts key counter) legal is lawful bits = line_told c by _ is (bits.0, bits.1)
 
+  -- Each line that a command adds can be written as text (`AreTold`). A refused command adds none.
   told_of : (log : Journal) (c by : ℕ) (what : Command) (lines : List Line) (answer : Result Reply Refusal)
       → Outcome log c by what lines answer
       → IsLegal log → IsBy c by → IsLawfulCommand what → AreNumbers what → AreTold lines
@@ -165,6 +177,8 @@ module _
       steps_told numbered _ log c by s is (named_fits log name s legal named) (plan_at _ goal lawful.1.0 lawful.1.1)
       (not_past _ _ each.0) (not_past _ _ each.1)
 
+  -- If a command is accepted after a legal journal, each of its lines can be written as text (`AreTold`). The command's
+  -- numbers must be in the ranges of the API and fit into their types.
   pub told_lines : (log : Journal) (c by : ℕ) (what : Command) (lines : List Line) (reply : Reply) → IsLegal log
       → IsBy c by → IsLawfulCommand what
       → AreNumbers what

@@ -1,4 +1,5 @@
--- A text can tell the lines of puts and of scalings.
+-- The lines of puts and of scalings can be written as text: their numbers are in the ranges that a text of the journal
+-- allows (`IsEntryLine`).
 use Rattle.std.proofs.Common.{◌≡◌, ℕ, ◌+◌, ◌-◌, ◌*◌, ◌^◌, ◌<◌, ◌≤◌, Bool, true, false, List, [], ◌∷◌, ◌++◌, length, map}
 use Rattle.std.proofs.Common.{refl, ap, arith}
 use Rattle.std.specs.Prelude.{chars, if◌then◌else◌}
@@ -28,22 +29,24 @@ use Rattle.kcl_sim_scribe.specs.Added.{told_by}
 use Rattle.kds_defs.proofs.Counted.{length_merged, length_split}
 use Rattle.kcl_audit_sound.proofs.Counts.{home_fits}
 
--- A text can tell the lines.
+-- Each of the lines can be written as text in the present version (`IsEntryLine`).
 abbrev pub AreTold : List Line → Type 0
 AreTold lines = AllByRecursion (λ line. IsEntryLine VERSION (told_by line)) lines
 
--- The clock and the actor of lines have the bits of their types.
+-- The clock `c` of a line is below 2^62, and its actor `by` fits into 32 bits.
 pub record IsBy (c by : ℕ) : Type 0 where
   pub clock : c < 2 ^ 62
   pub actor : by < 2 ^ 32
 
+-- If the clock and the actor of a line are in their ranges, and so are the numbers of its entry (`IsTellable`), the
+-- line can be written as text.
 pub line_told : (c by : ℕ) (what : Entry) → IsBy c by → IsTellable VERSION what
     → IsEntryLine VERSION (record { clock = c; by = by; what = what })
 line_told c by what is tellable = record { clock = is.clock; by = is.actor; what = tellable }
 
 -- ---- Puts
 
--- A number of characters has at most four times as many bytes.
+-- The UTF-8 encoding of a text of n characters has at most 4 * n bytes.
 few_bytes : (cs : List ℕ) → length (encodes cs) ≤ 4 * length cs
 few_bytes [] = omega arith
 few_bytes (c ∷ cs) = omega (
@@ -54,6 +57,7 @@ few_bytes (c ∷ cs) = omega (
   (len_utf8_bounds c).1,
 )
 
+-- A partition key has 1 to 1,024 bytes.
 key_sizes : (key : List ℕ) → IsPartitionKey key → (1 ≤ length key) × (length key ≤ 1024)
 key_sizes key is =
     let same = ap length (encodes-chars key is.text) in (
@@ -61,9 +65,12 @@ key_sizes key is =
       omega (arith, same, is.few, few_bytes (chars key)),
     )
 
+-- The payload and the key of an item in its ranges have sizes that a text of the journal allows.
 pub sizes : (item : NewItem) → IsItem item → AreSizes VERSION (length item.payload) (length item.key)
 sizes item is = (key_sizes item.key is.key, is.bytes)
 
+-- The line of a put can be written as text, if the item is in its ranges, the stream has at most 2^64 shards, and its
+-- next sequence number is at most `last_number`.
 pub put_told : (log : Journal) (c by s : ℕ) (item : NewItem) → IsBy c by → s < 2 ^ 64 → AreNumbered 0 (shards log s)
     → length (shards log s) ≤ 2 ^ 64
     → next_number log s ≤ last_number → IsItem item
@@ -74,16 +81,20 @@ put_told log c by s item is stream numbers few next lawful =
       (home_fits log s item.hash numbers few, (omega arith, (lawful.hash, sizes item lawful))),
     )
 
--- The line of an item that isn't held back, and the lines of this item and of those that follow.
+-- The line of a put of the item `item`, which takes the next sequence number of the stream `s`.
 abbrev next_line : Journal → ℕ → ℕ → ℕ → NewItem → Line
 next_line log c by s item = put_line log c by s (next_number log s) item
 
+-- The lines of a put of the item `item`, and then of the items after it. `back` says whether `item` is held back by the
+-- limits, so that it gives no line.
 abbrev lines_from : Bool → Journal → ℕ → ℕ → ℕ → NewItem → List NewItem → List Line
 lines_from back log c by s item items =
     if back
     then put_lines log c by s items
     else next_line log c by s item ∷ put_lines (next_line log c by s item ∷ log) c by s items
 
+-- If the lines of the items after `item` can be written as text, and so can that of `item` if it isn't held back, then
+-- all of them can.
 item_told : (back : Bool) (item : NewItem) (items : List NewItem) (log : Journal) (c by s : ℕ)
     → next_number log s + length (lines_from back log c by s item items) ≤ last_number
     → (next_number log s + length (put_lines log c by s items) ≤ last_number → AreTold (put_lines log c by s items))
@@ -96,6 +107,8 @@ item_told true item items log c by s fits skip one take = skip fits
 item_told false item items log c by s fits skip one take =
     (one (omega arith), take (omega (arith, fits, draws_one s (next_number log s) (next_number log s) refl)))
 
+-- The lines of a put of several items can be written as text (`AreTold`), if the sequence numbers last for all of them.
+-- Each item is decided after the lines of the items before it.
 pub puts_told : (items : List NewItem) (log : Journal) (c by s : ℕ) → IsBy c by → s < 2 ^ 64
     → AreNumbered 0 (shards log s) → length (shards log s) ≤ 2 ^ 64
     → next_number log s + length (put_lines log c by s items) ≤ last_number → AllByRecursion IsItem items
@@ -107,26 +120,30 @@ puts_told (item ∷ items) log c by s is stream numbers few fits lawful =
     (λ next. put_told log c by s item is stream numbers few next lawful.0)
     (λ room. puts_told items (next_line log c by s item ∷ log) c by s is stream numbers few room lawful.1)
 
--- ---- Scalings
+-- ---- Scalings: a plan of splits and merges
 
--- A split of a scaling is at a key.
+-- If the step is a split, its hash key is below 2^128.
 abbrev IsAtKey : ScaleStep → Type 0
 IsAtKey (Join b) = Unit {0}
 IsAtKey (Cut b) = b < 2 ^ 128
 
+-- The line of a step of a scaling of the stream `s`.
 abbrev step_line : Journal → ℕ → ℕ → ℕ → ScaleStep → Line
 step_line log c by s step = plain_line c by (step_entry log s step)
 
--- The number of shards after a merge of a scaling, and after a split.
+-- A merge in a scaling adds one shard to those of the stream.
 many_join : (log : Journal) (c by s b : ℕ) → length (shards (step_line log c by s (Join b) ∷ log) s)
     ≡ length (shards log s) + 1
 many_join log c by s b = rw (is_itself s) (length_merged _ _ _ _ (shards log s))
 
+-- A split in a scaling adds two shards to those of the stream.
 many_cut : (log : Journal) (c by s b : ℕ) → length (shards (step_line log c by s (Cut b) ∷ log) s)
     ≡ length (shards log s) + 2
 many_cut log c by s b = rw (is_itself s) (length_split _ _ _ _ (shards log s))
 
 module _ (numbered : (log : Journal) (s : ℕ) → AreNumbered 0 (shards log s)) where
+  -- The lines of the steps of a scaling can be written as text (`AreTold`), if the splits are at hash keys, and the
+  -- sequence numbers and shard numbers last for all steps.
   pub steps_told : (steps : List ScaleStep) (log : Journal) (c by s : ℕ) → IsBy c by → s < 2 ^ 64
       → AllByRecursion IsAtKey steps
       → next_number log s + length steps ≤ last_number → length (shards log s) + made_by steps ≤ last_number
@@ -156,19 +173,23 @@ module _ (numbered : (log : Journal) (s : ℕ) → AreNumbered 0 (shards log s))
             (omega (arith, room, many_cut log c by s b)),
       )
 
+-- Each of these hash keys is below 2^128.
 abbrev AreBelow : List ℕ → Type 0
 AreBelow bs = AllByRecursion (λ b. b < 2 ^ 128) bs
 
+-- Splits at hash keys below 2^128 are at hash keys (`IsAtKey`).
 cuts_at : (bs : List ℕ) → AreBelow bs → AllByRecursion IsAtKey (map Cut bs)
 cuts_at [] h = tt
 cuts_at (b ∷ bs) h = (h.0, cuts_at bs h.1)
 
+-- If the steps after some merges have their splits at hash keys, so have the merges and these steps together.
 joins_at : (bs : List ℕ) (steps : List ScaleStep) → AllByRecursion IsAtKey steps
     → AllByRecursion IsAtKey (map Join bs ++ steps)
 joins_at [] steps h = h
 joins_at (b ∷ bs) steps h = (tt, joins_at bs steps h)
 
--- The splits of a plan are at starts of uniform ranges.
+-- The splits of the plan that leads to `target` uniform ranges are at hash keys, because they are where such ranges
+-- begin.
 pub plan_at : (starts : List ℕ) (target : ℕ) → 1 ≤ target → target ≤ 500 → AllByRecursion IsAtKey (scale starts target)
 plan_at starts target least most =
     let wanted = uniform_starts target in

@@ -1,12 +1,14 @@
--- Turns whose numbers have the bits of their types, as the turns of a machine do.
+-- Turns whose numbers fit into the machine types of the code, such as `u64`.
 use Rattle.std.specs.Prelude.{◌^◌, ◌<◌, List}
 use Rattle.std.specs.List.{AllByRecursion}
 use Rattle.kds_defs.specs.declared.command.Turn.{Turn}
 use Rattle.kcl_script_fields.specs.Commands.{AreNumbers}
 
--- The turn's actor has 32 bits, and the numbers of a command on leases have the bits of their types.
+-- The actor of the turn fits into 32 bits, and the numbers of its command, if it is one on leases, fit into the bits of
+-- their types.
 abbrev pub HasBits : Turn → Type 0
 HasBits turn = (turn.by < 2 ^ 32) × AreNumbers turn.what
 
+-- Each turn of the history has numbers that fit into their types (`HasBits`).
 abbrev pub HaveBits : List Turn → Type 0
 HaveBits h = AllByRecursion HasBits h

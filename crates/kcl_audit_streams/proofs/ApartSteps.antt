@@ -1,4 +1,5 @@
--- The records of each shard apart: what a put does to them. A shard's own records are enough to answer what is asked.
+-- The records of each shard are kept in a list of their own (`AreApart`). A put keeps this right, and the list of a
+-- shard is enough to answer the judge's questions about the shard.
 use Rattle.std.proofs.Common.{◌≡◌, ℕ, zero, suc, ◌<◌, Bool, true, false, List, [], ◌∷◌, ◌++◌, length, map, refl}
 use Rattle.std.proofs.Common.{get_or, sym, ap, ◌∙◌, arith}
 use Rattle.std.specs.Prelude.{◌==◌, cond, if◌then◌else◌, slice_set}
@@ -12,7 +13,7 @@ use Rattle.kcl_audit_streams.specs.Apart.{AreApart, records_at}
 use Rattle.kcl_audit_streams.specs.Standing.{is_in, logged, puts_from, puts_in, records_in}
 use Rattle.kcl_audit_streams.proofs.RateSteps.{sized}
 
--- ---- A shard's own records
+-- ---- The list of one shard
 
 twice_one : (sh : ℕ) (x : Sized) (xs : List Sized) (b : Bool) → is_in sh x ≡ b
     → filter (is_in sh) xs ≡ filter (is_in sh) (filter (is_in sh) xs)
@@ -23,11 +24,12 @@ twice_one sh x xs true e h =
     ∙ sym (ap (λ c. cond c (x ∷ filter (is_in sh) (filter (is_in sh) xs)) (filter (is_in sh) (filter (is_in sh) xs))) e)
 twice_one sh x xs false e h = h
 
+-- Choosing the records of the shard `sh` twice gives the same as once.
 pub twice : (sh : ℕ) (xs : List Sized) → filter (is_in sh) xs ≡ filter (is_in sh) (filter (is_in sh) xs)
 twice sh [] = refl
 twice sh (x ∷ xs) = twice_one sh x xs (is_in sh x) refl (twice sh xs)
 
--- The records of a shard are those among its own.
+-- If `own` are the records of the shard `sh` among `xs`, then the shard has the same records in `own` as in `xs`.
 pub records_own : (sh : ℕ) (xs own : List Sized) → own ≡ filter (is_in sh) xs → records_in own sh ≡ records_in xs sh
 records_own sh xs own is = ap (λ ys. map logged (filter (is_in sh) ys)) is ∙ ap (map logged) (sym (twice sh xs))
 
@@ -45,10 +47,11 @@ puts_of_own : (sh : ℕ) (xs : List Sized) (before : List SizedPut)
 puts_of_own sh [] before = refl
 puts_of_own sh (x ∷ xs) before = puts_one sh before x xs (is_in sh x) refl (puts_of_own sh xs)
 
+-- If `own` are the records of the shard `sh` among `xs`, then the shard has the same puts in `own` as in `xs`.
 pub puts_own : (sh : ℕ) (xs own : List Sized) → own ≡ filter (is_in sh) xs → puts_in own sh ≡ puts_in xs sh
 puts_own sh xs own is = ap (λ ys. puts_in ys sh) is ∙ sym (puts_of_own sh xs [])
 
--- ---- A put
+-- ---- A put keeps the lists right
 
 set_here : (shards : List (List Sized)) (n : ℕ) (rs : List Sized) → n < length shards
     → records_at (slice_set shards n rs) n ≡ rs
@@ -85,7 +88,8 @@ put_one shards all item sh false e apart lt =
     other_shard : (n m : ℕ) → (n == m) ≡ false → n ≡ m → ⊥
     other_shard n m e same = grind (arith, nat_tests)
 
--- A put goes behind the records of its shard.
+-- `AreApart` still holds after a put: the record is added at the end of `all`, and at the end of the list of its shard,
+-- if there is such a list.
 pub apart_put : (shards : List (List Sized)) (all : List Sized) (item : Sized) → AreApart shards all
     → item.shard < length shards
     → AreApart (slice_set shards item.shard (records_at shards item.shard ++ item ∷ [])) (all ++ item ∷ [])
@@ -93,6 +97,7 @@ apart_put shards all item apart lt = λ sh.
     put_one shards all item sh (is_in sh item) refl apart lt
     ∙ sym (filter-append (is_in sh) all (item ∷ []))
 
+-- If the index `n` is within the list, reading there gives the list of the shard `n`.
 pub at_index : (shards : List (List Sized)) (n : ℕ) (d : List Sized) → n < length shards
     → get_or shards n d ≡ records_at shards n
 at_index [] n d lt = absurd (omega arith)

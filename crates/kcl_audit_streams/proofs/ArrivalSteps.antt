@@ -1,4 +1,5 @@
--- The first record since a moment. Records that arrived earlier don't count.
+-- To find the first untrimmed record that arrived at or after a moment, the judge may skip the records that arrived too
+-- early, if the records are in the order of arrival.
 use Rattle.std.proofs.Common.{◌≡◌, ℕ, zero, suc, ◌-◌, ◌<◌, ◌≤◌, Bool, true, false, List, [], ◌∷◌, length, get_or, max}
 use Rattle.std.proofs.Common.{drop, take, refl, sym, ap, ◌∙◌, arith, ltb-true}
 use Rattle.std.specs.Prelude.{nat_le, nat_lt, cond, ◌&&◌}
@@ -10,7 +11,8 @@ use Rattle.kcl_audit_streams.specs.declared.records.Sized.{Sized}
 use Rattle.kcl_audit_streams.specs.Standing.{is_in, logged}
 use Rattle.kcl_audit_streams.proofs.BatchSteps.{left_by, left_in}
 
--- The first of the records that are left since a moment.
+-- The sequence number of the first of `xs` that is one of the shard `sh`, is untrimmed, and arrived at or after the
+-- moment. It is `otherwise` if there is none.
 abbrev first_in : ℕ → ℕ → ℕ → ℕ → List Sized → ℕ
 first_in sh floor moment otherwise xs = first_at (left_in sh floor 0 xs) moment otherwise
 
@@ -22,11 +24,12 @@ skipped true false c r rs moment otherwise e never = refl
 skipped true true false r rs moment otherwise e never = rw e refl
 skipped true true true r rs moment otherwise e never = absurd (never refl refl)
 
+-- A record that arrived before the floor or before the moment is trimmed, or arrived before the moment.
 too_early : (floor moment : ℕ) (x : Sized) → x.arrival < max floor moment → is_left floor 0 (logged x) ≡ true
     → nat_le moment x.arrival ≡ true → ⊥
 too_early floor moment x lt left le = grind (arith, nat_tests)
 
--- A record that arrived before the floor or the moment isn't the first one.
+-- A record that arrived before the floor or before the moment isn't the one that `first_in` finds.
 past_one : (sh floor moment otherwise : ℕ) (x : Sized) (xs : List Sized) → x.arrival < max floor moment
     → first_in sh floor moment otherwise (x ∷ xs) ≡ first_in sh floor moment otherwise xs
 past_one sh floor moment otherwise x xs lt =
@@ -35,6 +38,8 @@ past_one sh floor moment otherwise x xs lt =
     ∙ skipped (is_in sh x) (is_left floor 0 (logged x)) (nat_le moment x.arrival) (logged x) (left_in sh floor 0 xs)
     moment otherwise refl (too_early floor moment x lt)
 
+-- If each of the first `i` records arrived before the floor or before the moment, `first_in` finds the same without
+-- them.
 first_behind : (sh floor moment otherwise : ℕ) (xs : List Sized) (i : ℕ)
     → ((k : ℕ) (d : Sized) → k < i → k < length xs → (get_or xs k d).arrival < max floor moment)
     → first_in sh floor moment otherwise (drop i xs) ≡ first_in sh floor moment otherwise xs
@@ -44,7 +49,8 @@ first_behind sh floor moment otherwise (x ∷ xs) (suc i) h =
     first_behind sh floor moment otherwise xs i (λ k d low lt. h (suc k) d (omega arith) (omega arith))
     ∙ sym (past_one sh floor moment otherwise x xs (h 0 x (omega arith) (omega arith)))
 
--- So the first one stands behind the records that arrived before both.
+-- Let `least` be the greater of the floor and the moment. If the records before the index `i` arrived before `least`,
+-- and those from `i` on didn't, then `first_in` finds the same in those from `i` on as in all.
 pub first_from : (sh floor moment otherwise least : ℕ) (xs : List Sized) (i : ℕ) → max floor moment ≡ least
     → IsPartitionPoint (λ (y : Sized). nat_lt y.arrival least ≡ true)
     (λ (y : Sized). nat_lt y.arrival least ≡ false) xs i

@@ -1,4 +1,5 @@
--- The batch of a shard, in terms of the records that a judge keeps.
+-- What a read of a shard gives in the journal can be computed from the judge's model of its stream: the batch, whether
+-- the shard ends, and the position where reading begins.
 use Rattle.std.proofs.Common.{◌≡◌, ℕ, ◌≤◌, Bool, true, List, [], map, slice_get, refl, sym, ap, ◌∙◌}
 use Rattle.std.specs.Prelude.{◌&&◌, if◌then◌else◌}
 use Rattle.kds_defs.specs.declared.limits.TheConstants.{BATCH_BYTES}
@@ -19,6 +20,7 @@ use Rattle.kcl_audit_streams.specs.Standing.{IsStream, StreamValue, floor_in, re
 
 -- ---- The shard of a live stream
 
+-- The records of the journal that are left in a shard are those that are left in the model, without keys and payloads.
 left_is : (log : Journal) (c s sh p : ℕ) (v : StreamValue) → IsStream log s v → v.live ≡ true → last_clock log ≤ c
     → map bare (left_from log c s sh p) ≡ left_among (floor_in v c) p (records_in v.records sh)
 left_is log c s sh p v st live order =
@@ -28,6 +30,8 @@ left_is log c s sh p v st live order =
     ∙ ap (λ f. left_among f p (map bare (records log s sh))) (st.trims c order)
     ∙ ap (left_among (floor_in v c) p) (st.records_are sh)
 
+-- The sequence numbers of the batch in the journal are those of the batch that is taken from the model `v` of the
+-- stream.
 pub batch_is : (log : Journal) (c s sh p limit : ℕ) (v : StreamValue) → IsStream log s v → v.live ≡ true
     → last_clock log ≤ c
     → numbers_of (batch log c s sh p limit)
@@ -49,6 +53,7 @@ ends_is log c s sh place v st live order =
 
 -- ---- Where reading begins
 
+-- The position where reading begins from an origin is the same in the journal as in the model `v` of the live stream.
 pub position_is : (log : Journal) (c : ℕ) (key : ShardRef) (from : Origin) (v : StreamValue) → IsStream log key.stream v
     → v.live ≡ true → last_clock log ≤ c
     → position_in v c key.shard from ≡ origin_position log c key from

@@ -1,4 +1,4 @@
--- A line of another stream or of a lease leaves what a judge knows of a stream as it was.
+-- A line of another stream or of a lease changes nothing in the judge's model of a stream.
 use Rattle.std.proofs.Common.{◌≡◌, ◌≢◌, ℕ, ◌+◌, ◌≤◌, List, [], ◌∷◌, None, Some, map, sym, ap, subst, ◌∙◌, arith}
 use Rattle.kds_defs.proofs.Elsewhere.{count_same, floor_same, fresh_other, of_no_stream, same_stream}
 use Rattle.kds_defs.specs.Journal.{Line, Journal}
@@ -8,6 +8,8 @@ use Rattle.kds_defs.specs.Subjects.{stream_of}
 use Rattle.kcl_laws.specs.Recorded.{bare}
 use Rattle.kcl_audit_streams.specs.Standing.{AreStreams, IsStream, Shows, StreamValue, StreamsValue}
 
+-- If `v` is the model of the stream `s`, it still is after a line that isn't of this stream and whose clock isn't below
+-- the journal's.
 pub stream_other : (log : Journal) (line : Line) (s : ℕ) (v : StreamValue) → last_clock log ≤ line.clock
     → stream_of line.what ≢ Some s → IsStream log s v
     → IsStream (line ∷ log) s v
@@ -26,8 +28,10 @@ stream_other log line s v order other st =
       puts_are = λ sh. same.puts_are sh ∙ st.puts_are sh;
     }
 
--- ---- All streams after a line of a lease
+-- ---- A line of a lease and all streams
 
+-- If the list has the models of all streams from the number `n` on, it still has them after a line that is of no
+-- stream.
 streams_kept : (log : Journal) (line : Line) (n : ℕ) (vs : List StreamValue) → last_clock log ≤ line.clock
     → stream_of line.what ≡ None
     → AreStreams log n vs → AreStreams (line ∷ log) n vs
@@ -37,6 +41,7 @@ streams_kept log line n (v ∷ vs) order none h = (
   streams_kept log line (n + 1) vs order none h.1,
 )
 
+-- If the model `w` represents the journal, it still does after a line that is of no stream, at the clock of the model.
 pub shows_lease : (w : StreamsValue) (log : Journal) (line : Line) → Shows w log → line.clock ≡ w.clock
     → stream_of line.what ≡ None → Shows w (line ∷ log)
 shows_lease w log line sh at none =

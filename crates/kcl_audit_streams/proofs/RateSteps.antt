@@ -1,4 +1,4 @@
--- What a shard has taken within a second, put after put.
+-- Going over a shard's puts one by one, the judge counts those of one second, and their bytes.
 use Rattle.std.proofs.Common.{◌≡◌, ℕ, ◌+◌, ◌-◌, ◌^◌, ◌<◌, ◌≤◌, min, Bool, List, ◌∷◌, length, get_or, drop, sym, ap, ◌∙◌}
 use Rattle.std.specs.Prelude.{if◌then◌else◌}
 use Rattle.std.proofs.lemmas.List.{at_drop_more}
@@ -6,10 +6,12 @@ use Rattle.kds_defs.specs.Rates.{SizedPut, bytes_of, window}
 use Rattle.kcl_audit_streams.specs.declared.records.Sized.{Sized}
 use Rattle.kcl_audit_streams.specs.Standing.{is_in, puts_from, puts_in}
 
+-- The put that the record `r` came from: when it arrived, and its size.
 abbrev pub sized : Sized → SizedPut
 sized r = record { clock = r.arrival; bytes = r.bytes }
 
--- What was taken up to an index: `count` of the puts so far are in the second, with `held` bytes.
+-- The records before the index `i` have been counted. `before` are the puts of the shard `sh` among them. `count` of
+-- these are in the second of the clock `c`, and have `held` bytes together, or 2^64 - 1 if they have more.
 pub record IsTaken (sh c : ℕ) (xs : List Sized) (i count held : ℕ) : Type 0 where
   pub before : List SizedPut
   pub all : puts_from before (drop i xs) sh ≡ puts_in xs sh
@@ -18,6 +20,8 @@ pub record IsTaken (sh c : ℕ) (xs : List Sized) (i count held : ℕ) : Type 0 
   pub few : count ≤ i
 
 module _ (sh c : ℕ) (xs : List Sized) (i : ℕ) (x : Sized) (within : i < length xs) (is : x ≡ get_or xs i x) where
+  -- Adding the puts of the records from the index `i` on to `before` is the same as adding first the put of the record
+  -- `x` at `i`, if it is one of the shard (`b`), and then those of the records after it.
   more : (before : List SizedPut) (b : Bool) → is_in sh x ≡ b
       → puts_from before (drop i xs) sh ≡ puts_from (if b then sized x ∷ before else before) (drop (i + 1) xs) sh
   more before b in_it =

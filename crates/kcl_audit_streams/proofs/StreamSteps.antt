@@ -1,4 +1,5 @@
--- What a good entry makes of its stream. For each reading, only the entries that change it are named here.
+-- A good entry changes the judge's model of its stream (`with_entry`) just as its line changes what the journal says of
+-- the stream. `full` says whether no further shard may be open.
 use Rattle.std.proofs.Common.{◌≡◌, ℕ, ◌+◌, ◌*◌, max, ◌≤◌, Bool, true, false, List, [], ◌∷◌, ◌++◌, Some, map, refl, sym}
 use Rattle.std.proofs.Common.{ap, ◌∙◌, arith}
 use Rattle.std.specs.Prelude.{◌==◌, if◌then◌else◌, Ok}
@@ -27,17 +28,17 @@ use Rattle.kcl_audit_streams.proofs.Changed.{merge_draws, split_draws}
 use Rattle.kcl_audit_streams.proofs.RateSteps.{sized}
 use Rattle.kcl_audit_streams.proofs.Floors.{changed_later, first_later}
 
--- The entry doesn't make a stream.
+-- The entry isn't one that makes a stream.
 abbrev pub IsLater : Entry → Type 0
 IsLater (entry.Made s name count) = ⊥
 IsLater _ = Unit {0}
 
--- Such an entry leaves the number of streams as it was.
+-- An entry that doesn't make a stream leaves the number of streams as it is.
 pub made_kept : (what : Entry) (n : ℕ) → IsLater what → made_count_after what n ≡ n
 made_kept (entry.Made s name count) n later = absurd later
 made_kept _ n later = refl
 
--- The entry's stream is this one.
+-- If the stream of the entry is `a` and it is also `s`, the two numbers are equal as the code tests it.
 its : (a s : ℕ) → Some a ≡ Some s → (a == s) ≡ true
 its a s of = is_equal a s (same_some a s of)
 
@@ -47,14 +48,18 @@ none_drawn n = omega arith
 one_drawn : (n : ℕ) → 1 + n ≡ n + 1
 one_drawn n = omega arith
 
--- ---- One more record
+-- ---- Records: one more
 
+-- The records of the shard `sh` after one more record `r` are those before, with `r` at the end if it is one of the
+-- shard (`b`).
 in_last : (sh : ℕ) (rs : List Sized) (r : Sized) (b : Bool) → is_in sh r ≡ b
     → records_in (rs ++ r ∷ []) sh ≡ (if b then records_in rs sh ++ logged r ∷ [] else records_in rs sh)
 in_last sh [] r true h = rw h refl
 in_last sh [] r false h = rw h refl
 in_last sh (x ∷ rs) r b h = grind (arith, in_last sh rs r b h)
 
+-- If the journal's records of the shard `q` are those of the model, they still are after one more record. It is `x` in
+-- the journal and `r` in the model, which are the same but for the key and the payload.
 record_more : (q : ℕ) (before : List Logged) (x : Logged) (rs : List Sized) (r : Sized) → bare x ≡ logged r
     → map bare before ≡ records_in rs q
     → map bare (if is_in q r then before ++ x ∷ [] else before) ≡ records_in (rs ++ r ∷ []) q
@@ -65,20 +70,26 @@ record_more q before x rs r same h = by (is_in q r) ∙ sym (in_last q rs r (is_
     by true = map_push bare before x ∙ ap (λ xs. xs ++ bare x ∷ []) h ∙ ap (λ y. records_in rs q ++ y ∷ []) same
     by false = h
 
--- ---- One more put
+-- ---- Puts: one more
 
+-- The puts of the shard `sh` after one more record `r` are those before, with the put of `r` as the newest if `r` is
+-- one of the shard.
 from_last : (before : List SizedPut) (rs : List Sized) (r : Sized) (sh : ℕ)
     → puts_from before (rs ++ r ∷ []) sh
     ≡ (if is_in sh r then sized r ∷ puts_from before rs sh else puts_from before rs sh)
 from_last before [] r sh = refl
 from_last before (x ∷ rs) r sh = from_last (if is_in sh x then sized x ∷ before else before) rs r sh
 
+-- If `before` are the puts of the shard `q` in the model, they still are after one more record `r`, whose put is added
+-- if it is one of the shard.
 put_more : (q : ℕ) (before : List SizedPut) (rs : List Sized) (r : Sized) → before ≡ puts_in rs q
     → (if is_in q r then sized r ∷ before else before) ≡ puts_in (rs ++ r ∷ []) q
 put_more q before rs r h = (λ i. if is_in q r then sized r ∷ h i else h i) ∙ sym (from_last [] rs r q)
 
--- ---- Each reading after an entry of the stream
+-- ---- Each reading of the journal after an entry of the stream
 
+-- In this module, `v` is the model of the stream `s`, and the entry is by the actor `by` at the clock `d`. Each lemma
+-- compares one reading of the journal after the entry with the field of the changed model.
 module _ (d by s : ℕ) (v : StreamValue) where
   was_step : (what : Entry) (before : Bool) → IsLater what → was_made_after what s before ≡ before
   was_step (entry.Made a name count) before later = absurd later
@@ -114,7 +125,8 @@ module _ (d by s : ℕ) (v : StreamValue) where
   next_step (entry.Merged a sh other n child) later of = rw (its a s of) (one_drawn v.next)
   next_step _ later of = none_drawn v.next
 
-  -- If the entry is good, it uses the next number, so its children start right after this number.
+  -- A good entry changes the shards of its stream in the journal as `with_entry` changes those of the model. `start` is
+  -- the sequence number from which new shards begin: the one after the number that the entry takes.
   shards_step : (full : Bool) (what : Entry) → IsLater what → stream_of what ≡ Some s
       → entry_verdict full d what v ≡ Ok tt
       → (start : ℕ) → start ≡ (with_entry d what v).next → shards_after (entry_line d by what) what s start v.tree
@@ -156,6 +168,7 @@ module _ (d by s : ℕ) (v : StreamValue) where
       (record { shard = sh; seq = n; arrival = d; bytes = bytes + key_bytes }) h)
   puts_step _ later of q before h = h
 
+  -- At each clock from `d` on, the trim floor after the entry's line is that of the changed model.
   floor_step : (log : Journal) (what : Entry) → IsLater what → stream_of what ≡ Some s → IsStream log s v
       → last_clock log ≤ d
       → (c : ℕ) → d ≤ c → trim_floor (entry_line d by what ∷ log) c s ≡ floor_in (with_entry d what v) c
@@ -168,7 +181,8 @@ module _ (d by s : ℕ) (v : StreamValue) where
   floor_step log what later of st order c after =
       floor_same log (entry_line d by what) s c after refl ∙ st.trims c (omega arith)
 
-  -- All readings after a good entry are those of the changed stream.
+  -- If the entry is good, and `v` is the model of the stream `s` in the journal `log`, then `with_entry d what v` is
+  -- its model in the journal with the entry's line.
   pub stream_step : (log : Journal) (full : Bool) (what : Entry) → IsLater what → stream_of what ≡ Some s
       → entry_verdict full d what v ≡ Ok tt
       → last_clock log ≤ d → IsStream log s v → IsStream (entry_line d by what ∷ log) s (with_entry d what v)
@@ -193,6 +207,8 @@ module _ (d by s : ℕ) (v : StreamValue) where
 
 -- ---- A stream that is made
 
+-- If the journal says nothing of the number `s`, then after the line that makes the stream `s`, the model of it is
+-- `new_stream`.
 pub made_step : (log : Journal) (d by s count : ℕ) (name : List ℕ) → IsFresh log s
     → IsStream (entry_line d by (entry.Made s name count) ∷ log) s (new_stream name count)
 made_step log d by s count name fresh =

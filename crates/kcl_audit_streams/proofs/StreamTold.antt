@@ -1,4 +1,6 @@
--- What the entry of a stream tells, in terms of what a judge keeps of the stream.
+-- The verdict on an entry of a stream, which the judge computes from its model of the stream (`entry_verdict`), is the
+-- one by the machine's decision on the entry's command. The decision refuses, or gives lines of a journal. `full` says
+-- whether no further shard may be open.
 use Rattle.std.proofs.Common.{◌≡◌, ◌≢◌, ℕ, zero, suc, ◌+◌, ◌≤◌, Bool, true, false, List, length, slice_get, Option}
 use Rattle.std.proofs.Common.{Some, None}
 use Rattle.std.proofs.Common.{refl, sym, ap, subst, ◌∙◌, arith}
@@ -33,13 +35,16 @@ use Rattle.kcl_audit_streams.proofs.StreamSteps.{IsLater}
 
 -- ---- Judgements of refusals
 
+-- If `x` is the verdict by the decision `d`, the verdict by `refuse r if b else d` is the refusal `r` if `b` is true,
+-- and otherwise `x`.
 pub then_refuse : (r : Refusal) (b : Bool) (d : Decision) (what : Entry) (x : Verdict) → judged d what ≡ x
     → judged (refuse r if b else d) what ≡ (if b then refused r else x)
 unfolding refuse◌if◌else◌
 then_refuse r true d what x h = refl
 then_refuse r false d what x h = h
 
--- The verdict if the stream is live, and if it isn't.
+-- The verdict on an entry whose command needs a live stream. `live` says whether the stream `s` is live. If it isn't,
+-- the command is refused with NoStream.
 judged_in : (log : Journal) (s : ℕ) (d : Decision) (what : Entry) (live : Bool) → is_live log s ≡ live
     → judged (in_stream log s d) what ≡ (if live then judged d what else refused refusal.NoStream)
 judged_in log s d what true is = then_refuse refusal.NoStream (not (is_live log s)) d what (judged d what) refl
@@ -47,14 +52,18 @@ judged_in log s d what true is = then_refuse refusal.NoStream (not (is_live log 
 judged_in log s d what false is = then_refuse refusal.NoStream (not (is_live log s)) d what (judged d what) refl
     ∙ rw is refl
 
--- ---- The lines that a decision gives are those of entries
+-- ---- The lines that a decision gives
 
+-- Each of the lines is the line that its entry has (`entry_line`) by the actor `by` at the clock `c`.
 abbrev AreLines : ℕ → ℕ → List Line → Result Reply Refusal → Type 0
 AreLines c by lines answer = AllByRecursion (λ (l : Line). l ≡ entry_line c by l.what) lines
 
+-- Each line that the decision gives is the line that its entry has, by the actor `by` at the clock `c`. A refusal gives
+-- none.
 abbrev pub AreTold : ℕ → ℕ → Decision → Type 0
 AreTold c by d = Leads (AreLines c by) d
 
+-- If `AreTold` holds for the decision `d`, it holds for `refuse r if b else d`.
 pub past : (c by : ℕ) (r : Refusal) (b : Bool) (d : Decision) → AreTold c by d → AreTold c by (refuse r if b else d)
 past c by r b d next = past_test (AreLines c by) (λ q. tt) r b d (λ e. next)
 
@@ -64,6 +73,7 @@ length-blank : (n : ℕ) → length (blank n) ≡ n
 length-blank zero = refl
 length-blank (suc n) = ap suc (length-blank n)
 
+-- The judge's verdict on a put is the one by the machine's decision on the put.
 put_told : (log : Journal) (clock by s sh m hash bytes key_bytes : ℕ) (v : StreamValue) → IsStream log s v
     → judged (put log clock by s (item_of (entry_line clock by (entry.Put s sh m hash bytes key_bytes)) hash))
     (entry.Put s sh m hash bytes key_bytes)
@@ -78,6 +88,7 @@ put_told log clock by s sh m hash bytes key_bytes v st =
 never_below : (a b : ℕ) → (if not (nat_lt a b) then nat_lt a b else nat_lt b a) ≡ false
 never_below a b = grind (arith, nat_tests)
 
+-- The verdict by the machine's decision on a change of the retention to `wanted` hours is that the entry is good.
 kept_told : (log : Journal) (clock by s wanted : ℕ)
     → judged (keep log clock by s wanted (not (nat_lt wanted (hours log s)))) (entry.Kept s wanted) ≡ Ok tt
 kept_told log clock by s wanted =
@@ -86,11 +97,13 @@ kept_told log clock by s wanted =
 
 -- ---- Listed shards
 
+-- Whether a shard of the stream `s` is listed depends only on whether the stream is live and on its trim floor `f`.
 listed_state : (log : Journal) (c s f : ℕ) (o : Option ShardState) (live : Bool) → is_live log s ≡ live
     → trim_floor log c s ≡ f → is_listed_state log c s o ≡ (live && is_listed_of f o)
 listed_state log c s f None _ live is = grind (arith, live)
 listed_state log c s f (Some x) _ live is = grind (arith, live, is)
 
+-- The model lists a shard of the stream at the clock `c` exactly if the journal does.
 pub listed_is : (log : Journal) (c s sh : ℕ) (v : StreamValue) → IsStream log s v → last_clock log ≤ c
     → is_listed log c s sh ≡ is_listed_in (Some v) c sh
 listed_is log c s sh v st order =
@@ -98,7 +111,7 @@ listed_is log c s sh v st order =
     ∙ ap (λ (b : Bool). b && is_listed_of (floor_in v c) (shard_at log s sh)) st.lives
     ∙ ap (λ (xs : List ShardState). v.live && is_listed_of (floor_in v c) (slice_get xs sh)) st.shards_are
 
--- A listed shard was made.
+-- A shard that is listed exists. `live` says whether its stream is live.
 listed_made : (live : Bool) (f : ℕ) (o : Option ShardState) → (live && is_listed_of f o) ≡ true → is_some o ≡ true
 listed_made live f (Some x) h = refl
 listed_made live f None h = grind (arith, h)
@@ -108,6 +121,7 @@ listed_made live f None h = grind (arith, h)
 pub swapped : (a b : ℕ) → (a == b) ≡ (b == a)
 swapped a b = grind (arith, nat_tests)
 
+-- The judge's verdict on a split is the one by the machine's decision on the split.
 split_told : (log : Journal) (clock by s sh at m low high : ℕ) (v : StreamValue) (full : Bool) → IsStream log s v
     → last_clock log ≤ clock
     → full ≡ nat_le OPEN_SHARDS (open_count log)
@@ -131,6 +145,7 @@ split_told log clock by s sh at m low high v full st order room =
       swapped (n + 1) high,
     ) (grind (arith, listed_made v.live (floor_in v clock) (slice_get v.tree sh))))
 
+-- The judge's verdict on a merge is the one by the machine's decision on the merge.
 merge_told : (log : Journal) (clock by s sh other m child : ℕ) (v : StreamValue) → IsStream log s v
     → last_clock log ≤ clock
     → judged (merge log clock by s sh other) (entry.Merged s sh other m child) ≡ merge_verdict v clock sh other m child
@@ -149,9 +164,11 @@ merge_told log clock by s sh other m child v st order =
       plus_none n,
     ) (grind (arith, made sh, made other)))
 
--- ---- Each entry, once its stream is live
+-- ---- Each entry whose stream is live
 
--- What follows the test that the stream is live: the lines that it gives, and how it is judged.
+-- The decision on the command of the entry `what` is first whether the stream `s` is live, and then `rest`. Each line
+-- that `rest` gives is the line of its entry, and the verdict by `rest` is the one that the judge computes
+-- (`entry_verdict`).
 pub record Tells (log : Journal) (clock by : ℕ) (what : Entry) (s : ℕ) : Type 0 where
   pub rest : Decision
   pub told_is : told log (entry_line clock by what) what ≡ in_stream log s rest
@@ -160,6 +177,7 @@ pub record Tells (log : Journal) (clock by : ℕ) (what : Entry) (s : ℕ) : Typ
       → full ≡ nat_le OPEN_SHARDS (open_count log)
       → judged rest what ≡ entry_verdict full clock what v
 
+-- `Tells` holds for each entry of a stream that isn't the one that makes the stream.
 each : (log : Journal) (clock by : ℕ) (what : Entry) → IsLater what
     → IfSome (stream_of what) (λ s. Tells log clock by what s)
 each log c by (entry.Made s name count) later = absurd later
@@ -212,27 +230,36 @@ each log c by (entry.Enforced s on) later =
     }
 each log c by _ later = tt
 
+-- In this module, `what` is an entry of the stream `s` that doesn't make the stream.
 module _ (log : Journal) (clock by s : ℕ) (what : Entry) (later : IsLater what) (of : stream_of what ≡ Some s) where
   tells : Tells log clock by what s
   tells = subst (λ o. IfSome o (λ m. Tells log clock by what m)) of (each log clock by what later)
 
+  -- The verdict on the entry is that by `rest` of the lemma `tells` if the stream is live, and otherwise the refusal
+  -- NoStream. `live` says whether it is live.
   judged_so : (live : Bool) → is_live log s ≡ live
       → judged (told log (entry_line clock by what) what) what
       ≡ (if live then judged tells.rest what else refused refusal.NoStream)
   judged_so live is = ap (λ d. judged d what) tells.told_is ∙ judged_in log s tells.rest what live is
 
+  -- If the stream isn't live, the entry's command is refused with NoStream.
   pub gone_told : is_live log s ≡ false → judged (told log (entry_line clock by what) what) what
       ≡ refused refusal.NoStream
   gone_told gone = judged_so false gone
 
+  -- If the stream is live and `v` is the model of it, the verdict on the entry by the machine's decision is the one
+  -- that the judge computes from `v` (`entry_verdict`).
   pub live_told : (v : StreamValue) (full : Bool) → IsStream log s v → v.live ≡ true → last_clock log ≤ clock
       → full ≡ nat_le OPEN_SHARDS (open_count log) → judged (told log (entry_line clock by what) what) what
       ≡ entry_verdict full clock what v
   live_told v full st live order room = judged_so true (st.lives ∙ live) ∙ tells.verdict_is v full st order room
 
+  -- Each line that the decision on the entry's command gives is the line of its entry.
   lines_told : AreTold clock by (told log (entry_line clock by what) what)
   lines_told = subst (AreTold clock by) (sym tells.told_is) (past _ _ _ _ _ tells.lines_are)
 
+-- For an entry of a stream that doesn't make the stream, each line that the decision on its command gives is the line
+-- of its entry.
 pub stream_lines : (log : Journal) (clock by : ℕ) (what : Entry) → IsLater what → stream_of what ≢ None
     → AreTold clock by (told log (entry_line clock by what) what)
 stream_lines log clock by what later of = of_its (stream_of what) refl

@@ -1,4 +1,5 @@
--- What a judge says of an entry: that it is good, or the rule that it breaks.
+-- The verdict of the judge on an entry of a journal: that the entry is good, or which rule it breaks. The judge checks
+-- the entries one by one.
 use Rattle.std.specs.Prelude.{ℕ, ◌+◌, ◌^◌, ◌<◌, ◌≤◌, Bool, true, false, ◌==◌, ◌&&◌, nat_eq, nat_lt, if◌then◌else◌, List}
 use Rattle.std.specs.Prelude.{[], ◌∷◌, Result, Ok, Err}
 use Rattle.std.specs.Cmp.Lexicographic.{pointwise}
@@ -17,30 +18,34 @@ use Rattle.kds_defs.specs.Legal.{last_clock, told}
 use Rattle.kcl_audit_streams.specs.declared.rule.Rule.{Rule}
 use Rattle.kcl_audit_streams.specs.declared.rule.Rule.TheVariants as rule
 
+-- The verdict on an entry: Ok if the entry is good, or the rule that it breaks.
 abbrev pub Verdict : Type 0
 Verdict = Result (Unit {0}) Rule
 
--- Both texts, or lists of numbers, are the same.
+-- Whether two texts, or two lists of numbers, are the same.
 abbrev pub same_list : List ℕ → List ℕ → Bool
 same_list a b = pointwise nat_eq a b
 
+-- Whether two flags are the same.
 abbrev pub same_flag : Bool → Bool → Bool
 same_flag true b = b
 same_flag false true = false
 same_flag false false = true
 
+-- Whether two targets of a checkpoint are the same.
 abbrev pub same_target : Target → Target → Bool
 same_target target.End target.End = true
 same_target (target.At q) (target.At p) = q == p
 same_target _ _ = false
 
+-- Whether two origins are the same.
 abbrev pub same_origin : Origin → Origin → Bool
 same_origin origin.TrimHorizon origin.TrimHorizon = true
 same_origin origin.Latest origin.Latest = true
 same_origin (origin.Time m) (origin.Time n) = m == n
 same_origin _ _ = false
 
--- Both entries are the same.
+-- Whether two entries are the same: of the same kind, with the same values.
 abbrev pub same_entry : Entry → Entry → Bool
 same_entry (entry.Made s name count) (entry.Made s' name' count') =
     (s == s') && (same_list name name' && (count == count'))
@@ -68,28 +73,30 @@ same_entry (entry.Marked t counter to) (entry.Marked t' counter' to') =
 same_entry (entry.LeaseCut key counter) (entry.LeaseCut key' counter') = same_key key key' && (counter == counter')
 same_entry _ _ = false
 
--- The lines that a command gives are the one entry `what`.
+-- Whether the lines are just one line, and its entry is the same as `what`.
 abbrev pub gives : List Line → Entry → Bool
 gives (line ∷ []) what = same_entry line.what what
 gives _ what = false
 
--- The verdict on an entry, given the decision on the command that the entry records.
+-- The verdict on the entry `what`, if the decision is that of the machine on its command. The entry is good if the
+-- command is accepted and leads to this entry alone.
 abbrev pub judged : Decision → Entry → Verdict
 judged (Refused r) what = Err (rule.By r)
 judged (Accepted lines reply) what = if gives lines what then Ok tt else Err rule.Entry
 
--- The verdict on a line after the lines of the journal `log`. It is good if its clock isn't below the last line's, if
--- the command that it records is allowed there, and if this command gives the line's entry.
+-- The verdict on the line `line` after the journal `log`. The line is good if its clock isn't below that of the newest
+-- line of `log`, and if its command is accepted after `log` and leads to the line's entry alone.
 abbrev pub verdict : Journal → Line → Verdict
 verdict log line = if nat_lt line.clock (last_clock log) then Err rule.Clock else judged (told log line line.what)
     line.what
 
--- The verdict on the last line of a journal's text, given the line's clock.
+-- The verdict on the last line (`end CLOCK`) of a journal's text, where `clock` is the clock in it: it must not be
+-- below that of the newest line of `log`.
 abbrev pub end_verdict : Journal → ℕ → Verdict
 end_verdict log clock = if nat_lt clock (last_clock log) then Err rule.Clock else Ok tt
 
--- The numbers of an entry lie in their ranges: a record has a bounded size, and the counter of a row that was written
--- is at least 1.
+-- The numbers of the entry are in the ranges that the judge relies on. These are the number of a new stream's shards, a
+-- retention, the hash key and the size of a record, and the counter of a row after a write, which is at least 1.
 abbrev pub IsFit : Entry → Type 0
 IsFit (entry.Made s name count) = IsShardCount count
 IsFit (entry.Put s sh number hash bytes key_bytes) = (hash < 2 ^ 128) × (bytes + key_bytes ≤ RECORD_BYTES)

@@ -1,4 +1,5 @@
--- The tenures of leases, numbered from 1 (Kinesis Client Library, lease ownership).
+-- The book of tenures, which are numbered from 1 (Kinesis Client Library, lease ownership). A tenure is one worker's
+-- hold on a lease.
 use Rattle.std.specs.Prelude.{ℕ, zero, suc, ◌≡◌, ◌-◌, Bool, false, List, [], ◌∷◌, ◌++◌, length, slice_get, slice_set}
 use Rattle.std.specs.Prelude.{Option, None, IfSome}
 use Rattle.kds_base.specs.declared.lease_key.Checkpoint.{Checkpoint}
@@ -8,7 +9,9 @@ use Rattle.kds_defs.specs.Listings.{are_none}
 use Rattle.kcl_book.specs.declared.tenure.PendingRead.{PendingRead}
 use Rattle.kcl_book.specs.declared.tenure.Tenure.{Tenure}
 
--- A tenure, with the reads that aren't given, the oldest first.
+-- A tenure: its actor, its key, the checkpoint where it begins, and whether it was opened; the position up to which it
+-- has read (`reach`), and the position up to which its reads are given (`delivered`). Then follow the reads that aren't
+-- given, the oldest first, and whether the last given read ended the shard.
 pub record TenureValue : Type 0 where
   pub by : ℕ
   pub key : ShardRef
@@ -19,13 +22,14 @@ pub record TenureValue : Type 0 where
   pub pending : List PendingRead
   pub at_end : Bool
 
--- What contracts see of all tenures: the tenures in the order of their numbers, and the number of further tenures for
--- which there is memory.
+-- The book of tenures as contracts see it: the tenures in the order of their numbers, and for how many further tenures
+-- it has memory.
 pub record BookValue : Type 0 where
   pub tenures : List TenureValue
   pub spare : ℕ
 
--- A tenure as it begins, when nothing is read or given.
+-- A new tenure of the actor `by` with the key `key`, which begins at the checkpoint `start`. It isn't opened, and
+-- nothing is read or given.
 abbrev pub begun : ℕ → ShardRef → Checkpoint → TenureValue
 begun by key start =
     record {
@@ -39,16 +43,16 @@ begun by key start =
       at_end = false;
     }
 
--- The tenure with a number, if there is one.
+-- The tenure whose number is the second argument, if there is one. Numbers begin at 1.
 abbrev pub tenure_at : List TenureValue → ℕ → Option TenureValue
 tenure_at ts zero = None
 tenure_at ts (suc n) = slice_get ts n
 
--- The book after `t` replaced the tenure with the number `number`.
+-- The book `book` with the tenure `t` in place of the one with the number `number`.
 abbrev pub with_tenure : ℕ → TenureValue → BookValue → BookValue
 with_tenure number t book = record book { tenures = slice_set book.tenures (number - 1) t }
 
--- The tenure as callers see it.
+-- The tenure `t` as callers see it: with the number of its reads that aren't given, in place of these reads.
 abbrev pub shown : TenureValue → Tenure
 shown t =
     record {
@@ -62,20 +66,22 @@ shown t =
       at_end = t.at_end;
     }
 
--- The tenure after a read that reached the position `reach`. `ended` says whether the read ended the shard.
+-- The tenure `t` after one more read, which reached the position `reach`. `ended` is true if the read ended the shard.
 abbrev pub with_read : ℕ → Bool → TenureValue → TenureValue
 with_read reach ended t = record t { reach = reach; pending = t.pending ++ record { reach = reach; end = ended } ∷ [] }
 
--- The tenure after the oldest of its reads that weren't given was given.
+-- The tenure `t` after the first of its reads that aren't given, which are the first argument, was given. If there is
+-- no such read, nothing changes.
 abbrev pub given_of : List PendingRead → TenureValue → TenureValue
 given_of [] t = t
 given_of (r ∷ rs) t = record t { delivered = r.reach; pending = rs; at_end = r.end }
 
+-- The tenure `t` after the oldest of its reads that aren't given was given.
 abbrev pub with_given : TenureValue → TenureValue
 with_given t = given_of t.pending t
 
--- The oldest read that wasn't given, of the tenure with the number `number`, was given, and had reached the position
--- `delivered`.
+-- The tenure `number`, if the book `old` has it, has a read that isn't given. In the book `new`, the oldest such read
+-- is given, and `delivered` is the position that this read reached.
 abbrev pub HasGiven : ℕ → ℕ → BookValue → BookValue → Type 0
 HasGiven number delivered old new =
     IfSome (tenure_at old.tenures number) (λ t. (are_none t.pending ≡ false)

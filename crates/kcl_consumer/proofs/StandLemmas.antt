@@ -1,4 +1,5 @@
--- What a consumer's calls do to the record that it stands for.
+-- After a call of a consumer's functions, the consumer stands for its record (the list of its events) with what the
+-- call adds. `stands` says which processor calls a processor stands for.
 use Rattle.std.proofs.Common.{◌≡◌, ℕ, Bool, false, List, ◌∷◌, Option, None, Ok, Err, refl, sym, ap, subst, ◌∙◌}
 use Rattle.std.specs.Prelude.{Result}
 use Rattle.kds_defs.specs.declared.command.Target.{Target}
@@ -19,6 +20,7 @@ use Rattle.kcl_consumer.specs.declared.stage.ConsumerStage.TheVariants as stage
 use Rattle.kcl_consumer.specs.Stages.{stage_of}
 use Rattle.kcl_consumer.specs.Standing.{HasCalled, IsAsBefore, Standing, StandsFor}
 
+-- After its due processor call has returned, a consumer stands for its record with this call added.
 pub called : {P : Type 0} (stands : P → List Call → Type 0) (asks : P → List Stored → Ask
     → Type 0) (asked : Ask) (old new : Standing P) (past : Past) → HasCalled stands asks asked old new
     → StandsFor stands old past → StandsFor stands new (Called asked ∷ past)
@@ -67,6 +69,9 @@ lost stands old new past made stage given processor s = record {
 
 -- ---- The answers to a Read and to a Give, in terms of the fields
 
+-- The consumer with these fields: `st` is the stored stage, `reach` is the read position, and `ahead` has the waiting
+-- batches. `asked` is the target of the mark that the processor asked for, and `lost` is true if the lease is known to
+-- be lost.
 abbrev fields : {P : Type 0} → Tenancy → ConsumerStage → ℕ → List Fetched → Option Target → Bool → Option ℕ → P
     → Standing P
 fields made st reach ahead asked lost given processor =
@@ -77,6 +82,8 @@ given_still : (answer : Result Reply Refusal) (reach : ℕ) (waiting : List Fetc
 given_still (Ok reply) reach waiting last = refl
 given_still (Err r) reach waiting last = refl
 
+-- After the answer to a Read, the consumer with these fields stands for its record with the answer added. The names
+-- with a prime are the fields after the answer.
 pub read_answered : {P : Type 0} (stands : P → List Call → Type 0) (answer : Result Reply Refusal) (made : Tenancy)
     (st st' : ConsumerStage) (reach reach' : ℕ) (ahead ahead' : List Fetched) (asked asked' : Option Target)
     (lost lost' : Bool) (given : Option ℕ) (p : P) (past : Past) → st ≡ stage.Filling → asked' ≡ None → lost' ≡ false
@@ -92,6 +99,8 @@ read_answered stands answer made st st' reach reach' ahead ahead' asked asked' l
     (given_still answer reach ahead given
     ∙ sym (ap (λ x. given_after answer (stage_of x reach ahead asked lost) given) is)) refl s
 
+-- After the answer to a Give, the consumer with these fields stands for its record with the answer added. The names
+-- with a prime are the fields after the answer.
 pub give_answered : {P : Type 0} (stands : P → List Call → Type 0) (answer : Result Reply Refusal) (made : Tenancy)
     (st st' : ConsumerStage) (reach : ℕ) (ahead ahead' : List Fetched) (asked asked' : Option Target)
     (lost lost' : Bool) (given given' : Option ℕ) (p : P) (past : Past) → st ≡ stage.Giving → asked' ≡ None

@@ -1,4 +1,5 @@
--- How a consumer stores its stage.
+-- How the code stores the stage of a consumer: the read position, the waiting batches, the mark that the processor
+-- asked for and whether the lease is lost are fields of the consumer, apart from its stage.
 use Rattle.std.specs.Prelude.{ℕ, ◌≡◌, ◌<◌, Bool, true, List, [], length, Option}
 use Rattle.kds_defs.specs.declared.command.Target.{Target}
 use Rattle.kcl_defs.specs.declared.consumer.Fetched.{Fetched}
@@ -8,7 +9,9 @@ use Rattle.kcl_defs.specs.Consumers.{Leaving, Over, was_handed}
 use Rattle.kcl_consumer.specs.declared.stage.ConsumerStage.{ConsumerStage}
 use Rattle.kcl_consumer.specs.declared.stage.ConsumerStage.TheVariants as stage
 
--- The stage for which the fields of a consumer stand.
+-- The stage of a consumer with these fields: the stored stage, the read position `reach`, the waiting batches
+-- `waiting`, the target of the mark that the processor asked for (`asked`), and whether the lease is known to be lost
+-- (`lost`).
 abbrev pub stage_of : ConsumerStage → ℕ → List Fetched → Option Target → Bool → Stage
 stage_of stage.Opening reach waiting asked lost = Opening
 stage_of stage.Starting reach waiting asked lost = Starting
@@ -21,8 +24,8 @@ stage_of stage.MarkingEnd reach waiting asked lost = MarkingEnd
 stage_of (stage.Leaving why) reach waiting asked lost = Leaving why
 stage_of (stage.Over why) reach waiting asked lost = Over why
 
--- Before reading begins, no batch waits. If a batch is to be read, there is room for it. If a batch is held for the
--- processor, it is the first one and isn't empty.
+-- How many batches wait in the stored stage. In `Opening` and `Starting` none waits. In `Filling` there is room for one
+-- more. In `Holding` a batch waits, and the first one isn't empty. In any other stage nothing is claimed.
 abbrev pub IsKept : ConsumerStage → List Fetched → Type 0
 IsKept stage.Opening waiting = waiting ≡ []
 IsKept stage.Starting waiting = waiting ≡ []

@@ -1,4 +1,5 @@
--- The reads and gives among an actor's turns are those of its tenures in the journal.
+-- The commands of an actor agree with the tenures of the journal: the accepted reads and Gives among them are the reads
+-- and gives of the actor's own tenures.
 use Rattle.std.proofs.Common.{◌≡◌, ℕ, ◌+◌, ◌<◌, Bool, true, false, List, [], ◌∷◌, ◌++◌, Option, Some, None, Ok, Err}
 use Rattle.std.proofs.Common.{refl, sym, ap, subst, ◌∙◌, arith}
 use Rattle.std.specs.Prelude.{◌==◌, cond, if◌then◌else◌, Result, map}
@@ -36,8 +37,9 @@ use Rattle.kds_defs.proofs.Walk.{Outcome, IsAdded, Alone, Answers, Adds, Creates
 use Rattle.kcl_defs.proofs.WorkerLemmas.{begins, was_taken, IsNewTenure, AreNewTenures, IsQuiet}
 use Rattle.kcl_defs.specs.WorkerLives.{read_done, AreOfTenure}
 
--- ---- Lines that leave the tenures
+-- ---- Lines that change no tenure
 
+-- The entry changes no tenure: it isn't the taking of a row, the opening of a tenure, a read or a give.
 abbrev pub IsStill : Entry → Type 0
 IsStill (entry.Taken key tenure counter owner) = ⊥
 IsStill (entry.Opened tenure) = ⊥
@@ -45,6 +47,7 @@ IsStill (entry.Read tenure limit ended numbers) = ⊥
 IsStill (entry.Given tenure) = ⊥
 IsStill _ = Unit {0}
 
+-- None of the lines changes a tenure (`IsStill`).
 abbrev pub AreStill : List Line → Type 0
 AreStill lines = AllByRecursion (λ line. IsStill line.what) lines
 
@@ -62,12 +65,12 @@ still_tenures [] log t h = refl
 still_tenures (line ∷ lines) log t h =
     still_tenures lines (line ∷ log) t h.1 ∙ still_tenure log line line.what t (tenure log t) h.0
 
--- The lines leave the tenures as they are, and the answer begins none.
+-- The lines change no tenure, and the answer begins none.
 pub record LeavesTenures (lines : List Line) (answer : Result Reply Refusal) : Type 0 where
   pub lines_still : AreStill lines
   pub begins_none : (t : ℕ) → begins t answer ≡ false
 
--- The command begins, opens, reads or gives no tenure.
+-- The command is no Take, OpenShard, Read or Give, so it can't change a tenure.
 abbrev pub TouchesNone : Command → Type 0
 TouchesNone (command.Take key counter owner) = ⊥
 TouchesNone (command.OpenShard t) = ⊥
@@ -96,15 +99,18 @@ command_leaves log c by what h = record {
 
 -- ---- An actor's reads and gives are those of its tenures
 
--- If the tenure is the actor's, its reads and the number of given ones are those among `deals`. Otherwise `deals` has
--- none.
+-- The commands `deals` of the actor `by` agree with the tenure `t`. If the tenure is the actor's, its reads are the
+-- accepted reads among `deals`, and as many are given as Gives were accepted. If it is another actor's, `deals` has no
+-- accepted read and no accepted Give of it. If there is no tenure `t`, `deals` has neither, and no command in `deals`
+-- began it.
 abbrev pub AgreeWith : ℕ → ℕ → List Deal → Option TenureState → Type 0
 AgreeWith by t deals None = (was_taken t deals ≡ false) × (reads_in t deals ≡ []) × (gives_in t deals ≡ 0)
 AgreeWith by t deals (Some T) =
     ((T.by == by) ≡ true → (map read_done (reads_in t deals) ≡ T.reads) × (gives_in t deals ≡ T.given))
     × ((T.by == by) ≡ false → (reads_in t deals ≡ []) × (gives_in t deals ≡ 0))
 
--- `AgreeWith` still holds after a command that adds nothing.
+-- If the commands of the actor `by` agree with the tenure `t` (`AgreeWith`), they still do with the command `deal`
+-- added, if `deal` didn't begin this tenure and reports no read and no give of it.
 agree_still : (by t : ℕ) (deal : Deal) (deals : List Deal) (o : Option TenureState) → begins t deal.answer ≡ false
     → reads_of t deal.what deal.answer ≡ []
     → gives_of t deal.what deal.answer ≡ 0 → AgreeWith by t deals o → AgreeWith by t (deal ∷ deals) o
@@ -130,7 +136,8 @@ none_of : {o : Option TenureState} (f : TenureState → TenureState) (b : Bool) 
     → cond b (option_map f o) o ≡ None
 none_of f b h = ap (λ o. cond b (option_map f o) o) h ∙ same_none b
 
--- `AgreeWith` still holds for an existing tenure after a command that adds nothing to it, whatever begins.
+-- If the commands of the actor `by` agree with the existing tenure `t` (`AgreeWith`), they still do with the command
+-- `deal` added, if `deal` reports no read and no give of this tenure.
 agree_still_some : (by t : ℕ) (deal : Deal) (deals : List Deal) (T : TenureState)
     → reads_of t deal.what deal.answer ≡ [] → gives_of t deal.what deal.answer ≡ 0
     → AgreeWith by t deals (Some T) → AgreeWith by t (deal ∷ deals) (Some T)
@@ -143,7 +150,7 @@ agree_still_some by t deal deals T r g h =
       λ e. (same_reads ∙ (h.1 e).0, same_gives ∙ (h.1 e).1),
     )
 
--- The tenures of a journal have numbers up to their count.
+-- If no tenure has a number above the count of tenures, this is still so after a further line.
 unborn_at : (log : Journal) (line : Line) (what : Entry) (t : ℕ) → (taken_count log < t → tenure log t ≡ None)
     → taken_count_after what (taken_count log) < t
     → tenure_after log line what t (tenure log t) ≡ None
@@ -166,24 +173,30 @@ unborn_at log line (entry.Read which limit ended numbers) t before h =
 unborn_at log line (entry.Given which) t before h = none_of with_given (which == t) (before h)
 unborn_at log line _ t before h = before h
 
+-- No tenure has a number above the count of tenures in the journal.
 pub unborn : (log : Journal) (t : ℕ) → taken_count log < t → tenure log t ≡ None
 unborn [] t h = refl
 unborn (line ∷ log) t h = unborn_at log line line.what t (λ l. unborn log t l) h
 
 -- ---- One turn
 
--- What is known of each tenure before the turn.
+-- The commands `deals` of the actor `by` agree with each tenure of the journal `log`, and have no read and no give of a
+-- tenure that the journal doesn't have (`AgreeWith`).
 abbrev pub AllAgree : ℕ → List Deal → Journal → Type 0
 AllAgree by deals log = (t : ℕ) → AgreeWith by t deals (tenure log t)
 
+-- The commands `deals` with the command `what` and its answer as the newest.
 abbrev with_answer : Command → Result Reply Refusal → List Deal → List Deal
 with_answer what answer deals = record { what = what; answer = answer } ∷ deals
 
--- `AgreeWith` after a turn of the actor's own, and after another actor's turn.
+-- The commands of the actor `by` agree with the tenure `t` (`AgreeWith`) after its own further command `what`, which
+-- added the lines `lines` to the journal and was answered by `answer`.
 abbrev OwnAgrees : ℕ → Command → List Deal → Journal → ℕ → List Line → Result Reply Refusal → Type 0
 OwnAgrees by what deals log t lines answer =
     AgreeWith by t (with_answer what answer deals) (tenure (with_lines lines log) t)
 
+-- The commands of the actor `by` agree with the tenure `t` (`AgreeWith`) after another actor's turn, which added the
+-- lines `lines` to the journal. The turn adds nothing to `deals`.
 abbrev OtherAgrees : ℕ → List Deal → Journal → ℕ → List Line → Result Reply Refusal → Type 0
 OtherAgrees by deals log t lines answer = AgreeWith by t deals (tenure (with_lines lines log) t)
 
@@ -196,7 +209,8 @@ own_actor a b d h g = grind (arith, nat_tests)
 other_actor : (a b d : ℕ) → (a == b) ≡ true → (b == d) ≡ false → (a == d) ≡ false
 other_actor a b d h g = grind (arith, nat_tests)
 
--- `deals` has nothing of a tenure that doesn't exist yet.
+-- The commands `deals` didn't begin the tenure that the next taking of a row will begin, and have no read and no give
+-- of it.
 nothing_yet : (by : ℕ) (deals : List Deal) (log : Journal) → AllAgree by deals log
     → (was_taken (taken_count log + 1) deals ≡ false) × (reads_in (taken_count log + 1) deals ≡ [])
     × (gives_in (taken_count log + 1) deals ≡ 0)
@@ -207,7 +221,8 @@ nothing_yet by deals log h =
     above : (n : ℕ) → n < n + 1
     above n = omega arith
 
--- A refusal adds nothing.
+-- The commands of the actor `by` still agree with the tenure `t` after a refused command of its own, which adds no
+-- line.
 own_refused : (by : ℕ) (what : Command) (deals : List Deal) (log : Journal) (t : ℕ) (r : Refusal)
     → reads_of t what (Err r) ≡ [] → gives_of t what (Err r) ≡ 0
     → AllAgree by deals log → OwnAgrees by what deals log t [] (Err r)
@@ -216,7 +231,8 @@ own_refused by what deals log t r no_read no_give h =
 
 -- ---- Take
 
--- `AgreeWith` holds for a new tenure of which `deals` has nothing yet.
+-- The commands of the actor `by` agree with a tenure that has just begun (`AgreeWith`), if `deals` has no read and no
+-- give of it.
 agree_new : (by t actor : ℕ) (key : ShardRef) (start : Checkpoint) (deals : List Deal) → reads_in t deals ≡ []
     → gives_in t deals ≡ 0
     → AgreeWith by t deals (Some (new_tenure actor key start))
@@ -234,7 +250,8 @@ begun by actor key start t n deals before true e nothing same new =
     new refl (subst (λ m. reads_in m deals ≡ []) (sym u) nothing.1, subst (λ m. gives_in m deals ≡ 0) (sym u) nothing.2)
 begun by actor key start t n deals before false e nothing same new = same refl
 
--- `AgreeWith` holds after a turn of the actor's own that begins a tenure.
+-- The commands of the actor `by` agree with the tenure `t` (`AgreeWith`) after a command of its own that begins the
+-- tenure `n`. `b` is true if `t` is `n`.
 begun_own : (by actor : ℕ) (key : ShardRef) (what : Command) (from start : Checkpoint) (t n counter : ℕ)
     (deals : List Deal) (before : Option TenureState)
     (b : Bool) → (t == n) ≡ b → IsQuiet what → (was_taken n deals ≡ false) × (reads_in n deals ≡ [])
@@ -266,7 +283,8 @@ take_own by actor c key counter owner deals log t h =
     (taken_count log + 1) (r.counter + 1) deals
     (tenure log t) (t == taken_count log + 1) refl (λ u x. (refl, refl)) (nothing_yet by deals log h) (h t)))))
 
--- `AgreeWith` holds after another actor's turn that begins a tenure.
+-- The commands of the actor `by` agree with the tenure `t` (`AgreeWith`) after another actor's turn that begins the
+-- tenure `n`. `b` is true if `t` is `n`.
 begun_other : (by actor : ℕ) (key : ShardRef) (start : Checkpoint) (t n : ℕ) (deals : List Deal)
     (before : Option TenureState) (b : Bool) → (t == n) ≡ b
     → (was_taken n deals ≡ false) × (reads_in n deals ≡ []) × (gives_in n deals ≡ 0) → AgreeWith by t deals before
@@ -328,7 +346,7 @@ map-append : (xs ys : List Fetched) → map read_done (xs ++ ys) ≡ map read_do
 map-append [] ys = refl
 map-append (x ∷ xs) ys = ap (λ l. read_done x ∷ l) (map-append xs ys)
 
--- `AgreeWith` holds after a read of the tenure, which is the actor's.
+-- The commands of the actor `by` agree with its own tenure `t` (`AgreeWith`) after its accepted read of this tenure.
 agree_read : (by t : ℕ) (deals : List Deal) (T : TenureState) (rs : List Logged) (ended : Bool) (what : Command)
     (place : ℕ) → (T.by == by) ≡ true
     → reads_of t what (Ok (reply.Read (map stored rs) place ended)) ≡ record { batch = map stored rs; ended = ended }
@@ -404,7 +422,8 @@ read_own by actor c which position limit deals log t own h =
     (ends_at log c T.key.stream T.key.shard (place_after (reach T) (numbers_of rs))) (which == t) refl
     (λ x. same_tenure log which t T e x) (not-false (T.by == actor) a) own (h t)))))))
 
--- `AgreeWith` holds after a line of a tenure that is another actor's.
+-- If the tenure `t` belongs to another actor, the commands of the actor `by` still agree with it (`AgreeWith`) after
+-- its state has changed from `T` to `U`.
 agree_other : (by t : ℕ) (deals : List Deal) (T U : TenureState) → U.by ≡ T.by → (T.by == by) ≡ false
     → AgreeWith by t deals (Some T)
     → AgreeWith by t deals (Some U)
@@ -555,12 +574,13 @@ agree_turn by turn h t true e all = turn_own by turn.by (clock (turn ∷ h)) tur
 agree_turn by turn h t false e all =
     turn_other by turn.by (clock (turn ∷ h)) turn.what (deals_of by h) (journal h) t e all
 
--- The reads and gives among an actor's turns are those of its tenures.
+-- In each history, the commands of the actor `by` agree with each tenure of the journal: the accepted reads and Gives
+-- among them are the reads and gives of the actor's own tenures (`AllAgree`).
 pub agree : (by : ℕ) (h : List Turn) → AllAgree by (deals_of by h) (journal h)
 agree by [] = λ t. (refl, refl, refl)
 agree by (turn ∷ h) = λ t. agree_turn by turn h t (turn.by == by) refl (agree by h)
 
--- A tenure that an answer begins is new.
+-- If the answer begins a tenure, none of the earlier commands `deals` began, read or gave this tenure.
 begins_new : (by actor c : ℕ) (deals : List Deal) (log : Journal) (what : Command) (lines : List Line)
     (answer : Result Reply Refusal)
     → Outcome log c actor what lines answer → AllAgree by deals log → IsNewTenure answer deals
@@ -579,11 +599,13 @@ new_turns by turn h true new =
     (new_turn by turn.by (clock (turn ∷ h)) turn.what (deals_of by h) (journal h) (agree by h), new)
 new_turns by turn h false new = new
 
+-- Each tenure that a turn of the actor `by` begins is new: none of the actor's earlier turns began, read or gave it.
 pub new_tenures : (by : ℕ) (h : List Turn) → AreNewTenures (deals_of by h)
 new_tenures by [] = tt
 new_tenures by (turn ∷ h) = new_turns by turn h (turn.by == by) (new_tenures by h)
 
--- The reads and gives of an actor's tenure are those of the journal.
+-- If the tenure `t` is the actor's, its reads in the journal are the accepted reads among the actor's turns, and as
+-- many of them are given as Gives of this tenure were accepted.
 pub of_tenure : (by : ℕ) (h : List Turn) (t : ℕ) (T : TenureState) → tenure (journal h) t ≡ Some T → (T.by == by) ≡ true
     → AreOfTenure by h t T
 of_tenure by h t T begun own =

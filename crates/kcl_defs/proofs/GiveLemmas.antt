@@ -1,4 +1,4 @@
--- A Give of an actor is refused only if no read of the tenure among the actor's turns waits to be given.
+-- If a Give of an actor is refused, each earlier read of the Give's tenure among the actor's turns is given already.
 use Rattle.std.proofs.Common.{◌≡◌, ℕ, suc, ◌-◌, ◌≤◌, Bool, true, false, List, [], ◌∷◌, length, Option, Some, None, Err}
 use Rattle.std.proofs.Common.{refl, sym, ap, subst, arith}
 use Rattle.std.specs.Prelude.{◌==◌, cond, if◌then◌else◌, not, map, Result}
@@ -21,16 +21,19 @@ use Rattle.kcl_defs.specs.Lives.{Deal, deals_of, reads_in, gives_in}
 use Rattle.kcl_defs.specs.WorkerLives.{read_done}
 use Rattle.kcl_defs.proofs.DealLemmas.{AgreeWith, AllAgree, agree}
 
--- If a Give is refused, each earlier read of the tenure is given.
+-- If the command is a Give and is refused, each read of its tenure among `deals` is given: there are no more reads of
+-- this tenure than accepted Gives.
 abbrev pub IsGiveTaken : Command → Result Reply Refusal → List Deal → Type 0
 IsGiveTaken (command.Give t) (Err r) deals = length (reads_in t deals) ≤ gives_in t deals
 IsGiveTaken _ answer deals = Unit {0}
 
+-- Each refused Give among the commands came when each earlier read of its tenure was given already (`IsGiveTaken`).
 abbrev pub AreGivesTaken : List Deal → Type 0
 AreGivesTaken [] = Unit {0}
 AreGivesTaken (deal ∷ deals) = IsGiveTaken deal.what deal.answer deals × AreGivesTaken deals
 
--- What holds of the answer of a decision.
+-- If a Give of the tenure `t` has the answer `answer` and this is a refusal, each read of this tenure among `deals` is
+-- given.
 abbrev GiveAnswers : ℕ → List Deal → Result Reply Refusal → Type 0
 GiveAnswers t deals answer = IsGiveTaken (command.Give t) answer deals
 
@@ -98,6 +101,7 @@ turns_taken by turn h true e taken =
     (turn_taken by turn.by (clock (turn ∷ h)) turn.what (deals_of by h) (journal h) e (agree by h), taken)
 turns_taken by turn h false e taken = taken
 
+-- Each refused Give of the actor `by` in the history `h` came when each earlier read of its tenure was given already.
 pub gives_taken : (by : ℕ) (h : List Turn) → AreGivesTaken (deals_of by h)
 gives_taken by [] = tt
 gives_taken by (turn ∷ h) = turns_taken by turn h (turn.by == by) refl (gives_taken by h)

@@ -1,4 +1,6 @@
--- The calls of a processor are those for the given reads of its tenure, in order.
+-- The calls of a consumer's processor fit the reads and gives in the consumer's record (`IsLife`). This is proved along
+-- the record: at each event, the reads are the given ones followed by the waiting ones, and the calls are those for the
+-- given ones and the few that came since (`Stands`).
 use Rattle.std.proofs.Common.{◌≡◌, ℕ, ◌+◌, Bool, true, false, List, [], ◌∷◌, ◌++◌, length, take, drop, Option, Some}
 use Rattle.std.proofs.Common.{None, Ok, Err, refl, sym, ap, subst, ◌∙◌, arith, inl, inr, append_assoc, length-append}
 use Rattle.std.specs.Prelude.{cond, if◌then◌else◌, not, reverse, Result}
@@ -26,13 +28,13 @@ use Rattle.kcl_defs.specs.Lives.{IsEnding, Goes_on, Ended, Left, Ended_and_left,
 
 -- ---- Definitions for the proof
 
--- There is no ending yet, or the shard's end was already reported.
+-- The calls at the end of a processor's calls after which LeaseLost may still follow: none, or ShardEnded alone.
 pub data IsOpenEnding : List Call → Type 0 where
   Open : IsOpenEnding []
   Open_ended : IsOpenEnding (call.ShardEnded ∷ [])
 
--- The reads are the given ones, `done`, followed by `waiting`. The calls are those for the given reads, followed by
--- `handed` and `ending`.
+-- The reads are the given ones (`done`), followed by the waiting ones (`waiting`). The calls are, in order: Initialize,
+-- a Process call for each given batch that isn't empty, `handed`, and `ending`. `calls` has the newest call first.
 pub record Stands (made : Tenancy) (waiting : List Fetched) (handed ending : List Call) (reads : List Fetched)
     (gives : ℕ) (calls : List Call) : Type 0 where
   pub done : List Fetched
@@ -40,16 +42,22 @@ pub record Stands (made : Tenancy) (waiting : List Fetched) (handed ending : Lis
   pub count : length done ≡ gives
   pub in_order : reverse calls ≡ call.Initialize made.key made.start ∷ (processed done ++ (handed ++ ending))
 
+-- Nothing was read, given or called yet.
 pub record IsNew (reads : List Fetched) (gives : ℕ) (calls : List Call) : Type 0 where
   pub none_read : reads ≡ []
   pub none_given : gives ≡ 0
   pub none_called : calls ≡ []
 
+-- The reads are the given ones, followed by some that wait. The calls are Initialize, the Process calls for the given
+-- batches, and `ending` (`Stands`), so no waiting batch was handed over.
 pub record StandsSomehow (made : Tenancy) (ending : List Call) (reads : List Fetched) (gives : ℕ) (calls : List Call) :
     Type 0 where
   pub waiting : List Fetched
   pub stands : Stands made waiting [] ending reads gives calls
 
+-- The reads and calls of a consumer that leaves, before its processor is told that the lease is lost. The reads are the
+-- given ones, followed by some that wait. At most the first waiting batch was handed over, and LeaseLost may still
+-- follow.
 pub record StandsLeaving (made : Tenancy) (reads : List Fetched) (gives : ℕ) (calls : List Call) : Type 0 where
   pub waiting : List Fetched
   pub handed : List Call
@@ -58,26 +66,34 @@ pub record StandsLeaving (made : Tenancy) (reads : List Fetched) (gives : ℕ) (
   pub waits : IsWaiting handed waiting
   pub opens : IsOpenEnding ending
 
--- The call for the first batch, unless this batch is empty.
+-- The Process call that hands over the first of the batches. There is no call if this batch is empty or the list has no
+-- batch.
 abbrev pub handed_of : List Fetched → List Call
 handed_of [] = []
 handed_of (f ∷ waiting) = processed (f ∷ [])
 
+-- The list has at least one read.
 abbrev pub IsNotNone : List Fetched → Type 0
 IsNotNone [] = ⊥
 IsNotNone (f ∷ waiting) = Unit {0}
 
+-- The reads and calls in the stage `Giving`: at least one batch waits, and the first one was handed over, unless it is
+-- empty. No later one was handed over.
 pub record StandsGiving (made : Tenancy) (waiting : List Fetched) (reads : List Fetched) (gives : ℕ)
     (calls : List Call) : Type 0 where
   pub some : IsNotNone waiting
   pub stands : Stands made waiting (handed_of waiting) [] reads gives calls
 
+-- The reads and calls in the stage `Holding`: the first of the waiting batches isn't empty, and no waiting batch was
+-- handed over.
 pub record StandsHolding (made : Tenancy) (waiting : List Fetched) (reads : List Fetched) (gives : ℕ)
     (calls : List Call) : Type 0 where
   pub some : was_handed waiting ≡ true
   pub stands : Stands made waiting [] [] reads gives calls
 
--- What holds in each stage.
+-- The reads of a consumer, the number of its gives and the calls of its processor fit the stage. Before the first call
+-- there are none of them. From then on, the reads are the given ones and the waiting ones. The calls are those for the
+-- given batches, in `Giving` also the one for the first waiting batch, and the ending that the stage allows.
 abbrev pub Holds : Tenancy → Stage → List Fetched → ℕ → List Call → Type 0
 Holds made Opening reads gives calls = IsNew reads gives calls
 Holds made Starting reads gives calls = IsNew reads gives calls
@@ -92,7 +108,7 @@ Holds made (Over why) reads gives calls = IsLife made reads gives calls
 
 -- ---- Small steps
 
--- A fact still holds if no read and no give is added.
+-- If `P` holds of the reads `reads` and the number `gives`, it still holds with no read and no give added.
 still : (P : List Fetched → ℕ → Type 0) (reads : List Fetched) (gives : ℕ) → P reads gives → P (reads ++ []) (gives + 0)
 still P reads gives h =
     let e : gives ≡ gives + 0 = omega arith in
@@ -100,7 +116,7 @@ still P reads gives h =
     let R : ℕ → Type 0 = λ n. P reads n in
     subst Q (sym (append-nil reads)) (subst R e h)
 
--- A new call comes last in the order of the calls.
+-- If the call `c` is made after the calls `calls`, `c` is the last one in the order in which the calls were made.
 more_order : (c first : Call) (calls given handed ending : List Call)
     → reverse calls ≡ first ∷ (given ++ (handed ++ ending))
     → reverse (c ∷ calls) ≡ first ∷ (given ++ (handed ++ (ending ++ (c ∷ []))))
@@ -110,6 +126,8 @@ more_order c first calls given handed ending h =
     ∙ ap (λ xs. first ∷ xs) (append_assoc given (handed ++ ending) (c ∷ [])
     ∙ ap (λ xs. given ++ xs) (append_assoc handed ending (c ∷ [])))
 
+-- If the calls are those for the given reads, `handed` and `ending` (`Stands`), then with the call `c` made they are
+-- those with `c` at the end of the ending.
 pub with_end : (made : Tenancy) (c : Call) (waiting : List Fetched) (handed ending : List Call) (reads : List Fetched)
     (gives : ℕ) (calls : List Call) → Stands made waiting handed ending reads gives calls
     → Stands made waiting handed (ending ++ (c ∷ [])) reads gives (c ∷ calls)
@@ -120,7 +138,8 @@ with_end made c waiting handed ending reads gives calls h = record {
   in_order = more_order c (call.Initialize made.key made.start) calls (processed h.done) handed ending h.in_order;
 }
 
--- If `Stands` holds, the calls have the form of a life.
+-- If the calls are those for the given reads, `handed` and `ending` (`Stands`), they fit the reads (`HasBegun`).
+-- `handed` hands over at most the first waiting batch, and `ending` is an allowed ending.
 form : (made : Tenancy) (waiting : List Fetched) (handed ending : List Call) (reads : List Fetched) (gives : ℕ)
     (calls : List Call) → Stands made waiting handed ending reads gives calls → IsWaiting handed waiting
     → IsEnding ending → HasBegun made reads gives calls
@@ -138,13 +157,15 @@ form made waiting handed ending reads gives calls h waits ends =
       ends = ends;
     }
 
--- If nothing is handed over, no batch waits to be given.
+-- If the calls are those for the given reads and an allowed ending (`Stands`), they fit the reads (`HasBegun`), and
+-- each batch that was handed over is given.
 pub whole : (made : Tenancy) (waiting : List Fetched) (ending : List Call) (reads : List Fetched) (gives : ℕ)
     (calls : List Call) → Stands made waiting [] ending reads gives calls → IsEnding ending
     → (begun : HasBegun made reads gives calls) × (begun.handed ≡ [])
 unfolding form
 whole made waiting ending reads gives calls h ends = (form made waiting [] ending reads gives calls h tt ends, refl)
 
+-- If LeaseLost may still follow the calls `ending`, then `ending` with LeaseLost is an allowed ending (`IsEnding`).
 pub left_ending : (ending : List Call) → IsOpenEnding ending → IsEnding (ending ++ (call.LeaseLost ∷ []))
 left_ending [] h = Left
 left_ending (c ∷ cs) Open_ended = Ended_and_left
@@ -155,7 +176,8 @@ open_ending _ Open_ended = Ended
 
 -- ---- Calls
 
--- The first call begins the list.
+-- If nothing was read, given or called before, then after Initialize, the first call, the calls are those for no given
+-- read, and no batch waits (`Stands`).
 begins : (made : Tenancy) (asked : Ask) (reads : List Fetched) (gives : ℕ) (calls : List Call) → IsNew reads gives calls
     → Stands made [] [] [] reads gives (call.Initialize made.key made.start ∷ calls)
 begins made asked reads gives calls h = record {
@@ -165,13 +187,15 @@ begins made asked reads gives calls h = record {
   in_order = ap (λ cs. reverse (call.Initialize made.key made.start ∷ cs)) h.none_called;
 }
 
--- A call in the ending is the same as a call that is handed over.
+-- If the call `c` alone follows the calls for the given reads, it may count as the ending or as the call for a waiting
+-- batch.
 as_handed : (made : Tenancy) (c : Call) (waiting : List Fetched) (reads : List Fetched) (gives : ℕ) (calls : List Call)
     → Stands made waiting [] (c ∷ []) reads gives calls → Stands made waiting (c ∷ []) [] reads gives calls
 as_handed made c waiting reads gives calls h =
     record { done = h.done; all = h.all; count = h.count; in_order = h.in_order }
 
--- A batch is handed over.
+-- If the reads and calls fit the stage `Holding`, they fit the stage `Giving` after the first of the waiting batches
+-- was handed over.
 hands : (made : Tenancy) (waiting : List Fetched) (reads : List Fetched) (gives : ℕ) (calls : List Call)
     → StandsHolding made waiting reads gives calls
     → StandsGiving made waiting reads gives (call.Process (first_batch waiting) ∷ calls)
@@ -240,7 +264,7 @@ leaving_given : (made : Tenancy) (waiting : List Fetched) (reads : List Fetched)
 leaving_given made waiting reads gives calls h =
     leaving made waiting (handed_of waiting) [] reads gives calls h.stands (waits_handed waiting) Open
 
--- If nothing was called, the calls have the form with no call.
+-- If nothing was read, given or called yet (`IsNew`), the calls fit the reads (`IsLife`): there is no call.
 none_yet : (made : Tenancy) (reads : List Fetched) (gives : ℕ) (calls : List Call) → IsNew reads gives calls
     → IsLife made reads gives calls
 none_yet made reads gives calls h = inl h.none_called
@@ -268,7 +292,8 @@ lost made (Leaving why) reads gives calls h = h
 
 -- ---- Answers
 
--- The first waiting batch comes to the front.
+-- If `f` has the first waiting batch, and no waiting batch was handed over, the reads and calls fit the next stage.
+-- This stage is `Giving` if the batch is empty (`b` is true), and `Holding` otherwise.
 fronts_first : (made : Tenancy) (reach : ℕ) (f : Fetched) (waiting : List Fetched) (reads : List Fetched) (gives : ℕ)
     (calls : List Call) (b : Bool) → is_empty f.batch ≡ b → Stands made (f ∷ waiting) [] [] reads gives calls
     → Holds made (if b then Giving reach (f ∷ waiting) None false else Holding reach (f ∷ waiting)) reads gives calls
@@ -284,7 +309,8 @@ fronts made reach [] reads gives calls h = h
 fronts made reach (f ∷ waiting) reads gives calls h =
     fronts_first made reach f waiting reads gives calls (is_empty f.batch) refl h
 
--- A batch that was read waits behind the others.
+-- If the reads are the given ones followed by the waiting ones (`Stands`), they still are after the read `f`, which is
+-- the last of the waiting ones then. The calls stay the same.
 more_waiting : (made : Tenancy) (waiting : List Fetched) (f : Fetched) (reads : List Fetched) (gives : ℕ)
     (calls : List Call) → Stands made waiting [] [] reads gives calls
     → Stands made (waiting ++ (f ∷ [])) [] [] (reads ++ (f ∷ [])) gives calls
@@ -329,7 +355,8 @@ read_answered made reach waiting (Ok _) reads gives calls h = stays made waiting
 read_answered made reach waiting (Err refusal.ShardGone) reads gives calls h = no_room made waiting reads gives calls h
 read_answered made reach waiting (Err _) reads gives calls h = no_room made waiting reads gives calls h
 
--- The first of the batches is given.
+-- If the batch of `f` waits first, and was handed over unless it is empty, then after a Give the read `f` is one of the
+-- given ones, and the calls are those for the given ones (`Stands`).
 pub given_on : (made : Tenancy) (f : Fetched) (waiting : List Fetched) (reads : List Fetched) (gives : ℕ)
     (calls : List Call) → Stands made (f ∷ waiting) (processed (f ∷ [])) [] reads gives calls
     → Stands made waiting [] [] (reads ++ []) (gives + 1) calls
@@ -434,11 +461,14 @@ answered made answer (Over why) reads gives calls h = still (λ rs n. Holds made
 
 -- ---- The record
 
+-- After the record `past` of a consumer, its reads, the number of its gives and the calls of its processor fit its
+-- stage (`Holds`).
 abbrev HoldsAfter : Tenancy → Past → Type 0
 HoldsAfter made past =
     Holds made (stage_after made past) (reads_after made past) (gives_after made past) (calls_after made past)
 
--- `Holds` still holds after an event that adds no read and no give.
+-- If the reads, gives and calls fit the stage `stage` (`Holds`), they still do after an event in the stage `before`
+-- that adds no read and no give.
 quiet : (made : Tenancy) (event : Event) (stage before : Stage) (reads : List Fetched) (gives : ℕ) (calls : List Call)
     → reads_at before event ≡ [] → gives_at before event ≡ 0 → Holds made stage reads gives calls
     → Holds made stage (reads ++ reads_at before event) (gives + gives_at before event) calls
@@ -472,11 +502,13 @@ happens made Losing past h =
     asked : Ask
     asked = ask.None
 
+-- After each record of a consumer, its reads, the number of its gives and the calls of its processor fit its stage
+-- (`Holds`).
 pub holds : (made : Tenancy) (past : Past) → HoldsAfter made past
 holds made [] = record { none_read = refl; none_given = refl; none_called = refl }
 holds made (event ∷ past) = happens made event past (holds made past)
 
--- In each stage, the calls have the form of a life.
+-- If the reads, gives and calls of a consumer fit its stage (`Holds`), the calls fit the reads and gives (`IsLife`).
 formed : (made : Tenancy) (stage : Stage) (reads : List Fetched) (gives : ℕ) (calls : List Call)
     → Holds made stage reads gives calls → IsLife made reads gives calls
 formed made Opening reads gives calls h = none_yet made reads gives calls h
@@ -495,7 +527,7 @@ formed made (Leaving why) reads gives calls h =
     inr (form made h.waiting h.handed h.ending reads gives calls h.stands h.waits (open_ending h.ending h.opens))
 formed made (Over why) reads gives calls h = h
 
--- The calls of a processor are those for the reads that its consumer gave, in order.
+-- The calls of a consumer's processor fit the reads and gives in the consumer's record `past` (`IsLife`).
 pub life : (made : Tenancy) (past : Past)
     → IsLife made (reads_after made past) (gives_after made past) (calls_after made past)
 life made past = formed made (stage_after made past) (reads_after made past) (gives_after made past)

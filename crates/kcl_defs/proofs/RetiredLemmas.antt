@@ -1,4 +1,4 @@
--- No batch of a retired consumer waits to be given.
+-- Each batch that the processor of a retired consumer was handed is given.
 use Rattle.std.proofs.Common.{◌≡◌, ℕ, ◌+◌, ◌≤◌, Bool, true, false, List, [], ◌∷◌, ◌++◌, length, Option, Some, None, Ok}
 use Rattle.std.proofs.Common.{Err, refl, sym, ap, subst, ◌∙◌, arith, inl, inr, length-append}
 use Rattle.std.specs.Prelude.{◌⊎◌, is_some, not, cond, if◌then◌else◌, Result}
@@ -74,12 +74,15 @@ give_accepted made _ counter what answer deals calls next taken h = refl
 
 -- ---- No Give of any consumer was refused
 
+-- No Give of the consumer was refused.
 abbrev pub IsUnrefused : Known → Type 0
 IsUnrefused k = was_refused k.made k.past ≡ false
 
+-- The consumer is over.
 abbrev pub HasEnded : Known → Type 0
 HasEnded k = is_over k ≡ true
 
+-- No Give of any consumer, retired or not, was refused, and each retired consumer is over.
 pub record AreUnrefused (consumers retired : List Known) : Type 0 where
   pub live : AllByRecursion IsUnrefused consumers
   pub over : AllByRecursion IsUnrefused retired
@@ -89,11 +92,13 @@ no_give : (stage : Stage) (asked : Ask) → (refused_at stage (Called asked) ≡
 no_give (Giving reach waiting to known) asked = (refl, refl)
 no_give _ asked = (refl, refl)
 
+-- If no Give of the consumer `k` was refused, this is still so after a call of its processor has returned.
 pub called_unrefused : (asked : Ask) (k : Known) → IsUnrefused k → IsUnrefused (with_event (Called asked) k)
 called_unrefused asked k h =
     or_from (refused_at (stage_of_known k) (Called asked)) (was_refused k.made k.past)
     (no_give (stage_of_known k) asked).0 h
 
+-- If no Give of the consumer `k` was refused, this is still so after a loss of its lease.
 pub lost_unrefused : (k : Known) → IsUnrefused k → IsUnrefused (with_event Losing k)
 lost_unrefused k h = or_from (refused_at (stage_of_known k) Losing) (was_refused k.made k.past)
     (no_give (stage_of_known k) ask.None).1 h
@@ -124,7 +129,8 @@ losing_unrefused test consumers retired u = record {
   ended = u.ended;
 }
 
--- For a consumer in step, `Holds` is true of its stage and of its reads and gives among `deals`.
+-- If the record of the consumer `k` has the reads and gives of its tenure among `deals` (`InStep`), these reads and
+-- gives and the calls of its processor fit its stage (`Holds`).
 step_kept : (deals : List Deal) (k : Known) → InStep deals k
     → Holds k.made (stage_of_known k) (reads_in k.made.tenure deals) (gives_in k.made.tenure deals)
     (calls_after k.made k.past)
@@ -135,6 +141,9 @@ step_kept deals k s =
     Holds k.made (stage_of_known k) (reads_after k.made k.past) n (calls_after k.made k.past) in
     subst P (sym s.reads) (subst Q (sym s.gives) (holds k.made k.past))
 
+-- If no Give of the consumer `k` was refused, this is still so after the answer to its next command `what`. The record
+-- of `k` has the reads and gives of its tenure among `deals`. A Give is refused only if each of these reads is given
+-- already.
 pub answered_unrefused : (deals : List Deal) (k : Known) (counter : ℕ) (what : Command) (answer : Result Reply Refusal)
     → next_command k.made (stage_of_known k) counter ≡ Some what → IsGiveTaken what answer deals → InStep deals k
     → IsUnrefused k → IsUnrefused (with_event (Answered answer) k)
@@ -254,7 +263,9 @@ release_unrefused (Some r) w u = record {
   ended = u.ended;
 }
 
--- If no Give was refused before an event, none is refused after it.
+-- If no Give of a consumer was refused before an event of the worker, none is after it. Each refused Give among the
+-- commands came when each earlier read of its tenure was given (`AreGivesTaken`), and the consumers' records agree with
+-- the commands (`IsFine`).
 pub state_unrefused : (made : WorkerMade) (event : WorkerEvent) (w : WorkerState) (deals : List Deal)
     → AreGivesTaken (deals_with event w deals) → IsFine deals w → AreUnrefused w.consumers w.retired
     → AreUnrefused (after_worker_event made event w).consumers (after_worker_event made event w).retired
@@ -301,7 +312,7 @@ unrefused made (event ∷ past) orderly new taken =
     event_unrefused made event past taken (fine made past orderly.1 newer)
     (unrefused made past orderly.1 newer (taken_before made event past taken))
 
--- ---- What follows
+-- ---- The calls of the processors
 
 settled_life : (made : Tenancy) (reads : List Fetched) (gives : ℕ) (calls : List Call)
     → (calls ≡ []) ⊎ IsSettled made reads gives calls → IsWholeLife made reads gives calls
@@ -313,6 +324,9 @@ over_life : (made : Tenancy) (stage : Stage) (reads : List Fetched) (gives : ℕ
 over_life made (Over why) reads gives calls over s = settled_life made reads gives calls s
 over_life made _ reads gives calls over s = absurd cc
 
+-- Let the record of the consumer `k` have the reads and gives of its tenure among `deals` (`InStep`). If `k` is over
+-- and no Give of it was refused, the calls of its processor fit these reads and gives, and each batch that was handed
+-- over is given (`IsWholeLife`).
 pub whole_among : (deals : List Deal) (k : Known) → InStep deals k → IsUnrefused k → HasEnded k
     → IsWholeLife k.made (reads_in k.made.tenure deals) (gives_in k.made.tenure deals) (calls_after k.made k.past)
 whole_among deals k s unrefused over =
@@ -323,6 +337,9 @@ whole_among deals k s unrefused over =
     (over_life k.made (stage_of_known k) (reads_after k.made k.past) (gives_after k.made k.past)
     (calls_after k.made k.past) over (settles k.made k.past unrefused)))
 
+-- Let the record of each consumer in `xs` have the reads and gives of its tenure among `deals`. If each is over and no
+-- Give was refused, the calls of each processor fit these reads and gives, and each batch that was handed over is given
+-- (`IsWholeLife`).
 pub all_whole : (deals : List Deal) (xs : List Known) → AllByRecursion (InStep deals) xs → AllByRecursion IsUnrefused xs
     → AllByRecursion HasEnded xs
     → AllByRecursion (λ k. IsWholeLife k.made (reads_in k.made.tenure deals) (gives_in k.made.tenure deals)
@@ -340,8 +357,9 @@ retired_whole made past orderly new taken =
     all_whole (deals_after made past) (worker_after made past).retired (fine made past orderly new).good.over u.over
     u.ended
 
--- The processors of a worker are called for the given reads of its tenures, in each history in which its actor's turns
--- are the commands of its record with their answers. No batch of a retired consumer waits to be given.
+-- If the turns of the actor `by` in the history `h` are the commands of the worker's record with their answers, each
+-- consumer's processor is called for the given reads of its tenure. Each batch that a retired consumer's processor was
+-- handed is given (`AreServed`).
 pub are_served : (by : ℕ) (h : List Turn) (made : WorkerMade) (past : WorkerPast) → IsOrderly made past
     → IsToldIn by h made past → AreServed by h made past
 are_served by h made past orderly told =

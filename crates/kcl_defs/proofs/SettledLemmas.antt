@@ -1,4 +1,4 @@
--- A consumer that is over has no batch that waits to be given, if no Give was refused.
+-- If no Give of a consumer was refused and the consumer is over, each batch that its processor was handed is given.
 use Rattle.std.proofs.Common.{◌≡◌, ℕ, ◌+◌, Bool, true, false, List, [], ◌∷◌, ◌++◌, length, Option, Some, None, Ok, Err}
 use Rattle.std.proofs.Common.{refl, sym, subst, arith, inl, inr}
 use Rattle.std.specs.Prelude.{◌⊎◌, cond, if◌then◌else◌, ◌||◌, not, Result}
@@ -24,28 +24,33 @@ use Rattle.kcl_defs.specs.Lives.{reads_at, reads_after, gives_at, gives_after, r
 use Rattle.kcl_defs.proofs.LifeLemmas.{Holds, Stands, StandsGiving, StandsSomehow, IsOpenEnding, Open, Open_ended}
 use Rattle.kcl_defs.proofs.LifeLemmas.{with_end, left_ending, given_on, holds}
 
--- Whether the event is the refusal of a Give.
+-- Whether the event is the refusal of a Give: a refusal that comes in the stage `Giving`.
 abbrev pub refused_at : Stage → Event → Bool
 refused_at (Giving reach waiting asked lost) (Answered (Err r)) = true
 refused_at _ event = false
 
+-- Whether a Give of the consumer was refused, according to its record.
 abbrev pub was_refused : Tenancy → Past → Bool
 was_refused made [] = false
 was_refused made (event ∷ past) = refused_at (stage_after made past) event || was_refused made past
 
--- No batch that was handed over waits to be given.
+-- The reads are the given ones, followed by some that wait, and no waiting batch was handed over. The calls have an
+-- allowed ending (`IsEnding`).
 pub record IsSettled (made : Tenancy) (reads : List Fetched) (gives : ℕ) (calls : List Call) : Type 0 where
   pub waiting : List Fetched
   pub ending : List Call
   pub stands : Stands made waiting [] ending reads gives calls
   pub ends : IsEnding ending
 
+-- The reads are the given ones, followed by some that wait, and no waiting batch was handed over. The processor wasn't
+-- told of the loss of the lease yet, so LeaseLost may follow.
 pub record IsLeavingSettled (made : Tenancy) (reads : List Fetched) (gives : ℕ) (calls : List Call) : Type 0 where
   pub waiting : List Fetched
   pub ending : List Call
   pub stands : Stands made waiting [] ending reads gives calls
   pub opens : IsOpenEnding ending
 
+-- If the stage is `Leaving` or `Over`, each batch that was handed over is given. In other stages nothing is claimed.
 abbrev pub Settles : Tenancy → Stage → List Fetched → ℕ → List Call → Type 0
 Settles made (Leaving why) reads gives calls = IsLeavingSettled made reads gives calls
 Settles made (Over why) reads gives calls = (calls ≡ []) ⊎ IsSettled made reads gives calls
@@ -66,7 +71,8 @@ fronts made reach (f ∷ waiting) reads gives calls = choice (is_empty f.batch)
     choice true = tt
     choice false = tt
 
--- `Settles` holds after a call.
+-- If each batch that was handed over is given, should the consumer leave or be over (`Settles`), this is still so after
+-- the processor call that is due in the stage has returned.
 called : (made : Tenancy) (asked : Ask) (stage : Stage) (reads : List Fetched) (gives : ℕ) (calls : List Call)
     → Settles made stage reads gives calls
     → Settles made (after_event made (Called asked) stage) reads gives (calls_with made (Called asked) stage calls)
@@ -86,7 +92,8 @@ called made asked (Marking reach waiting to) reads gives calls s = tt
 called made asked Ending reads gives calls s = tt
 called made asked MarkingEnd reads gives calls s = tt
 
--- `Settles` holds after a loss, if a batch that was handed is still given.
+-- After the lease was lost in the stage `Giving`, either the batch that was handed over is still to be given, or no
+-- waiting batch was handed over and the consumer leaves (`Settles`).
 not_handed : (made : Tenancy) (reach : ℕ) (waiting : List Fetched) (to : Option Target) (reads : List Fetched)
     (gives : ℕ) (calls : List Call) → StandsGiving made waiting reads gives calls
     → Settles made (if was_handed waiting then Giving reach waiting to true else Leaving why.Lost) reads gives calls
@@ -116,7 +123,7 @@ lost made MarkingEnd reads gives calls h s =
     leave made h.waiting (call.ShardEnded ∷ []) reads gives calls h.stands Open_ended
 lost made (Leaving why) reads gives calls h s = s
 
--- A fact still holds if no read and no give is added.
+-- If `P` holds of the reads `reads` and the number `gives`, it still holds with no read and no give added.
 still : (P : List Fetched → ℕ → Type 0) (reads : List Fetched) (gives : ℕ) → P reads gives → P (reads ++ []) (gives + 0)
 still P reads gives h =
     let e : gives ≡ gives + 0 = omega arith in
@@ -212,7 +219,7 @@ answered made answer (Leaving why) reads gives calls r h s =
 answered made answer (Over why) reads gives calls r h s =
     still (λ rs n. Settles made (Over why) rs n calls) reads gives s
 
--- `Settles` holds in the stage after a record.
+-- After the record `past` of a consumer that leaves or is over, each batch that was handed over is given (`Settles`).
 abbrev SettlesAfter : Tenancy → Past → Type 0
 SettlesAfter made past =
     Settles made (stage_after made past) (reads_after made past) (gives_after made past) (calls_after made past)
@@ -249,7 +256,8 @@ happens made Losing past r s =
     (lost made (stage_after made past) (reads_after made past) (gives_after made past) (calls_after made past)
     (holds made past) s)
 
--- A consumer that is over, and of which no Give was refused, has no batch that was handed over and not given.
+-- If no Give of a consumer was refused in its record `past`, and the consumer leaves or is over, each batch that was
+-- handed over is given (`SettlesAfter`).
 pub settles : (made : Tenancy) (past : Past) → was_refused made past ≡ false → SettlesAfter made past
 settles made [] r = tt
 settles made (event ∷ past) r =

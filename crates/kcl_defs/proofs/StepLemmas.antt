@@ -1,4 +1,5 @@
--- A consumer keeps in step with a history.
+-- A consumer's record has the same reads and gives of the consumer's tenure as the commands of its actor (`IsInStep`).
+-- This stays so after each command and after each event of the consumer.
 use Rattle.std.proofs.Common.{◌≡◌, ℕ, ◌+◌, false, List, [], ◌∷◌, ◌++◌, Some, refl, sym, ap, subst, ◌∙◌}
 use Rattle.std.specs.Prelude.{◌==◌, cond, if◌then◌else◌, Result}
 use Rattle.std.proofs.lemmas.List.{append-nil}
@@ -31,7 +32,8 @@ own_read t position limit answer = ap (λ b. if b then read_in answer else []) (
 own_give : (t : ℕ) (answer : Result Reply Refusal) → gives_of t (command.Give t) answer ≡ give_in answer
 own_give t answer = ap (λ b. if b then give_in answer else 0) (is_itself t)
 
--- What the answer to a command adds.
+-- The read and the give of the consumer's tenure that `what` and `answer` report are those that this answer adds to the
+-- consumer's record in the stage `stage`.
 pub record Adds (made : Tenancy) (stage : Stage) (what : Command) (answer : Result Reply Refusal) : Type 0 where
   pub reads : reads_of made.tenure what answer ≡ reads_at stage (Answered answer)
   pub gives : gives_of made.tenure what answer ≡ gives_at stage (Answered answer)
@@ -40,6 +42,8 @@ adds_as : (made : Tenancy) (stage : Stage) (given what : Command) (answer : Resu
     → Some given ≡ Some what → Adds made stage given answer → Adds made stage what answer
 adds_as made stage given what answer e h = subst (λ w. Adds made stage w answer) (same_command given what e) h
 
+-- If `what` comes next in the stage `stage`, the read and the give of the consumer's tenure that `what` and `answer`
+-- report are those that this answer adds to the consumer's record (`Adds`).
 pub adds : (made : Tenancy) (stage : Stage) (counter : ℕ) (what : Command) (answer : Result Reply Refusal)
     → next_command made stage counter ≡ Some what → Adds made stage what answer
 adds made Opening counter what answer e = adds_as made Opening _ what answer e (record { reads = refl; gives = refl })
@@ -59,7 +63,8 @@ adds made _ counter what answer e = absurd cc
 
 -- ---- Steps
 
--- A command that neither reads nor gives the tenure changes nothing.
+-- If the record `past` of a consumer has the reads and gives of its tenure among `deals` (`IsInStep`), this is still so
+-- with the command `deal` added, which reports no read and no give of this tenure.
 pub others_keep : (deal : Deal) (deals : List Deal) (made : Tenancy) (past : Past)
     → reads_of made.tenure deal.what deal.answer ≡ [] → gives_of made.tenure deal.what deal.answer ≡ 0
     → IsInStep deals made past → IsInStep (deal ∷ deals) made past
@@ -69,7 +74,8 @@ others_keep deal deals made past no_read no_give s =
       gives = ap (λ n. gives_in made.tenure deals + n) no_give ∙ plus_none (gives_in made.tenure deals) ∙ s.gives;
     }
 
--- The consumer is still in step after its own command, whose answer it has absorbed.
+-- If the record `past` of a consumer has the reads and gives of its tenure among `deals` (`IsInStep`), this is still so
+-- after the consumer's next command: `deal` is added to the commands, and its answer to the record.
 pub own_keeps : (deal : Deal) (deals : List Deal) (counter : ℕ) (made : Tenancy) (past : Past)
     → next_command made (stage_after made past) counter ≡ Some deal.what → IsInStep deals made past
     → IsInStep (deal ∷ deals) made (Answered deal.answer ∷ past)
@@ -82,7 +88,7 @@ own_keeps deal deals counter made past next s =
           ∙ ap (λ n. gives_after made past + n) a.gives;
     }
 
--- A call or a loss adds no read and no give.
+-- A returned call and a loss of the lease add no read and no give to a consumer's record.
 called_reads : (stage : Stage) (asked : Ask) → (reads_at stage (Called asked) ≡ [])
     × (gives_at stage (Called asked) ≡ 0) × (reads_at stage Losing ≡ []) × (gives_at stage Losing ≡ 0)
 called_reads (Filling reach waiting) asked = (refl, refl, refl, refl)
@@ -98,19 +104,24 @@ silent deals made event past no_read no_give s =
       gives = s.gives ∙ sym (ap (λ n. gives_after made past + n) no_give ∙ plus_none (gives_after made past));
     }
 
+-- If the record of a consumer has the reads and gives of its tenure among `deals` (`IsInStep`), this is still so after
+-- a call of the consumer's processor has returned.
 pub called_keeps : (deals : List Deal) (made : Tenancy) (asked : Ask) (past : Past) → IsInStep deals made past
     → IsInStep deals made (Called asked ∷ past)
 called_keeps deals made asked past s =
     let n = called_reads (stage_after made past) asked in silent deals made (Called asked) past n.0 n.1 s
 
+-- If the record of a consumer has the reads and gives of its tenure among `deals` (`IsInStep`), this is still so after
+-- the consumer has learnt that its lease is lost.
 pub lost_keeps : (deals : List Deal) (made : Tenancy) (past : Past) → IsInStep deals made past
     → IsInStep deals made (Losing ∷ past)
 lost_keeps deals made past s =
     let n = called_reads (stage_after made past) ask.None in silent deals made Losing past n.2 n.3 s
 
--- ---- What follows
+-- ---- The calls of the processor
 
--- The calls are those for the given reads of the tenure.
+-- If the record of a consumer has the reads and gives of its tenure among `deals` (`IsInStep`), the calls of its
+-- processor fit these reads and gives (`IsLife`).
 pub life_among : (deals : List Deal) (made : Tenancy) (past : Past) → IsInStep deals made past
     → IsLifeAmong deals made (calls_after made past)
 life_among deals made past s =
@@ -120,7 +131,7 @@ life_among deals made past s =
 
 -- ---- A history
 
--- A turn of another actor adds no command to the actor's.
+-- A turn of another actor adds nothing to the commands of the actor `by`.
 pub others_turn : (by : ℕ) (turn : Turn) (h : List Turn) → (turn.by == by) ≡ false
     → deals_of by (turn ∷ h) ≡ deals_of by h
 others_turn by turn h other =

@@ -1,4 +1,5 @@
--- What a consumer of a worker is made with is a tenure of the journal.
+-- Each consumer of a worker belongs to a tenure of the journal, which has the key and the starting checkpoint that the
+-- consumer was made with.
 use Rattle.std.proofs.Common.{◌≡◌, ℕ, ◌+◌, ◌<◌, Bool, true, false, List, [], ◌∷◌, Option, Some, None, Ok, Err, refl}
 use Rattle.std.proofs.Common.{sym, ap, subst, ◌∙◌, arith, inl, inr}
 use Rattle.std.specs.Prelude.{◌==◌, ◌⊎◌, not, cond, Result}
@@ -41,9 +42,10 @@ use Rattle.kcl_defs.proofs.DealLemmas.{unborn}
 use Rattle.kcl_defs.proofs.WorkerLemmas.{all_append, all_event, all_filter, all_first, all_map, all_with_known}
 use Rattle.kcl_defs.proofs.WorkerLemmas.{all_without}
 
--- ---- A tenure of the journal keeps its actor, its key and its start
+-- ---- A tenure of the journal keeps its actor, its key and its starting checkpoint
 
--- The tenure is the actor's, and has this key and this start.
+-- There is a tenure in the third argument, it is the tenure of the actor `by`, and it has the key and the starting
+-- checkpoint in `made`.
 abbrev pub TenureIs : ℕ → Tenancy → Option TenureState → Type 0
 TenureIs by made None = ⊥
 TenureIs by made (Some T) = (T.by ≡ by) × (T.key ≡ made.key) × (T.start ≡ made.start)
@@ -57,7 +59,8 @@ kept_map f by_same key_same start_same by made o false h = h
 kept_map f by_same key_same start_same by made None true h = h
 kept_map f by_same key_same start_same by made (Some T) true h = (by_same T ∙ h.0, key_same T ∙ h.1, start_same T ∙ h.2)
 
--- An existing tenure isn't begun again.
+-- If the tenure `t` is that of the actor, with the key and the starting checkpoint in `made` (`TenureIs`), it still is
+-- after the next tenure has begun. `b` is true if `t` has the number of the next tenure, which is impossible.
 taken_again : (log : Journal) (by t : ℕ) (made : Tenancy) (o : Option TenureState) (b : Bool)
     → (t == taken_count log + 1) ≡ b → TenureIs by made (tenure log t)
     → TenureIs by made (cond b o (tenure log t))
@@ -91,7 +94,8 @@ kept_lines (line ∷ lines) log by t made h =
 
 -- ---- An accepted Take begins a tenure
 
--- The command began the tenure.
+-- The command is a Take of the key in `made`. Its answer accepts it, and says that the tenure in `made` has begun, with
+-- the starting checkpoint in `made`.
 pub record IsTaken (made : Tenancy) (what : Command) (answer : Result Reply Refusal) : Type 0 where
   pub counter : ℕ
   pub owner : ℕ
@@ -99,11 +103,13 @@ pub record IsTaken (made : Tenancy) (what : Command) (answer : Result Reply Refu
   pub asked : what ≡ command.Take made.key counter owner
   pub taken : answer ≡ Ok (reply.Taken made.tenure now made.start)
 
--- One of the commands began the tenure.
+-- One of the commands `deals` is the accepted Take that began the tenure in `made` (`IsTaken`).
 abbrev pub IsBegunIn : List Deal → Tenancy → Type 0
 IsBegunIn [] made = ⊥
 IsBegunIn (deal ∷ deals) made = IsTaken made deal.what deal.answer ⊎ IsBegunIn deals made
 
+-- If the answer says that the tenure in `made` has begun, the journal `log` with the lines `lines` has this tenure. It
+-- is that of the actor `by`, and has the key `key` and the starting checkpoint in `made`.
 abbrev TakesSo : ℕ → ShardRef → Journal → List Line → Result Reply Refusal → Type 0
 TakesSo by key log lines answer =
     (made : Tenancy) (now : ℕ) → made.key ≡ key → answer ≡ Ok (reply.Taken made.tenure now made.start)
@@ -171,7 +177,8 @@ tenure_is : (by : ℕ) (h : List Turn) (made : Tenancy) → IsBegunIn (deals_of 
 tenure_is by [] made is = is
 tenure_is by (turn ∷ h) made is = begun_turn by turn h made (turn.by == by) refl (tenure_is by h made) is
 
--- What an accepted Take of the actor begins is a tenure of the history.
+-- If an accepted Take of the actor `by` in the history `h` began the tenure in `made`, the journal of `h` has this
+-- tenure. It is the actor's, and has the key and the starting checkpoint in `made`.
 pub of_tenancy : (by : ℕ) (h : List Turn) (made : Tenancy) → IsBegunIn (deals_of by h) made → IsOfTenure by h made
 of_tenancy by h made is = go (tenure (journal h) made.tenure) refl (tenure_is by h made is)
   where
@@ -181,19 +188,22 @@ of_tenancy by h made is = go (tenure (journal h) made.tenure) refl (tenure_is by
 
 -- ---- The consumers of a worker
 
+-- One of the commands `deals` began the tenure of the consumer `k`.
 abbrev pub IsBegun : List Deal → Known → Type 0
 IsBegun deals k = IsBegunIn deals k.made
 
--- The command of a chore that takes a row is a Take of this row's key.
+-- If the chore is a step of the take plan, the command is a Take of the step's key.
 abbrev pub IsTakeOf : Chore → Command → Type 0
 IsTakeOf (Taking step takes) what = (counter : ℕ) × (owner : ℕ) × (what ≡ command.Take step.key counter owner)
 IsTakeOf _ what = Unit {0}
 
+-- If a command waits for its answer and its chore is a step of the take plan, the command is a Take of the step's key.
 abbrev pub IsTakeWaiting : Option Pending → Type 0
 IsTakeWaiting None = Unit {0}
 IsTakeWaiting (Some p) = IsTakeOf p.chore p.what
 
--- Each consumer was begun by one of the commands `deals`.
+-- One of the commands `deals` began the tenure of each consumer of the worker, retired or not. If the command that
+-- waits is for a step of the take plan, it is a Take of the step's key.
 pub record AreBegun (deals : List Deal) (w : WorkerState) : Type 0 where
   pub live : AllByRecursion (IsBegun deals) w.consumers
   pub over : AllByRecursion (IsBegun deals) w.retired
@@ -213,7 +223,7 @@ settle_begun deals w live over waits = record {
   waits = waits;
 }
 
--- ---- The command that is given
+-- ---- The next command
 
 consumer_waits : (id : _) (finishing : Bool) (o : Option Command)
     → IsTakeWaiting (pending_of (cond finishing (Finishing id) (Consuming id)) o)
@@ -347,7 +357,8 @@ release_begun deals (Some r) w b =
 
 -- ---- The record
 
--- If each consumer was begun before an event, each was begun after it.
+-- If the worker's commands `deals` began the tenures of all its consumers before an event, they still did after the
+-- event.
 pub state_begun : (made : WorkerMade) (event : WorkerEvent) (w : WorkerState) (deals : List Deal) → AreBegun deals w
     → AreBegun (deals_with event w deals) (after_worker_event made event w)
 state_begun made (Made_call asked) w deals b =
@@ -361,23 +372,28 @@ state_begun made Stopped w deals b =
     (all_event (IsBegun deals) (λ k. true) Losing w.consumers (λ k g. g) b.live) b.over b.waits
 state_begun made (Released key) w deals b = release_begun deals (released key w) w b
 
+-- After each record of a worker, the answered commands of the record began the tenures of all its consumers
+-- (`AreBegun`).
 pub are_begun : (made : WorkerMade) (past : WorkerPast) → AreBegun (deals_after made past) (worker_after made past)
 are_begun made [] = record { live = tt; over = tt; waits = tt }
 are_begun made (event ∷ past) =
     state_begun made event (worker_after made past) (deals_after made past) (are_begun made past)
 
--- Each consumer of a worker is of a tenure of the history that its record tells.
+-- If the commands of the actor `by` in the history `h` began the tenures of all consumers in `xs`, each of these
+-- consumers belongs to a tenure of the history (`IsOfTenure`).
 pub all_tenures : (by : ℕ) (h : List Turn) (xs : List Known) → AllByRecursion (IsBegun (deals_of by h)) xs
     → AllByRecursion (λ k. IsOfTenure by h k.made) xs
 all_tenures by h xs b =
     all_map (IsBegun (deals_of by h)) (λ k. IsOfTenure by h k.made) xs (λ k g. of_tenancy by h k.made g) b
 
+-- If the turns of the actor `by` in the history `h` are the commands of the worker's record with their answers, the
+-- actor's commands began the tenures of all consumers of the worker (`AreBegun`).
 pub begun_told : (by : ℕ) (h : List Turn) (made : WorkerMade) (past : WorkerPast) → IsToldIn by h made past
     → AreBegun (deals_of by h) (worker_after made past)
 begun_told by h made past told =
     subst (λ deals. AreBegun deals (worker_after made past)) (sym told) (are_begun made past)
 
--- Two facts that hold of all hold together.
+-- If `P` holds of all consumers in `xs` and `Q` does too, both hold together of each of them.
 pub all_both : (P Q : Known → Type 0) (xs : List Known) → AllByRecursion P xs → AllByRecursion Q xs
     → AllByRecursion (λ k. P k × Q k) xs
 all_both P Q [] h g = tt

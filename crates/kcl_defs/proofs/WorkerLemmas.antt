@@ -614,7 +614,8 @@ stop_fine deals w none f =
     settle_fine deals (record w { round = AtStopping; consumers = happens_to (λ k. true) Losing w.consumers }) none
     (lost_good deals (λ k. true) w.consumers w.retired f.good)
 
--- A fact about all consumers still holds after one has left.
+-- If `P` holds of all consumers in `xs`, it still holds of all after the consumer of the lease `id` was taken out of
+-- the list.
 pub all_without : (P : Known → Type 0) (id : LeaseId) (xs : List Known) → AllByRecursion P xs
     → AllByRecursion P (without_known id xs)
 all_without P id [] h = tt
@@ -665,7 +666,8 @@ release_fine deals (Some r) w none f = record {
   waits = subst (λ o. IsWaitingOk o (without_release (Some r) w)) (sym none) tt;
 }
 
--- `AreGood` holds after the answer to a consumer's command.
+-- If each tenure has at most one consumer and the consumers' records agree with the commands (`AreGood`), this is still
+-- so after the answer to the next command of the consumer of the lease `id`.
 consumer_good : (id : LeaseId) (deal : Deal) (deals : List Deal) (w : WorkerState) (o : Option Known)
     → known_of id w.consumers ≡ o → consumer_command w o ≡ Some deal.what → AreGood deals w.consumers w.retired
     → AreGood (deal ∷ deals) (consumed id deal.answer w.consumers) w.retired
@@ -725,7 +727,8 @@ take_none made now step (Ok (reply.Taken tenure counter start)) w none = none
 take_none made now step (Ok _) w none = none
 take_none made now step (Err r) w none = none
 
--- `IsFine` holds after the answer to the command that waits.
+-- If each tenure has at most one consumer and the consumers' records agree with the commands, this is still so after
+-- the answer to the command `what` of the chore (`IsFine`). If the answer begins a tenure, this tenure must be new.
 chore_fine : (made : WorkerMade) (now : ℕ) (answer : Result Reply Refusal) (deals : List Deal) (chore : Chore)
     (what : Command) (w : WorkerState) → w.waiting ≡ None → IsOwnCommand chore what w → IsNewTenure answer deals
     → AreGood deals w.consumers w.retired
@@ -798,7 +801,8 @@ asked_fine made now deals w f = record {
       (pending_ok made w (chore_at made now w) (finish_chore deals made.settings.failover now w w.round f.good));
 }
 
--- If the tenures of a longer record are new, so are those of the record before.
+-- If each tenure that an answer begins is new among the commands after an event, each is among the commands `deals`
+-- before the event.
 pub new_before : (event : WorkerEvent) (w : WorkerState) (deals : List Deal) → AreNewTenures (deals_with event w deals)
     → AreNewTenures deals
 new_before (Got_answer now answer) w deals h = before w.waiting h
@@ -811,7 +815,8 @@ new_before (Gave_command now) w deals h = h
 new_before Stopped w deals h = h
 new_before (Released key) w deals h = h
 
--- If `IsFine` holds before an event, it holds after it.
+-- If each tenure has at most one consumer and the consumers' records agree with the commands (`IsFine`), this is still
+-- so after an event that may happen. Each tenure that an answer begins must be new.
 pub state_fine : (made : WorkerMade) (event : WorkerEvent) (w : WorkerState) (deals : List Deal)
     → MayHappen made event w → AreNewTenures (deals_with event w deals) → IsFine deals w
     → IsFine (deals_with event w deals) (after_worker_event made event w)
@@ -828,6 +833,8 @@ event_fine : (made : WorkerMade) (event : WorkerEvent) (past : WorkerPast)
     → IsFine (deals_after made (event ∷ past)) (worker_after made (event ∷ past))
 event_fine made event past may new f = state_fine made event (worker_after made past) (deals_after made past) may new f
 
+-- Along a record of calls that meet their preconditions, each tenure has at most one consumer and the consumers'
+-- records agree with the commands (`IsFine`), if each tenure that an answer begins is new.
 pub fine : (made : WorkerMade) (past : WorkerPast) → IsOrderly made past → AreNewTenures (deals_after made past)
     → IsFine (deals_after made past) (worker_after made past)
 fine made [] orderly new = record {
@@ -838,7 +845,8 @@ fine made (event ∷ past) orderly new =
     event_fine made event past orderly.0 new
     (fine made past orderly.1 (new_before event (worker_after made past) (deals_after made past) new))
 
--- The processors of a worker's consumers are called for the given reads among its commands.
+-- The calls of the processors of a worker's consumers fit the reads and gives of the consumers' tenures among the
+-- worker's commands (`IsLifeAmong`).
 live_among : (made : WorkerMade) (past : WorkerPast) → IsOrderly made past → AreNewTenures (deals_after made past)
     → AllByRecursion (λ k. IsLifeAmong (deals_after made past) k.made (calls_after k.made k.past))
     (worker_after made past).consumers
@@ -846,7 +854,9 @@ live_among made past orderly new =
     all_map (InStep (deals_after made past)) _ (worker_after made past).consumers
     (λ k s. life_among (deals_after made past) k.made k.past s) (fine made past orderly new).good.live
 
--- The same holds in each history in which these commands are the actor's turns.
+-- Let the turns of the actor `by` in the history `h` be the commands of the worker's record with their answers. Then
+-- the calls of the processors of the worker's consumers fit the accepted reads and Gives of their tenures in `h`
+-- (`IsLifeIn`).
 pub live_served : (by : ℕ) (h : List Turn) (made : WorkerMade) (past : WorkerPast) → IsOrderly made past
     → IsToldIn by h made past → AreNewTenures (deals_of by h)
     → AllByRecursion (λ k. IsLifeIn by h k.made (calls_after k.made k.past)) (worker_after made past).consumers

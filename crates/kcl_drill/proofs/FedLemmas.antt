@@ -1,4 +1,5 @@
--- The commands of a drill's turns for the stream service are those of its generator, in order.
+-- In the history of a drill (`IsFed`), the commands for the stream service are those of its generator, in order. The
+-- root made the first one, and the feeder the others.
 use Rattle.std.proofs.Common.{◌≡◌, ℕ, suc, ◌+◌, Bool, true, false, List, [], ◌∷◌, ◌++◌, length, refl, sym, ap, subst}
 use Rattle.std.proofs.Common.{◌∙◌, arith}
 use Rattle.std.specs.Prelude.{◌==◌, cond, reverse}
@@ -18,31 +19,36 @@ use Rattle.kcl_drill.proofs.Inner.{IsInner, all_reverse, generated_inner}
 
 -- ---- Filtered lists
 
--- If one element is in a list of one, nothing stands around it.
+-- If a list that contains `x` has just one element, nothing stands before or after `x`.
 none_around : (xs : List Turn) (x : Turn) (ys : List Turn) → length (xs ++ x ∷ ys) ≡ 1 → (xs ≡ []) × (ys ≡ [])
 none_around xs x ys is =
     let n : length (xs ++ x ∷ ys) ≡ length xs + suc (length ys) = length-append xs (x ∷ ys) in
     (nil_from_length xs (omega arith), nil_from_length ys (omega arith))
 
+-- If no element of a list passes a test, its first element `x` doesn't. `b` says whether `x` passes it.
 none_by : (b : Bool) (p : Turn → Bool) (x : Turn) (xs : List Turn) → p x ≡ b
     → cond b (x ∷ filter p xs) (filter p xs) ≡ [] → (p x ≡ false) × (filter p xs ≡ [])
 none_by true p x xs is none = absurd cc
 none_by false p x xs is none = (is, none)
 
--- ---- Which turns are for the service
+-- ---- The turns for the stream service
 
+-- If the turn is by neither the root nor the feeder, its command is on leases.
 abbrev OnLeases : ℕ → ℕ → Turn → Type 0
 OnLeases root feeder turn = (turn.by == root) ≡ false → (turn.by == feeder) ≡ false → is_service turn.what ≡ false
 
+-- What is true of each element of two lists together is true of each element of the first.
 all_left : (P : Turn → Type 0) (xs ys : List Turn) → AllByRecursion P (xs ++ ys) → AllByRecursion P xs
 all_left P [] ys are = tt
 all_left P (x ∷ xs) ys are = (are.0, all_left P xs ys are.1)
 
+-- What is true of each element of two lists together is true of each element of the second.
 all_right : (P : Turn → Type 0) (xs ys : List Turn) → AllByRecursion P (xs ++ ys) → AllByRecursion P ys
 all_right P [] ys are = are
 all_right P (x ∷ xs) ys are = all_right P xs ys are.1
 
--- If the root made none of the turns, those for the service are the feeder's.
+-- If none of the turns is the root's, and those of the feeder are for the stream service, then the turns for the stream
+-- service are the feeder's.
 fed_alone : (root feeder : ℕ) (ts : List Turn) → turns_by root ts ≡ [] → AllByRecursion (OnLeases root feeder) ts
     → AllByRecursion (λ turn. is_service turn.what ≡ true) (turns_by feeder ts) → service_turns ts ≡ turns_by feeder ts
 fed_alone root feeder [] none others are = refl
@@ -60,14 +66,16 @@ fed_alone root feeder (turn ∷ ts) none others are =
     either false is not_root are so =
         ap (λ b. cond b (turn ∷ service_turns ts) (service_turns ts)) (others.0 not_root is) ∙ so are
 
--- ---- The commands of the generator are for the service
+-- ---- The generator's commands are for the stream service
 
+-- A put, a split or a merge is for the stream service.
 inner_service : (what : Command) → IsInner what → is_service what ≡ true
 inner_service (command.Put name item) is = refl
 inner_service (command.Split name sh at) is = refl
 inner_service (command.Merge name sh other) is = refl
 inner_service _ is = absurd is
 
+-- If the commands of turns are puts, splits and merges, then the turns are for the stream service.
 services_of : (ts : List Turn) (commands : List Command) → commands_in ts ≡ commands → AllByRecursion IsInner commands
     → AllByRecursion (λ turn. is_service turn.what ≡ true) ts
 services_of ts commands is are = by ts (subst (AllByRecursion IsInner) (sym is) are)
@@ -77,11 +85,14 @@ services_of ts commands is are = by ts (subst (AllByRecursion IsInner) (sym is) 
     by [] are = tt
     by (turn ∷ ts) are = (inner_service turn.what are.0, by ts are.1)
 
--- ---- The order
+-- ---- The order of the commands
 
+-- If two lists of one command are equal, the commands are.
 same_head : (a b : Command) → a ∷ [] ≡ b ∷ [] → a ≡ b
 same_head a b is = cc (is)
 
+-- The lemma `in_order`, where the history consists of the turns `newer`, the root's turn `first`, and the turns `older`
+-- before it.
 ordered : (number records root feeder : ℕ) (newer older : List Turn) (first : Turn) → first.by ≡ root
     → commands_in (turns_by root (newer ++ first ∷ older)) ≡ command.Create drill_name FIRST_SHARDS ∷ []
     → commands_in (turns_by feeder (newer ++ first ∷ older)) ≡ reverse (from_record 0 records number first_open)
@@ -126,6 +137,8 @@ ordered number records root feeder newer older first of_root made fed after apar
     ∙ ap (λ xs. reverse (from_record 0 records number first_open) ++ xs) what
     ∙ sym (reverse-append (command.Create drill_name FIRST_SHARDS ∷ []) (from_record 0 records number first_open))
 
+-- In the history of a drill, the commands for the stream service are those of the generator, in the same order. A
+-- history has the newest first.
 pub in_order : (number records root feeder : ℕ) (h : List Turn) → (root == feeder) ≡ false
     → IsFed number records root feeder h → commands_in (service_turns h) ≡ reverse (generated number records)
 in_order number records root feeder h apart is =

@@ -1,4 +1,4 @@
--- The records of a drill are lawful.
+-- The records that a generator makes have values in the ranges of the API.
 use Rattle.std.proofs.Common.{◌≡◌, ℕ, zero, suc, ◌^◌, ◌%◌, ◌<◌, ◌≤◌, length, ap, arith}
 use Rattle.std.specs.Str.{chars, IsAscii}
 use Rattle.std.proofs.lemmas.Fmt.{IsAscii-decimal, length-decimal-le}
@@ -7,13 +7,16 @@ use Rattle.std.proofs.lemmas.Str.{IsUtf8-from_ascii, chars-IsAscii}
 use Rattle.kds_defs.specs.Lawful.{IsPartitionKey, IsItem}
 use Rattle.kcl_drill.specs.Generated.{key_of, record_of}
 
+-- The partition key that is made for a number below 2^64 consists of ASCII characters.
 ascii_key : (x : ℕ) → x < 2 ^ 64 → IsAscii (key_of x)
 ascii_key x fits zero = omega arith
 ascii_key x fits (suc i) = IsAscii-decimal x fits i
 
+-- The partition key that is made for a number below 2^64 has at most 21 characters.
 short_key : (x : ℕ) → x < 2 ^ 64 → length (key_of x) ≤ 21
 short_key x fits = let d = length-decimal-le 20 x (omega arith) (omega arith) fits in omega arith
 
+-- The partition key that is made for a number below 2^64 is one that the API allows.
 key_lawful : (x : ℕ) → x < 2 ^ 64 → IsPartitionKey (key_of x)
 key_lawful x fits =
     let same : length (chars (key_of x)) ≡ length (key_of x) =
@@ -24,6 +27,7 @@ key_lawful x fits =
       few = let short = short_key x fits in omega arith;
     }
 
+-- The i-th record, for which a number below 2^64 was drawn, is one that the API allows.
 pub record_lawful : (i x : ℕ) → x < 2 ^ 64 → (record_of i x).hash < 2 ^ 128 → IsItem (record_of i x)
 record_lawful i x fits hash =
     record {

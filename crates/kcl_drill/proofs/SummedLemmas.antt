@@ -1,4 +1,5 @@
--- The summary of a drill depends on the commands that the stream service got.
+-- The summary of a drill, once each shard was read to its end, depends only on the commands for the stream service.
+-- Which actors sent them, and when, doesn't matter below 24 hours.
 use Rattle.std.proofs.Common.{◌≡◌, ℕ, ◌+◌, ◌<◌, Bool, true, false, List, [], ◌∷◌, length, Option, Some, None, refl, sym}
 use Rattle.std.proofs.Common.{ap, ◌∙◌, arith}
 use Rattle.std.specs.Prelude.{◌==◌, ◌&&◌, not, map, reverse, cond, if◌then◌else◌}
@@ -35,11 +36,13 @@ use Rattle.kcl_drill.proofs.Readings.{both_none, forget, kept, no_stream, reads_
 use Rattle.kcl_drill.proofs.Readings.{untrimmed, young_if_legal}
 use Rattle.kcl_drill.proofs.Undated.{undated_shard, undated_all, open_undated}
 
--- ---- Records, without the moments of their arrivals
+-- ---- Records, with their arrivals put to 0
 
+-- The record with the arrival 0 in place of its own.
 abbrev undated_record : Logged → Logged
 undated_record r = record r { arrival = 0 }
 
+-- The records, each with the arrival 0 in place of its own.
 abbrev undated_records : List Logged → List Logged
 undated_records rs = map undated_record rs
 
@@ -61,6 +64,7 @@ records_undated f line (entry.Put stream shard seq hash bytes key_bytes) s sh rs
     } ∷ [])) refl
 records_undated f line _ s sh rs = refl
 
+-- The records of a shard, with their arrivals put to 0, are those of the lines on streams alone.
 records_same : (f : ℕ → ℕ) (log : Journal) (s sh : ℕ) → undated_records (records log s sh) ≡ records (kept f log) s sh
 records_same f log s sh =
     reads_same f (λ l. records l s sh) (λ line rs. records_after line line.what s sh rs) undated_records
@@ -68,20 +72,24 @@ records_same f log s sh =
     (λ line rs is. elsewhere.records_same line line.what s sh rs (no_stream line.what s is))
     (λ line rs. records_undated f line line.what s sh rs) log
 
+-- The payload bytes of records don't depend on their arrivals.
 bytes_records : (rs : List Logged) → bytes_of (undated_records rs) ≡ bytes_of rs
 bytes_records [] = refl
 bytes_records (r ∷ rs) = ap (λ n. length r.payload + n) (bytes_records rs)
 
+-- The checkpoint at the last record doesn't depend on arrivals.
 last_records : (rs : List Logged) → last_checkpoint (undated_records rs) ≡ last_checkpoint rs
 last_records [] = refl
 last_records (r ∷ []) = refl
 last_records (r ∷ q ∷ rs) = last_records (q ∷ rs)
 
--- ---- What is told of a shard at its end
+-- ---- What the summary says of a shard that was read to its end
 
+-- What a summary says of the shard `x` with the records `rs` once it was read to its end.
 final : ShardState → List Logged → Summed
 final x rs = summed x.no rs (final_checkpoint x rs)
 
+-- What a summary says of such a shard doesn't depend on clocks.
 final_undated : (x : ShardState) (rs : List Logged) → final (undated_shard x) (undated_records rs) ≡ final x rs
 unfolding final
 final_undated x rs =
@@ -113,6 +121,7 @@ final_undated x rs =
     })
     (open_undated (Some x))
 
+-- What a summary says of such a shard is the same for the lines on streams alone.
 final_kept_at : (f : ℕ → ℕ) (log : Journal) (s : ℕ) (x : ShardState)
     → final_at (kept f log) s (undated_shard x) ≡ final_at log s x
 unfolding final
@@ -126,20 +135,24 @@ final_kept_all f log s (x ∷ xs) =
     ap (λ y. y ∷ map (final_at (kept f log) s) (undated_all xs)) (final_kept_at f log s x)
     ∙ ap (λ ys. final_at log s x ∷ ys) (final_kept_all f log s xs)
 
+-- The summary of a stream whose shards were read to their ends is the same for the lines on streams alone.
 final_kept_of : (f : ℕ → ℕ) (log : Journal) (o : Option ℕ) → final_of (kept f log) o ≡ final_of log o
 final_kept_of f log None = refl
 final_kept_of f log (Some s) =
     ap text_of (ap (map (final_at (kept f log) s)) (sym (shards_same f log s)) ∙ final_kept_all f log s (shards log s))
 
+-- The summary of the drill's stream once each of its shards was read to its end.
 abbrev final_text : Journal → List ℕ
 final_text log = final_of log (stream_named log drill_name)
 
+-- The summary of the drill's stream, once each shard was read to its end, is the same for the lines on streams alone.
 final_kept : (f : ℕ → ℕ) (log : Journal) → final_text (kept f log) ≡ final_text log
 final_kept f log = ap (final_of (kept f log)) (sym (named_same f log drill_name))
     ∙ final_kept_of f log (stream_named log drill_name)
 
--- ---- The summary once each shard was read to its end
+-- ---- The summary if the rows say that each shard was read to its end
 
+-- At the trim floor 0, each shard is listed.
 all_listed : (xs : List ShardState) → listed_among 0 xs ≡ xs
 all_listed [] = refl
 all_listed (x ∷ xs) = ap (λ b. cond (not b) (x ∷ listed_among 0 xs) (listed_among 0 xs)) (never x.closing)
@@ -149,6 +162,7 @@ all_listed (x ∷ xs) = ap (λ b. cond (not b) (x ∷ listed_among 0 xs) (listed
     never None = refl
     never (Some c) = grind (arith, nat_tests)
 
+-- At the trim floor 0, all shards of a live stream are listed.
 listed_all : (log : Journal) (c s : ℕ) → is_live log s ≡ true → trim_floor log c s ≡ 0
     → listed_shards log c s ≡ shards log s
 listed_all log c s live none =
@@ -156,10 +170,12 @@ listed_all log c s live none =
     ∙ ap (λ n. listed_among n (shards log s)) none
     ∙ all_listed (shards log s)
 
+-- If a row has the checkpoint `at`, this is the checkpoint that a summary prints.
 checkpoint_is : (o : Option Row) (at : Checkpoint) → option_map (λ r. r.checkpoint) o ≡ Some at → checkpoint_in o ≡ at
 checkpoint_is None at is = absurd cc
 checkpoint_is (Some r) at is = cc (is)
 
+-- If the row of each shard says that it was read to its end, the summary says the same of these shards as `final_at`.
 drained_all : (log : Journal) (s : ℕ) (xs : List ShardState) → AllByRecursion (IsDrained log s) xs
     → map (summed_at log s) xs ≡ map (final_at log s) xs
 drained_all log s [] are = refl
@@ -168,6 +184,8 @@ drained_all log s (x ∷ xs) are =
     (checkpoint_is (row log (ref s x.no)) _ are.0)
     ∙ ap (λ ys. final_at log s x ∷ ys) (drained_all log s xs are.1)
 
+-- If the row of each listed shard says that it was read to its end, and the trim floor is 0, then the summary is the
+-- one that `final_of` defines.
 summary_final : (log : Journal) (c : ℕ) (o : Option ℕ) → stream_named log drill_name ≡ o → AreDrained log c
     → ((s : ℕ) → trim_floor log c s ≡ 0)
     → summary_of log c o ≡ final_of log o
@@ -177,23 +195,28 @@ summary_final log c (Some s) is drained none =
     (drained_all log s (listed_shards log c s) (drained s)
     ∙ ap (map (final_at log s)) (listed_all log c s (live_named log drill_name s is) (none s)))
 
--- ---- The commands alone, at moment 0 and by actor 0
+-- ---- The commands alone, as turns of the actor 0 at the moment 0
 
+-- The turn with the actor 0 and the moment 0 in place of its own.
 abbrev bare : Turn → Turn
 bare turn = record { by = 0; at = 0; what = turn.what }
 
+-- If all turns are lawful, they still are with the actor 0 and the moment 0.
 bare_lawful : (h : List Turn) → IsHistory h → IsHistory (map bare h)
 bare_lawful [] lawful = tt
 bare_lawful (turn ∷ h) lawful = ((omega arith, lawful.0.1), bare_lawful h lawful.1)
 
+-- If all turns have basic commands, they still have them with the actor 0 and the moment 0.
 bare_basic : (h : List Turn) → AreBasic h → AreBasic (map bare h)
 bare_basic [] are = tt
 bare_basic (turn ∷ h) are = (are.0, bare_basic h are.1)
 
+-- The clock of turns at the moment 0 is 0.
 bare_clock : (h : List Turn) → clock (map bare h) ≡ 0
 bare_clock [] = refl
 bare_clock (turn ∷ h) = both_none _ 0 (bare_clock h) refl
 
+-- Choosing the turns of the stream service and putting actors and moments to 0 can be done in either order.
 bare_services : (h : List Turn) → service_turns (map bare h) ≡ map bare (service_turns h)
 bare_services [] = refl
 bare_services (turn ∷ h) = either (is_service turn.what) (bare_services h)
@@ -204,9 +227,11 @@ bare_services (turn ∷ h) = either (is_service turn.what) (bare_services h)
     either true so = ap (λ ts. bare turn ∷ ts) so
     either false so = so
 
+-- The function that gives 0 for each actor, so that it doesn't matter who sent a command.
 abbrev pub nobody : ℕ → ℕ
 nobody n = 0
 
+-- The command of the turn, with the actor 0.
 abbrev by_nobody : Turn → Asked
 by_nobody turn = record { by = 0; what = turn.what }
 
@@ -214,6 +239,8 @@ bare_asked : (ts : List Turn) → map by_nobody (map bare ts) ≡ map by_nobody 
 bare_asked [] = refl
 bare_asked (turn ∷ ts) = ap (λ xs. by_nobody turn ∷ xs) (bare_asked ts)
 
+-- A history has the same commands for the stream service as these commands alone, as turns of the actor 0 at the moment
+-- 0.
 asks_same : (h : List Turn) → asked nobody h ≡ asked nobody (map bare (service_turns h))
 asks_same h =
     ap (map by_nobody) (services_twice h)
@@ -225,7 +252,8 @@ bare_turns : (ts : List Turn)
 bare_turns [] = refl
 bare_turns (turn ∷ ts) = ap (λ xs. bare turn ∷ xs) (bare_turns ts)
 
--- A history in which the service got a generator's commands leaves what these commands alone leave.
+-- If the commands for the stream service in a history are a generator's, the history leaves the same lines on streams
+-- as these commands alone, actors and clocks aside.
 pub asked_alone : Reaches → (h : List Turn) (number count : ℕ) → IsHistory h → clock h < LEAST_RETENTION
     → map (λ turn. turn.what) (service_turns h) ≡ reverse (generated number count)
     → kept nobody (journal h) ≡ kept nobody (journal (turns_of (generated number count)))
@@ -240,6 +268,8 @@ asked_alone reaches h number count lawful below are =
     bare_turns (service_turns h) ∙ ap (map (λ what. record { by = 0; at = 0; what = what })) are in
     same ∙ ap (λ ts. kept nobody (journal ts)) commands
 
+-- The commands for the stream service in a history are a generator's. If each listed shard was read to its end
+-- (`AreDrained`), then the history's summary is the text that the drill should print.
 pub text_alone : Reaches → (h : List Turn) (number count : ℕ) → IsHistory h → clock h < LEAST_RETENTION
     → map (λ turn. turn.what) (service_turns h) ≡ reverse (generated number count) → AreDrained (journal h) (clock h)
     → summary_text (journal h) (clock h) ≡ drill_text number count

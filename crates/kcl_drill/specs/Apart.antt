@@ -1,4 +1,5 @@
--- What the turns of the stream service leave in the journal, apart from the turns on leases.
+-- The turns of the stream service, and the lines on streams that they leave in a journal, apart from the turns on
+-- leases. A drill's summary depends only on these.
 use Rattle.std.specs.Prelude.{ℕ, ◌≡◌, Bool, true, false, is_some, List, map}
 use Rattle.std.specs.List.{AllByRecursion, filter}
 use Rattle.kds_defs.specs.declared.command.Command.{Command}
@@ -9,34 +10,33 @@ use Rattle.kds_defs.specs.Journal.{Line, Journal}
 use Rattle.kds_defs.specs.Kinds.{is_service}
 use Rattle.kds_defs.specs.Subjects.{stream_of}
 
--- The milliseconds of the least retention, 24 hours. A history whose clock is below this has trimmed nothing (Kinesis
--- API Reference, DecreaseStreamRetentionPeriod).
+-- The shortest retention of a stream, 24 hours, in milliseconds. As long as the clock is below it, no record is trimmed
+-- (Kinesis API Reference, DecreaseStreamRetentionPeriod).
 abbrev pub LEAST_RETENTION : ℕ
 LEAST_RETENTION = 86400000
 
--- The line is of a stream, and not of a lease.
+-- Whether the entry is about a stream, and not about a lease.
 abbrev pub is_stream_entry : Entry → Bool
 is_stream_entry what = is_some (stream_of what)
 
--- A line without its clock.
+-- The line with the clock 0 in place of its own.
 abbrev pub undated : Line → Line
 undated line = record line { clock = 0 }
 
--- The lines of the streams, without their clocks.
+-- The lines of the journal that are about streams, each with the clock 0 in place of its own.
 abbrev pub stream_lines : Journal → Journal
 stream_lines log = map undated (filter (λ line. is_stream_entry line.what) log)
 
--- The turns whose commands are for the stream service.
+-- The turns of the history whose commands are for the stream service, and not for the leases.
 abbrev pub service_turns : List Turn → List Turn
 service_turns h = filter (λ turn. is_service turn.what) h
 
--- The command doesn't scale a stream, and doesn't turn limits on throughput on or off.
+-- Whether the command is neither UpdateShardCount nor the one that switches the limits on throughput on or off.
 abbrev pub is_basic : Command → Bool
 is_basic (command.Scale name target) = false
 is_basic (command.Enforce name on) = false
 is_basic _ = true
 
--- `is_basic` is true of each of the turns. They have the commands CreateStream to DecreaseStreamRetentionPeriod and
--- those on leases.
+-- `is_basic` is true of the command of each turn of the history.
 abbrev pub AreBasic : List Turn → Type 0
 AreBasic h = AllByRecursion (λ turn. is_basic turn.what ≡ true) h

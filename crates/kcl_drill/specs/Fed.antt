@@ -1,4 +1,5 @@
--- The turns of a drill, in whatever order its passes took them.
+-- The turns of a drill, in whatever order its threads took them. The root is the actor that makes the stream, and the
+-- feeder is the actor that puts the records.
 use Rattle.std.specs.Prelude.{ℕ, ◌<◌, ◌≡◌, Bool, false, ◌==◌, List, [], ◌∷◌, ◌++◌, map, reverse}
 use Rattle.std.specs.List.{AllByRecursion, filter}
 use Rattle.kds_defs.specs.declared.command.Command.{Command}
@@ -11,18 +12,21 @@ use Rattle.kds_defs.specs.Kinds.{is_service}
 use Rattle.kcl_drill.specs.declared.limits.TheConstants.{FIRST_SHARDS}
 use Rattle.kcl_drill.specs.Generated.{drill_name, first_open, from_record, generated}
 
+-- Whether the turn is by the actor `n`.
 abbrev pub is_by : ℕ → Turn → Bool
 is_by n turn = turn.by == n
 
--- The turns of the actor `n`.
+-- The turns of the actor `n` in the history `h`.
 abbrev pub turns_by : ℕ → List Turn → List Turn
 turns_by n h = filter (is_by n) h
 
+-- The commands of the turns, in the same order.
 abbrev pub commands_in : List Turn → List Command
 commands_in ts = map (λ turn. turn.what) ts
 
--- The actor `root`, which makes the stream, made the first command. The actor `feeder` made the others in their order
--- and after the root's, and all other turns are on leases.
+-- In the history `h`, the actor `root` made just one turn, the CreateStream of a drill. The actor `feeder` made the
+-- other commands of the drill with the number `number` and `records` records, in order, and all of them after the turn
+-- of the root. All turns of other actors are on leases.
 pub record IsFed (number records root feeder : ℕ) (h : List Turn) : Type 0 where
   pub newer : List Turn
   pub first : Turn
@@ -35,7 +39,8 @@ pub record IsFed (number records root feeder : ℕ) (h : List Turn) : Type 0 whe
   pub others : AllByRecursion (λ turn. (turn.by == root) ≡ false → (turn.by == feeder) ≡ false
       → is_service turn.what ≡ false) h
 
--- The history is below 24 hours, and its commands for the service are the generator's, in their order.
+-- The turns of the history `h` are lawful, its clock is below 24 hours, and its commands for the stream service are
+-- those of the drill's generator, in order. A history has the newest first, so they stand in reverse.
 pub record IsDrill (h : List Turn) (number records : ℕ) : Type 0 where
   pub lawful : IsHistory h
   pub below : clock h < LEAST_RETENTION

@@ -1,4 +1,4 @@
--- The summary of a drill, and the text that the drill is to print.
+-- The summary of a drill's stream, and the text that the drill should print.
 use Rattle.std.specs.Prelude.{ℕ, ◌≡◌, ◌+◌, List, [], ◌∷◌, ◌++◌, length, map, flat_map, reverse, codes, decimal}
 use Rattle.std.specs.Prelude.{if◌then◌else◌, Option, Some, None}
 use Rattle.std.specs.List.{AllByRecursion}
@@ -18,86 +18,100 @@ use Rattle.kds_token.specs.Ids.{shard_id}
 use Rattle.kcl_script_fields.specs.Answers.{checkpoint_text}
 use Rattle.kcl_drill.specs.Generated.{drill_name, generated}
 
--- ---- The text
+-- ---- The text of a summary
 
--- What is told of a shard: its number, the number of its records and of their payload bytes, and its row's checkpoint.
+-- What a summary says of a shard: its number, the number of its records, the number of their payload bytes, and the
+-- checkpoint of its row.
 pub record Summed : Type 0 where
   pub no : ℕ
   pub count : ℕ
   pub bytes : ℕ
   pub checkpoint : Checkpoint
 
+-- The line of a summary for one shard: its id, the number of its records, and its checkpoint. The payload bytes aren't
+-- printed for each shard.
 abbrev pub line_text : Summed → List ℕ
 line_text x = shard_id x.no ++ 32 ∷ (decimal x.count ++ 32 ∷ (checkpoint_text x.checkpoint ++ 10 ∷ []))
 
+-- The sum of the numbers that `f` gives for the shards.
 abbrev pub sum_of : (Summed → ℕ) → List Summed → ℕ
 sum_of f [] = 0
 sum_of f (x ∷ xs) = f x + sum_of f xs
 
--- A line for each shard, followed by the numbers of records and payload bytes of all shards.
+-- The text of a summary: a line for each shard, and then a line with the total numbers of records and of payload bytes.
 abbrev pub text_of : List Summed → List ℕ
 text_of xs =
     flat_map line_text xs
     ++ (codes "total " ++ (decimal (sum_of (λ x. x.count) xs) ++ 32 ∷ (decimal (sum_of (λ x. x.bytes) xs) ++ 10 ∷ [])))
 
--- ---- The summary of a state
+-- ---- The summary of a journal
 
--- The number of payload bytes of the records.
+-- The number of payload bytes of the records together.
 abbrev pub bytes_of : List Logged → ℕ
 bytes_of [] = 0
 bytes_of (r ∷ rs) = length r.payload + bytes_of rs
 
+-- What a summary says of the shard `n`, if `rs` are its records and `at` is the checkpoint of its row.
 abbrev pub summed : ℕ → List Logged → Checkpoint → Summed
 summed n rs at = record { no = n; count = length rs; bytes = bytes_of rs; checkpoint = at }
 
+-- What a summary says of the shard `x` of the stream `s`, with its records and the checkpoint of its row in the journal
+-- `log`.
 abbrev pub summed_at : Journal → ℕ → ShardState → Summed
 summed_at log s x = summed x.no (records log s x.no) (checkpoint_in (row log (ref s x.no)))
 
--- The summary of a drill in the state of a journal at a clock. It has the listed shards.
+-- The summary of the listed shards of the stream `s` at the clock `c`. If there is no stream (None), it is empty.
 abbrev pub summary_of : Journal → ℕ → Option ℕ → List ℕ
 summary_of log c None = []
 summary_of log c (Some s) = text_of (map (summed_at log s) (listed_shards log c s))
 
+-- The summary of the listed shards of the drill's stream in the journal `log` at the clock `c`.
 abbrev pub summary_text : Journal → ℕ → List ℕ
 summary_text log c = summary_of log c (stream_named log drill_name)
 
--- ---- The text of a drill
+-- ---- The text that a drill should print
 
--- The checkpoint at the last of the records, or the trim horizon if there are none.
+-- The checkpoint at the last of the records, or TRIM_HORIZON if there are none.
 abbrev pub last_checkpoint : List Logged → Checkpoint
 last_checkpoint [] = checkpoint.TrimHorizon
 last_checkpoint (r ∷ []) = checkpoint.At r.seq
 last_checkpoint (r ∷ s ∷ rs) = last_checkpoint (s ∷ rs)
 
--- The checkpoint of a shard that was read to its end: the last record's number, the trim horizon if the shard is open
--- and has no record, or the shard's end if it is closed.
+-- The checkpoint of the shard `x` once it was read to its end, where `rs` are its records. If it is closed, it is
+-- SHARD_END, and if it is open, it is at the last record, or TRIM_HORIZON if there is none.
 abbrev pub final_checkpoint : ShardState → List Logged → Checkpoint
 final_checkpoint x rs = if is_open x then last_checkpoint rs else checkpoint.ShardEnd
 
+-- What a summary says of the shard `x` of the stream `s` once this shard was read to its end.
 abbrev pub final_at : Journal → ℕ → ShardState → Summed
 final_at log s x = summed x.no (records log s x.no) (final_checkpoint x (records log s x.no))
 
+-- The summary of all shards of the stream `s` once each of them was read to its end. If there is no stream (None), it
+-- is empty.
 abbrev pub final_of : Journal → Option ℕ → List ℕ
 final_of log None = []
 final_of log (Some s) = text_of (map (final_at log s) (shards log s))
 
--- The turns of the commands at moment 0, by actor 0, the last command the newest.
+-- The commands as turns of the actor 0 at the moment 0. The last command is the newest turn, which is the first of the
+-- list.
 abbrev pub turns_of : List Command → List Turn
 turns_of commands = map (λ what. record { by = 0; at = 0; what = what }) (reverse commands)
 
--- The text of a drill: the summary of its generator's commands, once each shard was read to its end.
+-- The text that the drill with the number `number` and with `records` records should print. It is the summary after the
+-- generator's commands alone, once each shard was read to its end.
 abbrev pub drill_text : ℕ → ℕ → List ℕ
 drill_text number records =
     final_of (journal (turns_of (generated number records)))
     (stream_named (journal (turns_of (generated number records))) drill_name)
 
--- ---- What draining leaves
+-- ---- What a drain leaves
 
--- The shard has a row, whose checkpoint is the shard's final one.
+-- The shard `x` of the stream `s` has a row, and the row's checkpoint is the one that this shard has once it was read
+-- to its end (`final_checkpoint`).
 abbrev pub IsDrained : Journal → ℕ → ShardState → Type 0
 IsDrained log s x = option_map (λ r. r.checkpoint) (row log (ref s x.no))
     ≡ Some (final_checkpoint x (records log s x.no))
 
--- Each listed shard is drained.
+-- Each shard of each stream that is listed at the clock `c` was read to its end, as its row says (`IsDrained`).
 abbrev pub AreDrained : Journal → ℕ → Type 0
 AreDrained log c = (s : ℕ) → AllByRecursion (IsDrained log s) (listed_shards log c s)

@@ -1,4 +1,5 @@
--- A row is taken, and its shard is opened.
+-- A row that waits to be drained is taken, and its shard is opened. Then the new tenure is ready for its first read.
+-- `stands` and `stands'` say which histories the machine stands for before and after a command.
 use Rattle.std.proofs.Common.{◌≡◌, ℕ, ◌+◌, ◌-◌, ◌<◌, ◌≤◌, ◌^◌, max, true, false, List, [], ◌∷◌, ◌++◌, length, Some}
 use Rattle.std.proofs.Common.{refl, sym, ap, subst, ◌∙◌, arith, inl, inr}
 use Rattle.std.specs.Prelude.{◌==◌, min, slice_get, if◌then◌else◌, Result, Ok}
@@ -45,29 +46,39 @@ use Rattle.kcl_drill_drain.proofs.Spots.{apart, key_is, listed, none_yet, one_mo
 use Rattle.kds_defs.specs.Streams.{trim_floor}
 use Rattle.kds_defs.specs.Records.{left_among}
 
+-- The first of three laws that the lemmas take as given: the take of a row that can be taken (`MayTake`) is accepted
+-- (`IsTakenSo`).
 abbrev pub TakeLaw : Type 0
 TakeLaw = (log : Journal) (c by owner : ℕ) (key : ShardRef) (r : Row) → row log key ≡ Some r → MayTake log r
     → IsTakenSo log c by owner key r
 
+-- The second of these laws: right after its take, the opening by a tenure whose shard may be opened (`MayOpen`) is
+-- accepted (`IsOpenedSo`).
 abbrev pub OpenLaw : Type 0
 OpenLaw = (log : Journal) (c d by owner : ℕ) (key : ShardRef) (r : Row) → row log key ≡ Some r
     → MayOpen (taken_line log d by key r owner ∷ log) c key → IsOpenedSo log c d by owner key r
 
+-- The third of these laws: after its take and its opening, a tenure is as `begun_from` says.
 abbrev pub BegunLaw : Type 0
 BegunLaw = (log : Journal) (c d by owner : ℕ) (key : ShardRef) (r : Row) → row log key ≡ Some r
     → Holds (opened_line log d by ∷ taken_line log c by key r owner ∷ log) (begun_from log by key r)
 
+-- A number below 2^64 - 1 isn't the last number.
 pub not_last : (n : ℕ) → n < 2 ^ 64 - 1 → (n == last_number) ≡ false
 not_last n below = grind (arith, nat_tests)
 
--- Both definitions of the shard's end agree.
+-- The two tests of whether a checkpoint is SHARD_END, the one of `kds_base` and the one of the definitions, give the
+-- same.
 pub end_same : (cp : Checkpoint) → base_is_end cp ≡ is_end cp
 end_same TrimHorizon = refl
 end_same (At q) = refl
 end_same ShardEnd = refl
 
+-- In these lemmas, `w` is one of the listed keys, `at` is the moment of the turns, and `laws` are the facts about the
+-- history before the drain.
 module _ (w : Spot) (at : ℕ) (spot : IsSpot w at) (laws : HasLaws w.history (clock_at w at)) where
-  -- What is left from a position on.
+  -- The records of the shard that are left from a position on are all its records from this position on, since none is
+  -- trimmed.
   pub left_is : (p : ℕ) → left_of (journal w.history) (clock_at w at) w.key p
       ≡ from p (records_of (journal w.history) w.key)
   left_is p =
@@ -76,11 +87,13 @@ module _ (w : Spot) (at : ℕ) (spot : IsSpot w at) (laws : HasLaws w.history (c
       ∙ left_all (trim_floor (journal w.history) (clock_at w at) w.key.stream) p (records_of (journal w.history) w.key)
       ((whole_is w at spot laws).above w.key.shard)
 
+  -- The sequence numbers of the shard's records rise from the shard's starting sequence number.
   pub up : IsUp (start_of (shard_of (journal w.history) w.key)) (records_of (journal w.history) w.key)
   up = up_rising _ _ _ (laws.drawn w.key.stream w.key.shard)
 
-  -- ---- The row is taken
+  -- ---- The take of the row
 
+  -- If the rows of the keys before this one are drained and the others wait, this key's row is the one of the survey.
   seen_row : (now : Journal) (r : Row) → AreDrainedTo w.history w.keys w.among w.index now
       → row_in w.among w.key ≡ Some r → (row now w.key ≡ Some r) × IsFresh w.history w.key r
   seen_row now r drained seen =
@@ -88,6 +101,8 @@ module _ (w : Spot) (at : ℕ) (spot : IsSpot w at) (laws : HasLaws w.history (c
       let e : f.now ≡ r = same_some f.now r (sym f.seen ∙ seen) in
       (f.there ∙ ap Some e, subst (IsFresh w.history w.key) e f.fresh)
 
+  -- If the row of the key waits to be drained, has the counter `counter` and isn't at SHARD_END, its Take is accepted.
+  -- Afterwards `IsTaken` holds for the new tenure.
   pub taken : (stands stands' : List Turn → Type 0) (by counter : ℕ) (key : ShardRef) (r : Row)
       (a : Result Reply Refusal) → TakeLaw → at < 2 ^ 62 → w.key ≡ key → r.counter ≡ counter
       → row_in w.among w.key ≡ Some r → is_end r.checkpoint ≡ false
@@ -127,7 +142,8 @@ module _ (w : Spot) (at : ℕ) (spot : IsSpot w at) (laws : HasLaws w.history (c
       }) in
       (taken_count now + 1, r.counter + 1, one.0, one.1)
 
-  -- A row at the end of its shard is drained.
+  -- If a row that waits to be drained is at SHARD_END, its checkpoint is the one of a shard that was read to its end
+  -- (`final_of`).
   ends_so : (floor : ℕ) (cp : Checkpoint) → is_end cp ≡ true
       → IsStart (shard_of (journal w.history) w.key) (records_of (journal w.history) w.key) floor cp
       → final_of (journal w.history) w.key ≡ cp
@@ -151,13 +167,15 @@ module _ (w : Spot) (at : ℕ) (spot : IsSpot w at) (laws : HasLaws w.history (c
           (ap (option_map (λ (x : Row). x.checkpoint)) f.0
           ∙ ap Some (sym (ends_so r.floor r.checkpoint ends f.1.start)))
 
-  -- ---- The shard is opened
+  -- ---- The opening of the shard
 
+  -- The take of this key's row changes no row of another key.
   stays : (before : Journal) (d by : ℕ) (r : Row) (key : ShardRef) → same_key w.key key ≡ false
       → row (taken_line before d by w.key r 1 ∷ before) key ≡ row before key
   stays before d by r key other =
       ap (λ b. if b then option_map (taken_row (taken_count before + 1) 1) (row before key) else row before key) other
 
+  -- The rows of the keys before this one are still drained after the take.
   done_yet : (before : Journal) (d by : ℕ) (r : Row) → AreDrainedTo w.history w.keys w.among w.index before
       → (j : ℕ) (key : ShardRef) → j < w.index → slice_get w.keys j ≡ Some key
       → IsDone w.history key (row (taken_line before d by w.key r 1 ∷ before) key)
@@ -165,6 +183,7 @@ module _ (w : Spot) (at : ℕ) (spot : IsSpot w at) (laws : HasLaws w.history (c
       subst (IsDone w.history key) (sym (stays before d by r key (apart w at spot laws j key is (inl lt))))
       (drained.done j key lt is)
 
+  -- After the take and the opening, the other keys are as they should be (`OthersWait`).
   waits_yet : (before : Journal) (d by : ℕ) (r : Row) → AreDrainedTo w.history w.keys w.among w.index before
       → OthersWait w (opened_line before (clock_at w at) by ∷ taken_line before d by w.key r 1 ∷ before)
   waits_yet before d by r drained = record {
@@ -180,6 +199,8 @@ module _ (w : Spot) (at : ℕ) (spot : IsSpot w at) (laws : HasLaws w.history (c
     few = omega (arith, drained.few);
   }
 
+  -- If a record has the number `q` or a greater one, and all numbers of the records are below `n`, then `q` is below
+  -- `n`.
   below_next : (q p n : ℕ) (xs : List Logged) → RiseBetween p xs n → HasFrom q xs → q < n
   below_next q p n [] is has = absurd has
   below_next q p n (x ∷ xs) is (inl le) = let m = rises (x.seq + 1) n xs is.1 in omega arith
@@ -189,12 +210,17 @@ module _ (w : Spot) (at : ℕ) (spot : IsSpot w at) (laws : HasLaws w.history (c
       rises p n (x ∷ xs) is = let m = rises (x.seq + 1) n xs is.1 in omega (arith, is.0, m)
   below_next q p n (x ∷ xs) is (inr has) = below_next q (x.seq + 1) n xs is.1 has
 
+  -- What is true of a row with the floor `floor` and the checkpoint `cp` when its drain begins. The position of the
+  -- first read is the one after `cp`, since it isn't above the last number. If no record is left from this position on,
+  -- `cp` is at the shard's last record. The least number that may be marked isn't above this position or the shard's
+  -- start, whichever is greater.
   record Begins (floor : ℕ) (cp : Checkpoint) : Type 0 where
     place : place_of cp ≡ first_place cp
     settled : left_of (journal w.history) (clock_at w at) w.key (place_of cp) ≡ []
         → cp ≡ last_checkpoint (records_of (journal w.history) w.key)
     low : least cp floor ≤ max (place_of cp) (start_of (shard_of (journal w.history) w.key))
 
+  -- If the checkpoint is one from which the shard can be drained (`IsStart`) and isn't SHARD_END, then `Begins` holds.
   begins : (floor : ℕ) (cp : Checkpoint) → is_end cp ≡ false
       → IsStart (shard_of (journal w.history) w.key) (records_of (journal w.history) w.key) floor cp → Begins floor cp
   begins floor TrimHorizon going is = record {
@@ -214,6 +240,8 @@ module _ (w : Spot) (at : ℕ) (spot : IsSpot w at) (laws : HasLaws w.history (c
       small q n lt le = omega arith
   begins floor ShardEnd going is = absurd cc
 
+  -- If the newest line took the row, the opening of its shard is accepted, and the tenure is ready for its first read
+  -- (`ReadsOn`).
   pub opened : (stands stands' : List Turn → Type 0) (by : ℕ) (r : Row) (held : DrainTenure) (a : Result Reply Refusal)
       → OpenLaw → BegunLaw → at < 2 ^ 62 → is_end r.checkpoint ≡ false
       → (l : Leads stands by at w.history (IsTaken w by r held))

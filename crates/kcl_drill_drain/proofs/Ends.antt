@@ -1,4 +1,4 @@
--- Once all rows are drained, each listed shard is drained.
+-- If the rows of all listed keys are drained, each listed shard of each stream is drained (`AreDrained`).
 use Rattle.std.proofs.Common.{◌≡◌, ℕ, zero, suc, max, Bool, true, false, List, [], ◌∷◌, ◌++◌, length, Some, refl, sym}
 use Rattle.std.proofs.Common.{ap, subst, ◌∙◌, arith}
 use Rattle.std.specs.Prelude.{is_none, not, slice_get, if◌then◌else◌}
@@ -25,18 +25,23 @@ use Rattle.kcl_drill_drain.proofs.Leading.{IsOver, over}
 use Rattle.kcl_drill_drain.proofs.Overs.{same_listed}
 use Rattle.kcl_drill_drain.proofs.Spots.{key_there, number_at}
 
+-- What is true of the element at each index of a list is true of each element.
 all_of : {A : Type 0} (P : A → Type 0) (xs : List A) → ((i : ℕ) (x : A) → slice_get xs i ≡ Some x → P x)
     → AllByRecursion P xs
 all_of P [] each = tt
 all_of P (x ∷ xs) each = (each zero x refl, all_of P xs (λ i y is. each (suc i) y is))
 
+-- Choosing by a Boolean is the same as choosing the other way round by its opposite.
 flipped : (b : Bool) (E L : Checkpoint) → (if not b then E else L) ≡ (if b then L else E)
 flipped true E L = refl
 flipped false E L = refl
 
+-- In these lemmas, the history `h` can be drained at the moment `at`. Turns on leases led to the journal `log`, in
+-- which the rows of all listed keys are drained.
 module _ (h : List Turn) (at : ℕ) (among : List Row) (can : CanDrain h at) (laws : HasLaws h (max (clock h) at))
     (log : Journal) (is : IsOver h (max (clock h) at) log)
     (done : AreDrainedTo h (listed_keys h at) among (length (listed_keys h at)) log) where
+  -- Each shard of a live stream is drained.
   drained_at : (s i : ℕ) (x : ShardState) → is_live (journal h) s ≡ true → slice_get (shards (journal h) s) i ≡ Some x
       → IsDrained log s x
   drained_at s i x live there =
@@ -50,6 +55,7 @@ module _ (h : List Turn) (at : ℕ) (among : List Row) (can : CanDrain h at) (la
       ∙ ap Some (flipped (is_none x.closing) ShardEnd (last_checkpoint (records (journal h) s x.no)))
       ∙ ap (λ rs. Some (final_checkpoint x rs)) (sym (is.streams.records s x.no))
 
+  -- Each listed shard of the stream `s` is drained. `b` says whether the stream is live.
   drained_by : (s : ℕ) (b : Bool) → is_live (journal h) s ≡ b
       → AllByRecursion (IsDrained log s) (listed_shards (journal h) (max (clock h) at) s)
   drained_by s true live =
@@ -61,10 +67,13 @@ module _ (h : List Turn) (at : ℕ) (among : List Row) (can : CanDrain h at) (la
       (sym (ap (λ b. if b then listed_among (trim_floor (journal h) (max (clock h) at) s)
       (shards (journal h) s) else []) gone)) tt
 
+  -- Each listed shard of each stream is drained, at the clock of the drain.
   all_drained : AreDrained log (max (clock h) at)
   all_drained s = subst (AllByRecursion (IsDrained log s)) (sym (same_listed h (max (clock h) at) log is s))
       (drained_by s (is_live (journal h) s) refl)
 
+-- If a machine has answered turns on leases since `h` that drained the rows of all listed keys, then each listed shard
+-- is drained (`HasDrained`).
 pub has_drained : (stands : List Turn → Type 0) (by at : ℕ) (h : List Turn) (among : List Row) → CanDrain h at
     → HasLaws h (max (clock h) at)
     → Leads stands by at h (AreDrainedTo h (listed_keys h at) among (length (listed_keys h at)))

@@ -1,5 +1,5 @@
--- The listed keys. Each is of a made shard, none stands twice, the shards before one in its stream stand before it, and
--- no shard is missing.
+-- The keys of the listed shards, in order. Each is the key of a shard that was made, none is listed twice, the keys of
+-- one stream's shards are in the order of their numbers, and no shard is missing.
 use Rattle.std.proofs.Common.{◌≡◌, ℕ, zero, suc, ◌+◌, ◌<◌, ◌≤◌, Bool, true, false, List, [], ◌∷◌, ◌++◌, length, Some}
 use Rattle.std.proofs.Common.{refl, sym, ap, subst, ◌∙◌, arith, inl, inr}
 use Rattle.std.specs.Prelude.{◌==◌, ◌⊎◌, cond, not, slice_get, if◌then◌else◌}
@@ -18,8 +18,10 @@ use Rattle.kds_defs.specs.Streams.{is_live, numbers_from, trim_floor}
 use Rattle.kds_defs.specs.Tiled.{AreNumbered}
 use Rattle.kcl_drill_drain.specs.Draining.{IsWhole}
 
--- ---- Places in joined lists
+-- ---- An index in two lists together
 
+-- The element `x` at the index `i` of two lists together is in the first list, or in the second at the rest of the
+-- index.
 Place : {A : Type 0} → List A → List A → ℕ → A → Type 0
 Place xs ys i x = ((i < length xs) × (slice_get xs i ≡ Some x))
     ⊎ ((j : ℕ) × (i ≡ length xs + j) × (slice_get ys j ≡ Some x))
@@ -35,18 +37,22 @@ place [] ys i x is = inr (i, omega arith, is)
 place (y ∷ xs) ys zero x is = inl (omega arith, is)
 place (y ∷ xs) ys (suc i) x is = place_next y x xs ys i (place xs ys i x is)
 
+-- An element of the first list is at the same index in both lists together.
 in_left : {A : Type 0} (xs ys : List A) (i : ℕ) (x : A) → slice_get xs i ≡ Some x → slice_get (xs ++ ys) i ≡ Some x
 in_left [] ys i x is = absurd cc
 in_left (y ∷ xs) ys zero x is = is
 in_left (y ∷ xs) ys (suc i) x is = in_left xs ys i x is
 
+-- An element of the second list is in both lists together, behind the first list.
 in_right : {A : Type 0} (xs ys : List A) (j : ℕ) (x : A) → slice_get ys j ≡ Some x → (i : ℕ) × (i ≡ length xs + j)
     × (slice_get (xs ++ ys) i ≡ Some x)
 in_right [] ys j x is = (j, omega arith, is)
 in_right (y ∷ xs) ys j x is = let rest = in_right xs ys j x is in (suc rest.0, omega (arith, rest.1), rest.2)
 
--- ---- The keys of one stream
+-- ---- The keys of one stream's shards
 
+-- The key is that of the shard at the index `i` of the list `xs`. These are shards of the stream `s`, numbered from `n`
+-- on.
 record IsRef (s n i : ℕ) (xs : List ShardState) (key : ShardRef) : Type 0 where
   stream : key.stream ≡ s
   shard : key.shard ≡ n + i
@@ -58,6 +64,7 @@ ref_next : (s n i : ℕ) (x : ShardState) (xs : List ShardState) (key : ShardRef
 ref_next s n i x xs key at =
     record { stream = at.stream; shard = omega (arith, at.shard); state = at.state; there = at.there }
 
+-- The key at the index `i` of the keys of shards is that of the shard at this index (`IsRef`).
 ref_at : (s n i : ℕ) (xs : List ShardState) (key : ShardRef) → AreNumbered n xs → slice_get (refs_of s xs) i ≡ Some key
     → IsRef s n i xs key
 ref_at s n i [] key numbers is = absurd cc
@@ -74,6 +81,7 @@ ref_at s n zero (x ∷ xs) key numbers is =
     plus m is = omega arith
 ref_at s n (suc i) (x ∷ xs) key numbers is = ref_next s n i x xs key (ref_at s (n + 1) i xs key numbers.1 is)
 
+-- The shard at the index `i` has its key at the same index of the keys.
 at_ref : (s n i : ℕ) (xs : List ShardState) (x : ShardState) → AreNumbered n xs → slice_get xs i ≡ Some x
     → slice_get (refs_of s xs) i ≡ Some (ref s (n + i))
 at_ref s n i [] x numbers is = absurd cc
@@ -81,6 +89,7 @@ at_ref s n zero (y ∷ xs) x numbers is = let e : y.no ≡ n + 0 = omega (arith,
 at_ref s n (suc i) (y ∷ xs) x numbers is = let e : n + 1 + i ≡ n + suc i = omega arith in
     at_ref s (n + 1) i xs x numbers.1 is ∙ ap (λ m. Some (ref s m)) e
 
+-- If a list has an element at an index, it has one at each lower index.
 below_there : (p i : ℕ) (xs : List ShardState) (x : ShardState) → p < i → slice_get xs i ≡ Some x → (y : ShardState)
     × (slice_get xs p ≡ Some y)
 below_there p i [] x below is = absurd cc
@@ -88,15 +97,18 @@ below_there p zero (y ∷ xs) x below is = absurd (omega arith)
 below_there zero (suc i) (y ∷ xs) x below is = (y, refl)
 below_there (suc p) (suc i) (y ∷ xs) x below is = below_there p i xs x (omega arith) is
 
--- ---- The keys of streams
+-- ---- The keys of all streams' shards
 
+-- The keys of all shards of the streams `ss`, in order.
 abbrev pub keys_in : Journal → List ℕ → List ShardRef
 keys_in log [] = []
 keys_in log (s ∷ ss) = refs_of s (shards log s) ++ keys_in log ss
 
+-- Each of the streams `ss` is live in the journal.
 abbrev pub AreLive : Journal → List ℕ → Type 0
 AreLive log ss = AllByRecursion (λ s. is_live log s ≡ true) ss
 
+-- If none of the shards was closed below the floor, all are listed.
 all_listed : (floor : ℕ) (xs : List ShardState)
     → AllByRecursion (λ (x : ShardState). is_closed_below floor x ≡ false) xs → listed_among floor xs ≡ xs
 all_listed floor [] are = refl
@@ -104,12 +116,14 @@ all_listed floor (x ∷ xs) are =
     ap (λ b. cond (not b) (x ∷ listed_among floor xs) (listed_among floor xs)) are.0
     ∙ ap (λ ys. x ∷ ys) (all_listed floor xs are.1)
 
+-- If no shard of a live stream is expired, all its shards are listed.
 pub listed_whole : (log : Journal) (c s : ℕ) → is_live log s ≡ true → IsWhole log c s
     → listed_shards log c s ≡ shards log s
 listed_whole log c s live whole =
     ap (λ b. if b then listed_among (trim_floor log c s) (shards log s) else []) live
     ∙ all_listed (trim_floor log c s) (shards log s) whole.listed
 
+-- If no shard of the live streams `ss` is expired, the listed keys are those of all their shards.
 pub keys_same : (log : Journal) (c : ℕ) (ss : List ℕ) → ((s : ℕ) → is_live log s ≡ true → IsWhole log c s)
     → AreLive log ss → listed_in log c ss ≡ keys_in log ss
 keys_same log c [] whole live = refl
@@ -117,13 +131,14 @@ keys_same log c (s ∷ ss) whole live =
     ap (λ xs. refs_of s xs ++ listed_in log c ss) (listed_whole log c s live.0 (whole s live.0))
     ∙ ap (λ ks. refs_of s (shards log s) ++ ks) (keys_same log c ss whole live.1)
 
+-- Each number that is left by a test passes the test.
 pub filtered : (p : ℕ → Bool) (ns : List ℕ) → AllByRecursion (λ n. p n ≡ true) (filter p ns)
 filtered p [] = tt
 filtered p (n ∷ ns) =
     let rest = filtered p ns in
     cond_both (p n) (n ∷ filter p ns) (filter p ns) (AllByRecursion (λ m. p m ≡ true)) (λ is. (is, rest)) (λ not. rest)
 
--- The numbers rise.
+-- The numbers from `n` on that pass the test `p` rise.
 pub up_numbers : (p : ℕ → Bool) (n count : ℕ) → RiseFrom n (filter p (numbers_from n count))
 up_numbers p n zero = tt
 up_numbers p n (suc count) =
@@ -131,8 +146,9 @@ up_numbers p n (suc count) =
     let rest = up_numbers p (n + 1) count in
     cond_both (p n) (n ∷ ns) ns (RiseFrom n) (λ is. (omega arith, rest)) (λ not. lower n (n + 1) ns (omega arith) rest)
 
--- ---- A key among the listed ones
+-- ---- One key among the listed ones
 
+-- The key is that of a shard of a live stream.
 pub record IsKeyOf (log : Journal) (key : ShardRef) : Type 0 where
   pub live : is_live log key.stream ≡ true
   pub state : ShardState
@@ -148,6 +164,7 @@ module _ (log : Journal) (numbered : (s : ℕ) → AreNumbered 0 (shards log s))
         there = ap (λ t. shard_at log t key.shard) at.stream ∙ ap (shard_at log s) i_is ∙ at.there;
       }
 
+  -- Each of the keys of the live streams `ss` is that of a shard of a live stream (`IsKeyOf`).
   pub key_of_streams : (ss : List ℕ) (i : ℕ) (key : ShardRef) → AreLive log ss → slice_get (keys_in log ss) i ≡ Some key
       → IsKeyOf log key
   unfolding Place
@@ -161,6 +178,7 @@ module _ (log : Journal) (numbered : (s : ℕ) → AreNumbered 0 (shards log s))
       either later (inl at) = of_ref s i key live.0 (ref_at s 0 i (shards log s) key (numbered s) at.1)
       either later (inr at) = later at.0 at.2
 
+  -- If the numbers of the streams rise from `n` on, each key has a stream with a number of at least `n`.
   from_streams : (ss : List ℕ) (n i : ℕ) (key : ShardRef) → RiseFrom n ss → slice_get (keys_in log ss) i ≡ Some key
       → n ≤ key.stream
   unfolding Place
@@ -175,7 +193,8 @@ module _ (log : Journal) (numbered : (s : ℕ) → AreNumbered 0 (shards log s))
           omega arith
       either le later (inr at) = let m = later at.0 at.2 in omega arith
 
-  -- The shards before a shard in its stream stand before it among the keys.
+  -- If the key is at the index `i`, the key of the shard `p` of its stream, which has a smaller number, is in the list
+  -- before it.
   pub older_in : (ss : List ℕ) (i p : ℕ) (key : ShardRef) → p < key.shard → slice_get (keys_in log ss) i ≡ Some key
       → (j : ℕ) × (j < i) × (slice_get (keys_in log ss) j ≡ Some (ref key.stream p))
   unfolding Place
@@ -203,7 +222,7 @@ module _ (log : Journal) (numbered : (s : ℕ) → AreNumbered 0 (shards log s))
           let here = in_right (refs_of s (shards log s)) (keys_in log ss) rest.0 (ref key.stream p) rest.2 in
           (here.0, omega (arith, here.1, at.1, rest.1), here.2)
 
-  -- No key stands twice.
+  -- Two keys at different indexes are different.
   pub unlike_in : (ss : List ℕ) (n i j : ℕ) (a b : ShardRef) → RiseFrom n ss → i < j
       → slice_get (keys_in log ss) i ≡ Some a
       → slice_get (keys_in log ss) j ≡ Some b → (same_key a b ≡ false) × (same_key b a ≡ false)
@@ -240,12 +259,14 @@ module _ (log : Journal) (numbered : (s : ℕ) → AreNumbered 0 (shards log s))
       either later high (inr at) (inl at') = absurd (omega (arith, at.1, at'.0, below))
       either later high (inr at) (inr at') = later at.0 at'.0 (omega (arith, at.1, at'.1, below)) at.2 at'.2
 
-  -- ---- No shard is missing
+  -- ---- No shard is missing from the list
 
+  -- The number `s` is one of the numbers `ss`.
   pub IsIn : ℕ → List ℕ → Type 0
   IsIn s [] = ⊥
   IsIn s (t ∷ ss) = (t ≡ s) ⊎ IsIn s ss
 
+  -- The key of each shard of one of the streams `ss` is in the list.
   pub all_in : (ss : List ℕ) (s sh : ℕ) (x : ShardState) → IsIn s ss → slice_get (shards log s) sh ≡ Some x
       → (j : ℕ) × (slice_get (keys_in log ss) j ≡ Some (ref s sh))
   unfolding IsIn
@@ -263,6 +284,7 @@ module _ (log : Journal) (numbered : (s : ℕ) → AreNumbered 0 (shards log s))
       let here = in_right (refs_of t (shards log t)) (keys_in log ss) rest.0 (ref s sh) rest.1 in
       (here.0, here.2)
 
+  -- A live stream with a number from `n` on, below `n` + `count`, is among the live streams with these numbers.
   pub in_numbers : (n count s : ℕ) → is_live log s ≡ true → n ≤ s → s < n + count
       → IsIn s (filter (is_live log) (numbers_from n count))
   unfolding IsIn

@@ -1,4 +1,5 @@
--- One more turn on leases, after those so far.
+-- One more turn on leases after those that the machine has answered since a history. `stands` and `stands'` say which
+-- histories the machine stands for before and after this turn.
 use Rattle.std.proofs.Common.{◌≡◌, ℕ, ◌≤◌, max, false, List, [], ◌∷◌, ◌++◌, refl, sym, ap, subst, ◌∙◌, arith}
 use Rattle.std.specs.Prelude.{Result, Ok, Err, IfOk, OnErr}
 use Rattle.kds_defs.specs.declared.command.Command.{Command}
@@ -15,12 +16,15 @@ use Rattle.kcl_drill_laws.specs.Leasing.{AreOnLeases, HasSameFloors, HasSameStre
 use Rattle.kcl_drill_drain.specs.Laws.{HasLaws}
 use Rattle.kcl_drill_drain.specs.Leased.{HasLeased, Leads, turn_of}
 
+-- Turns on leases of one actor at one moment are turns on leases.
 pub own_leases : (by at : ℕ) (more : List Turn) → AreLeased by at more → AreOnLeases more
 own_leases by at [] are = tt
 own_leases by at (turn ∷ more) are = (are.0.2, own_leases by at more are.1)
 
--- ---- Whatever came of the turn, the machine has answered turns on leases
+-- ---- The machine has answered turns on leases, whatever came of the last one
 
+-- If a machine has answered only turns on leases since the history `h`, this is still true after one more turn on
+-- leases, whether it was answered or memory ran out.
 pub leased_on : {E : Type 0} (stands stands' : List Turn → Type 0) (by at : ℕ) (h : List Turn) (what : Command)
     (r : Result (Result Reply Refusal) E) → is_service what ≡ false → IsLawful (turn_of by at what)
     → (has : HasLeased stands by at h)
@@ -32,11 +36,14 @@ leased_on stands stands' by at h what (Ok a) lease lawful has is kept =
 leased_on stands stands' by at h what (Err e) lease lawful has is kept =
     record { more = has.more; stands_now = kept; are = has.are }
 
--- ---- The answer, and what the turn leaves
+-- ---- What one more turn leads to
 
+-- For each history that the machine stood for before (`stands`), `a` is the answer to the turn by the definitions, and
+-- the machine now stands for this history with the turn added (`stands'`).
 abbrev pub Answered : (List Turn → Type 0) → (List Turn → Type 0) → Turn → Result Reply Refusal → Type 0
 Answered stands stands' turn a = (now : List Turn) → stands now → (a ≡ answer now turn) × stands' (turn ∷ now)
 
+-- The lemmas `led` and `led_first`, where `more` are the turns on leases since the history `h`.
 led_from : (stands stands' : List Turn → Type 0) (by at : ℕ) (h more : List Turn) (what : Command)
     (a : Result Reply Refusal) (Q : Journal → Type 0) (d : Decision)
     → is_service what ≡ false → IsLawful (turn_of by at what) → Answered stands stands' (turn_of by at what) a
@@ -58,9 +65,12 @@ led_from stands stands' by at h more what a Q d lease lawful answers now are lat
       },
     )
 
+-- If `n` is the greater of `m` and `at`, so is the greater of `n` and `at`.
 twice : (n m at : ℕ) → n ≡ max m at → max n at ≡ max m at
 twice n m at is = omega arith
 
+-- The decision `d` is the one on the command `what` after the turns of `l`. Then the turn is answered as `d` says, and
+-- if `Q` is true of the journal with the lines of `d`, the turns with this one lead to `Q` (`Leads`).
 pub led : (stands stands' : List Turn → Type 0) (by at : ℕ) (h : List Turn) (what : Command) (a : Result Reply Refusal)
     (P Q : Journal → Type 0) (d : Decision)
     → is_service what ≡ false → IsLawful (turn_of by at what) → Answered stands stands' (turn_of by at what) a
@@ -72,7 +82,8 @@ led stands stands' by at h what a P Q d lease lawful answers l is so =
     led_from stands stands' by at h l.more what a Q d lease lawful answers l.stands_now l.are
     (twice (clock (l.more ++ h)) (clock h) at l.late) is so
 
--- The first turn on leases.
+-- The lemma `led` for the first turn on leases after the history `h`: it is answered as the decision `d` says, and it
+-- leads to `Q` if this is true of the journal with the lines of `d`.
 pub led_first : (stands stands' : List Turn → Type 0) (by at : ℕ) (h : List Turn) (what : Command)
     (a : Result Reply Refusal) (Q : Journal → Type 0) (d : Decision)
     → is_service what ≡ false → IsLawful (turn_of by at what) → Answered stands stands' (turn_of by at what) a
@@ -82,12 +93,14 @@ pub led_first : (stands stands' : List Turn → Type 0) (by at : ℕ) (h : List 
 led_first stands stands' by at h what a Q d lease lawful answers now is so =
     led_from stands stands' by at h [] what a Q d lease lawful answers now tt refl is so
 
--- ---- The streams are those of the history before
+-- ---- The streams stay as the history before left them
 
+-- The journal `log` has the same streams as the journal of the history `h`, with the same trim floors at the clock `c`.
 pub record IsOver (h : List Turn) (c : ℕ) (log : Journal) : Type 0 where
   pub streams : HasSameStreams log (journal h)
   pub floors : HasSameFloors c log (journal h)
 
+-- After turns on leases, the streams and the trim floors are those of the history `h` before them (`IsOver`).
 pub over : (stands : List Turn → Type 0) (by at : ℕ) (h : List Turn) (P : Journal → Type 0)
     → HasLaws h (max (clock h) at) → (l : Leads stands by at h P) → IsOver h (max (clock h) at) (journal (l.more ++ h))
 over stands by at h P laws l =
@@ -100,7 +113,7 @@ over stands by at h P laws l =
     le : (n m : ℕ) → n ≡ m → n ≤ m
     le n m is = omega arith
 
--- What holds of the journal may be weakened.
+-- If turns lead to `P`, and `Q` follows from `P` for their journal, then they lead to `Q`.
 pub so_too : (stands : List Turn → Type 0) (by at : ℕ) (h : List Turn) (P Q : Journal → Type 0)
     → (l : Leads stands by at h P) → (P (journal (l.more ++ h)) → Q (journal (l.more ++ h))) → Leads stands by at h Q
 so_too stands by at h P Q l so =

@@ -1,4 +1,4 @@
--- A row is made, if there is none.
+-- The first part of a drain: for each of the listed keys that has no row, a row is made.
 use Rattle.std.proofs.Common.{◌≡◌, ℕ, ◌+◌, ◌<◌, ◌^◌, Bool, true, false, List, [], ◌∷◌, ◌++◌, length, Option}
 use Rattle.std.proofs.Common.{Some, None, refl, sym, ap, subst, ◌∙◌, arith, inl, inr}
 use Rattle.std.specs.Prelude.{◌⊎◌, is_some, not, slice_get, if◌then◌else◌, Result}
@@ -33,8 +33,9 @@ use Rattle.kcl_drill_drain.proofs.Leading.{Answered, IsOver, led, over}
 use Rattle.kcl_drill_drain.proofs.Overs.{same_shard}
 use Rattle.kcl_drill_drain.proofs.Spots.{listed, same_here, up_to}
 
--- ---- At the start
+-- ---- Before and after the making of rows
 
+-- Right after the history before the drain, the rows of no keys are made yet (`AreMade` with 0).
 pub made_first : (h : List Turn) (keys : List ShardRef) (c : ℕ) → HasLaws h c
     → AreMade h keys (rows (journal h)) 0 (journal h)
 made_first h keys c laws = record {
@@ -44,7 +45,7 @@ made_first h keys c laws = record {
   few = laws.tenures;
 }
 
--- Once all rows are made, each of them waits to be drained.
+-- Once all listed keys have rows, no row is drained yet, and each waits to be drained, with the rows of a new survey.
 pub all_wait : (h : List Turn) (keys : List ShardRef) (among : List Row) (log : Journal)
     → AreMade h keys among (length keys) log → AreDrainedTo h keys (rows log) 0 log
 all_wait h keys among log made = record {
@@ -55,19 +56,22 @@ all_wait h keys among log made = record {
   few = omega (arith, made.few);
 }
 
--- ---- One row
+-- ---- The row of one key
 
 module _ (w : Spot) (at : ℕ) (spot : IsSpot w at) (laws : HasLaws w.history (clock_at w at)) where
+  -- A row that is asked to begin at TRIM_HORIZON begins there.
   origin_is : (log : Journal) (key : ShardRef) → counting_origin log key origin.TrimHorizon ≡ origin.TrimHorizon
   origin_is log key = counts_so log key origin.TrimHorizon refl
 
+  -- If the keys before this one and this key have rows, each key up to this one has a row.
   made_by : (log : Journal) → ((j : ℕ) (key : ShardRef) → j < w.index → slice_get w.keys j ≡ Some key → HasRow log key)
       → HasRow log w.key → (j : ℕ) (key : ShardRef) → slice_get w.keys j ≡ Some key → (j < w.index) ⊎ (j ≡ w.index)
       → HasRow log key
   made_by log before here j key is (inl below) = before j key below is
   made_by log before here j key is (inr same) = subst (HasRow log) (sym (same_here w at spot laws j key same is)) here
 
-  -- If the row of the key exists, the rows of one more key are made.
+  -- If the rows of the keys before this one are made, and this key has a row, then the rows of the keys up to this one
+  -- are made.
   pub one_made : (log : Journal) → AreMade w.history w.keys w.among w.index log → HasRow log w.key
       → AreMade w.history w.keys w.among (w.index + 1) log
   one_made log made here = record {
@@ -77,20 +81,24 @@ module _ (w : Spot) (at : ℕ) (spot : IsSpot w at) (laws : HasLaws w.history (c
     few = made.few;
   }
 
+  -- Adding a row for a key leaves no key without the row that it had.
   has_row : (b : Bool) (x : Row) (o : Option Row) → (r : Row) → o ≡ Some r
       → (s : Row) × ((if b then Some x else o) ≡ Some s)
   has_row true x o r is = (x, refl)
   has_row false x o r is = (r, is)
 
+  -- If a row that is added is as a row can be before its drain, and so are the others, then each row is.
   fresh_by : (b : Bool) (x : Row) (key : ShardRef) (o : Option Row) → IsFresh w.history key x
       → ((r : Row) → o ≡ Some r → IsFresh w.history key r) → (r : Row) → (if b then Some x else o) ≡ Some r
       → IsFresh w.history key r
   fresh_by true x key o new old r is = let e : x ≡ r = cc in subst (IsFresh w.history key) e new
   fresh_by false x key o new old r is = old r is
 
+  -- The line that makes the row of the key with the origin TRIM_HORIZON.
   new_line : ℕ → ℕ → Line
   new_line c by = plain_line c by (entry.LeaseMade w.key origin.TrimHorizon)
 
+  -- The line that makes the row of the key keeps what was made before (`AreMade`).
   with_new : (log : Journal) (by : ℕ) → IsOver w.history (clock_at w at) log
       → AreMade w.history w.keys w.among w.index log
       → AreMade w.history w.keys w.among w.index (new_line (clock_at w at) by ∷ log)
@@ -110,12 +118,14 @@ module _ (w : Spot) (at : ℕ) (spot : IsSpot w at) (laws : HasLaws w.history (c
     few = made.few;
   }
 
+  -- After this line, the key has a row.
   new_row_there : (log : Journal) (by : ℕ) → HasRow (new_line (clock_at w at) by ∷ log) w.key
   unfolding new_line
   new_row_there log by =
       let new = made_row log (clock_at w at) w.key origin.TrimHorizon in
       (new, ap (λ b. if b then Some new else row log w.key) (key_itself w.key))
 
+  -- The lemma `makes`, where the row of the key before the command is named `o`.
   made_led : (stands stands' : List Turn → Type 0) (by : ℕ) (a : Result Reply Refusal) (o : Option Row) → at < 2 ^ 62
       → (l : Leads stands by at w.history (AreMade w.history w.keys w.among w.index))
       → row (journal (l.more ++ w.history)) w.key ≡ o
@@ -147,6 +157,8 @@ module _ (w : Spot) (at : ℕ) (spot : IsSpot w at) (laws : HasLaws w.history (c
       (Refused refusal.LeaseThere) refl (below, tt) answers l decided
       (one_made now l.so (r, is))).1
 
+  -- After the command that makes the row of the key, the rows of the keys up to this one are made, whether or not the
+  -- key had a row before.
   pub makes : (stands stands' : List Turn → Type 0) (by : ℕ) (key : ShardRef) (a : Result Reply Refusal) → at < 2 ^ 62
       → w.key ≡ key
       → (l : Leads stands by at w.history (AreMade w.history w.keys w.among w.index))

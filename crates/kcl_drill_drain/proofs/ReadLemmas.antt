@@ -1,4 +1,6 @@
--- What is read is given and marked.
+-- A tenure that drains its shard reads a batch, gives it and marks its last record, and so on until the shard is read
+-- to its end. Each lemma is about one of these commands, or about what follows from its answer. `stands` and `stands'`
+-- say which histories the machine stands for before and after the command.
 use Rattle.std.proofs.Common.{◌≡◌, ℕ, ◌+◌, ◌-◌, ◌*◌, ◌<◌, ◌≤◌, ◌^◌, max, Bool, true, false, List, [], ◌∷◌, ◌++◌, length}
 use Rattle.std.proofs.Common.{map, Option, Some, None, refl, sym, ap, subst, ◌∙◌, arith}
 use Rattle.std.specs.Prelude.{◌==◌, ◌&&◌, nat_le, nat_lt, if◌then◌else◌, Result, Ok, Err, IfOk}
@@ -49,31 +51,39 @@ use Rattle.kcl_drill_drain.proofs.Settling.{batched, last_seq}
 use Rattle.kcl_drill_drain.proofs.Spots.{listed, one_more, others_stay}
 use Rattle.kcl_drill_drain.proofs.Beginning.{left_is, not_last, up}
 
+-- The first of six laws that the lemmas take as given: the decision on a Read at the tenure's position is `read_here`,
+-- if fewer reads wait to be given than may, and the shard is listed.
 abbrev pub ReadLaw : Type 0
 ReadLaw = (log : Journal) (c limit : ℕ) (x : Holding) → Holds log x → length x.waiting < PENDING_READS
     → is_listed_key log c x.key ≡ true → read log c x.by x.tenure x.place limit ≡ read_here log c x limit
 
+-- The second of these laws: after the line of the read `r`, the tenure is as `after_read` says.
 abbrev pub ReadState : Type 0
 ReadState = (log : Journal) (c limit : ℕ) (x : Holding) (r : ReadDone) → Holds log x
     → Holds (read_line c x limit r ∷ log) (after_read x r)
 
+-- The third of these laws: the Give of the first read that waits is accepted (`IsGivenSo`).
 abbrev pub GiveLaw : Type 0
 GiveLaw = (log : Journal) (c : ℕ) (x : Holding) (r : ReadDone) (rest : List ReadDone) → Holds log x
     → x.waiting ≡ r ∷ rest → IsGivenSo log c x r
 
+-- The fourth of these laws: after the line of a give of the read `r`, the tenure is as `after_give` says.
 abbrev pub GivenState : Type 0
 GivenState = (log : Journal) (c : ℕ) (x : Holding) (r : ReadDone) (rest : List ReadDone) → Holds log x
     → x.waiting ≡ r ∷ rest → Holds (given_line c x ∷ log) (after_give x r rest)
 
+-- The fifth of these laws: a mark that the tenure may make (`MayMark`) is accepted, if the row's counter isn't the last
+-- number.
 abbrev pub MarkLaw : Type 0
 MarkLaw = (log : Journal) (c : ℕ) (x : Holding) (to : Target) → Holds log x → MayMark x to
     → (x.counter == last_number) ≡ false → IsMarkedSo log c x to
 
+-- The sixth of these laws: after the line of a mark at the target `to`, the tenure is as `after_mark` says.
 abbrev pub MarkedState : Type 0
 MarkedState = (log : Journal) (c : ℕ) (x : Holding) (to : Target) → Holds log x
     → Holds (marked_line c x to ∷ log) (after_mark x to)
 
--- A line that writes no row leaves the other rows waiting.
+-- If a line changes no row and begins no tenure, the other keys are still as they should be (`OthersWait`).
 same_others : (w : Spot) (old now : Journal) → ((key : ShardRef) → row now key ≡ row old key)
     → taken_count now ≡ taken_count old → OthersWait w old → OthersWait w now
 same_others w old now rows count others = record {
@@ -83,8 +93,9 @@ same_others w old now rows count others = record {
   few = subst (λ n. n ≤ length w.history + (w.index + 1)) (sym count) others.few;
 }
 
--- ---- A give
+-- ---- A Give
 
+-- If the read `r` is the only one that waits, its Give is accepted, and the tenure is then as `after_give` says.
 pub gave : (w : Spot) (at : ℕ) (stands stands' : List Turn → Type 0) (by tenure : ℕ) (x : Holding) (r : ReadDone)
     (a : Result Reply Refusal) → GiveLaw → GivenState → at < 2 ^ 62 → x.waiting ≡ r ∷ [] → x.tenure ≡ tenure
     → (l : Leads stands by at w.history (Stands w by x))
@@ -109,9 +120,13 @@ gave w at stands stands' by tenure x r a law state below waits same l answers =
       of_key = s.of_key;
     })).1
 
+-- In these lemmas, `w` is one of the listed keys, `at` is the moment of the turns, and `laws` are the facts about the
+-- history before the drain.
 module _ (w : Spot) (at : ℕ) (spot : IsSpot w at) (laws : HasLaws w.history (clock_at w at)) where
-  -- ---- A read
+  -- ---- A Read
 
+  -- The decision on a Read at the tenure's position accepts it, and gives the line and the reply of the next read of
+  -- `x`.
   read_is : (now : Journal) (x : Holding) → IsOver w.history (clock_at w at) now → x.key ≡ w.key
       → read_here now (clock_at w at) x READ
       ≡ Accepted (read_line (clock_at w at) x READ (read_at w at x) ∷ []) (reply_at w at x)
@@ -125,9 +140,12 @@ module _ (w : Spot) (at : ℕ) (spot : IsSpot w at) (laws : HasLaws w.history (c
       (reply.Read (map stored (batch_at w at x)) (reach_at w at x) b))
       (same_ends w.history c now is w.key.stream w.key.shard (reach_at w at x))
 
+  -- No read that waits is fewer than the number that may wait.
   no_wait : (n : ℕ) → n ≡ 0 → n < PENDING_READS
   no_wait n is = omega arith
 
+  -- If the tenure is ready, its Read is answered with the batch at its position, and the tenure is then as `read_then`
+  -- says: this read waits to be given.
   pub read_so : (stands stands' : List Turn → Type 0) (by : ℕ) (x : Holding) (held : DrainTenure)
       (a : Result Reply Refusal) → ReadLaw → ReadState → at < 2 ^ 62 → IsReady w at x → IsHeld x held
       → (l : Leads stands by at w.history (Stands w by x))
@@ -157,6 +175,7 @@ module _ (w : Spot) (at : ℕ) (spot : IsSpot w at) (laws : HasLaws w.history (c
         of_key = s.of_key;
       })
 
+  -- The lemma `read_so` for the result of a call, which has the answer unless memory ran out.
   pub read_result : {E : Type 0} (stands stands' : List Turn → Type 0) (by : ℕ) (x : Holding) (held : DrainTenure)
       (r : Result (Result Reply Refusal) E) → ReadLaw → ReadState → at < 2 ^ 62 → IsReady w at x → IsHeld x held
       → (l : Leads stands by at w.history (Stands w by x))
@@ -166,8 +185,10 @@ module _ (w : Spot) (at : ℕ) (spot : IsSpot w at) (laws : HasLaws w.history (c
       read_so stands stands' by x held a law state below ready is l answers
   read_result stands stands' by x held (Err e) law state below ready is l answers = tt
 
-  -- ---- A mark
+  -- ---- A Mark
 
+  -- The tenure may mark its row at the target `to`, and the counter isn't the last number. Then the Mark is accepted
+  -- with the next counter, and the tenure is as `after_mark` says.
   pub marked : (stands stands' : List Turn → Type 0) (by tenure counter : ℕ) (to : Target) (x : Holding)
       (a : Result Reply Refusal) → MarkLaw → MarkedState → at < 2 ^ 62 → MayMark x to
       → (x.counter == last_number) ≡ false → x.tenure ≡ tenure → x.counter ≡ counter
@@ -201,8 +222,11 @@ module _ (w : Spot) (at : ℕ) (spot : IsSpot w at) (laws : HasLaws w.history (c
           ap (λ b. if b then option_map (marked_row to) (row now key) else row now key)
           (ap (λ o. is_key o key) s.holds.tenure.took ∙ ap (λ k. same_key k key) s.of_key ∙ other)
 
-  -- ---- What a read returned
+  -- ---- What a read brought
 
+  -- What the next read of the tenure `x` brings. `Nothing`: no record is left from its position on, so the batch is
+  -- empty and the position stays. `Records`: the last record of the batch has the number `q`, and the position rises.
+  -- The tenure may mark `q` once the read is given, and is then ready for its next read.
   pub data Brought (x : Holding) : Type 0 where
     Nothing : left_of (journal w.history) (clock_at w at) w.key x.place ≡ [] → last_at w at x ≡ None
         → reach_at w at x ≡ x.place → Brought x
@@ -215,6 +239,7 @@ module _ (w : Spot) (at : ℕ) (spot : IsSpot w at) (laws : HasLaws w.history (c
   not_under : (q n : ℕ) → n ≤ q → nat_lt q n ≡ false
   not_under q n le = grind (arith, nat_tests)
 
+  -- The lemma `brought`, where the batch is named `bs`.
   brought_by : (x : Holding) (bs : List Logged) → batch_at w at x ≡ bs → IsReady w at x → Brought x
   brought_by x [] is ready =
       let all = records_of (journal w.history) w.key in
@@ -269,21 +294,27 @@ module _ (w : Spot) (at : ℕ) (spot : IsSpot w at) (laws : HasLaws w.history (c
           → n + 1 + left ≤ most
       less n some all left left' most is is' le le' = omega arith
 
+  -- If the tenure `x` is ready, its next read brings nothing or records (`Brought`).
   pub brought : (x : Holding) → IsReady w at x → Brought x
   brought x ready = brought_by x (batch_at w at x) refl ready
 
-  -- ---- Counters
+  -- ---- The counter of the row doesn't reach its limit
 
+  -- If there are `h` turns, fewer than 2^32, and at most 500 records for each of them, then a counter `n` of at most
+  -- one for each turn and each record, plus 1, is below the last number.
   few_counters : (n h left all : ℕ) → n + left ≤ h + 1 + all → all ≤ 500 * h → h < 2 ^ 32 → n < 2 ^ 64 - 1
   few_counters n h left all le le' lt = omega arith
 
+  -- If the tenure is ready, the counter of its row isn't the last number.
   pub some_left : (x : Holding) → IsReady w at x → (x.counter == last_number) ≡ false
   some_left x ready = not_last x.counter
       (few_counters x.counter (length w.history) _ (length (records_of (journal w.history) w.key)) ready.budget
       (laws.few w.key.stream w.key.shard) spot.can.few)
 
-  -- ---- The row after the mark
+  -- ---- The row is drained
 
+  -- If the checkpoint of the tenure's row is the one of a shard that was read to its end, the key's row is drained
+  -- (`IsDone`).
   done_at : (now : Journal) (by : ℕ) (x : Holding) → Stands w by x now
       → final_of (journal w.history) w.key ≡ x.checkpoint → IsDone w.history w.key (row now w.key)
   done_at now by x s is =
@@ -291,6 +322,8 @@ module _ (w : Spot) (at : ℕ) (spot : IsSpot w at) (laws : HasLaws w.history (c
       ap (option_map (λ (r : Row). r.checkpoint)) (ap (row now) (sym s.of_key) ∙ held.there)
       ∙ ap Some (held.checkpoint ∙ sym is)
 
+  -- If the checkpoint of the tenure's row is the one of a shard that was read to its end (`final_of`), the rows up to
+  -- this key are drained.
   pub drained_at : (stands : List Turn → Type 0) (by : ℕ) (x : Holding) → Leads stands by at w.history (Stands w by x)
       → final_of (journal w.history) w.key ≡ x.checkpoint → IsDrainedHere stands w by at
   drained_at stands by x l is =
@@ -298,6 +331,7 @@ module _ (w : Spot) (at : ℕ) (spot : IsSpot w at) (laws : HasLaws w.history (c
       (λ s. one_more w at spot laws (journal (l.more ++ w.history)) s.others
       (done_at (journal (l.more ++ w.history)) by x s is))
 
+  -- If the next read ends the shard, the checkpoint of a shard that was read to its end is SHARD_END.
   pub ended_final : (x : Holding) → ended_at w at x ≡ true → final_of (journal w.history) w.key ≡ ShardEnd
   ended_final x is =
       ap (λ b. if b then ShardEnd else last_checkpoint (records_of (journal w.history) w.key))
@@ -318,8 +352,10 @@ module _ (w : Spot) (at : ℕ) (spot : IsSpot w at) (laws : HasLaws w.history (c
       (are_none (left_of (journal w.history) (clock_at w at) w.key (reach_at w at x))) (ap are_none left) is)
       ∙ sym (ready.settled none)
 
-  -- ---- The steps
+  -- ---- The steps after a read
 
+  -- A mark of the tenure `held` at the target `to` was accepted, and returned the row's new counter `n`. The tenure
+  -- must be one that may make this mark.
   abbrev pub MarksOk : (List Turn → Type 0) → (List Turn → Type 0) → ℕ → DrainTenure → Target → ℕ → Type 0
   MarksOk stands stands' by held to n =
       (w : Spot) (x : Holding) → IsSpot w at → MayMark x to → (x.counter == last_number) ≡ false
@@ -342,7 +378,8 @@ module _ (w : Spot) (at : ℕ) (spot : IsSpot w at) (laws : HasLaws w.history (c
   ended_kept None x = refl
   ended_kept (Some q) x = refl
 
-  -- The row is marked at the last record, if there is one.
+  -- If the last record of the batch has the number `q`, the step that marks `q` is the mark at the batch's last record
+  -- (`marked_then`).
   pub marks_some : {E : Type 0} (stands stands' : List Turn → Type 0) (by q : ℕ) (held : DrainTenure)
       (result : Result ℕ E) (x : Holding) → Marks stands stands' by at held (target.At q) result → IsReady w at x
       → IsHeld x held → Some q ≡ last_at w at x
@@ -362,6 +399,7 @@ module _ (w : Spot) (at : ℕ) (spot : IsSpot w at) (laws : HasLaws w.history (c
           (marks w (given_then w at x) spot (subst (λ n. MayMark (given_then w at x) (target.At n)) e may)
           (some_left x ready) is.tenure is.counter l)
 
+  -- After the mark at the batch's last record, the counter of the row isn't the last number.
   marked_left : (x : Holding) → IsReady w at x → Brought x → ((marked_then w at x).counter == last_number) ≡ false
   marked_left x ready (Nothing left none reach) =
       subst (λ o. ((marked_at o (given_then w at x)).counter == last_number) ≡ false) (sym none) (some_left x ready)
@@ -369,7 +407,7 @@ module _ (w : Spot) (at : ℕ) (spot : IsSpot w at) (laws : HasLaws w.history (c
       subst (λ o. ((marked_at o (given_then w at x)).counter == last_number) ≡ false) (sym at_q)
       (some_left (after_mark (given_then w at x) (target.At q)) next)
 
-  -- The end is marked.
+  -- If the read ended the shard, and then SHARD_END was marked, the key's row is drained.
   pub ends : (stands stands' : List Turn → Type 0) (by n : ℕ) (held : DrainTenure) (x : Holding)
       → MarksOk stands stands' by held target.End n → IsReady w at x → ended_at w at x ≡ true
       → IsHeld (marked_then w at x) held
@@ -380,7 +418,7 @@ module _ (w : Spot) (at : ℕ) (spot : IsSpot w at) (laws : HasLaws w.history (c
       drained_at stands' by (after_mark y target.End)
       (marks w y spot may (marked_left x ready (brought x ready)) is.tenure is.counter l).1 (ended_final x ended)
 
-  -- Reading goes on.
+  -- If the read moved the tenure's position on, the tenure is ready for its next read after the mark (`ReadsOn`).
   pub goes_on : (stands : List Turn → Type 0) (by : ℕ) (held : DrainTenure) (x : Holding) → IsReady w at x
       → x.place < held.place → IsHeld (marked_then w at x) held
       → Leads stands by at w.history (Stands w by (marked_then w at x)) → ReadsOn stands w by at held
@@ -397,7 +435,7 @@ module _ (w : Spot) (at : ℕ) (spot : IsSpot w at) (laws : HasLaws w.history (c
       by_brought (Records q at_q next may beyond) =
           subst (λ o. IsReady w at (marked_at o (given_then w at x))) (sym at_q) next
 
-  -- Nothing is left in an open shard.
+  -- If the read didn't move the tenure's position on, and didn't end the shard, the key's row is drained.
   pub stops : (stands : List Turn → Type 0) (by : ℕ) (held : DrainTenure) (x : Holding) → IsReady w at x
       → held.place ≤ x.place → ended_at w at x ≡ false → IsHeld (marked_then w at x) held
       → Leads stands by at w.history (Stands w by (marked_then w at x)) → IsDrainedHere stands w by at
@@ -414,9 +452,12 @@ module _ (w : Spot) (at : ℕ) (spot : IsSpot w at) (laws : HasLaws w.history (c
           absurd (no x.place held.place (marked_then w at x).place (reach_at w at x) le
           (place_kept (last_at w at x) (given_then w at x)) beyond is.place)
 
+  -- After the next read of a tenure that is ready, this read is the only one that waits to be given.
   pub waits_for : (x : Holding) → IsReady w at x → (read_then w at x).waiting ≡ read_at w at x ∷ []
   waits_for x ready = ap (λ rs. rs ++ (read_at w at x ∷ [])) ready.none_waits
 
+  -- After the mark, the tenure has the number, the position and the counter that the code keeps (`IsHeld`). `reach` is
+  -- the position after the batch, and `n` the counter after the mark.
   pub held_then : (x : Holding) (held : DrainTenure) (reach n : ℕ) → IsHeld x held → reach ≡ reach_at w at x
       → n ≡ (marked_then w at x).counter
       → IsHeld (marked_then w at x) (record { tenure = held.tenure; place = reach; counter = n })

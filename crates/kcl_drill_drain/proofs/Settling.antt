@@ -1,5 +1,5 @@
--- If nothing is left from a position on, the checkpoint is at the last record. This holds at the start of a row, and
--- after each batch that is marked at its last record.
+-- If no record is left from a position on, the checkpoint of the row is at the shard's last record. This is true when
+-- the drain of a row begins, and after each mark at the last record of a batch.
 use Rattle.std.proofs.Common.{◌≡◌, ℕ, zero, suc, ◌+◌, ◌-◌, ◌<◌, ◌≤◌, max, Bool, true, false, List, [], ◌∷◌, ◌++◌}
 use Rattle.std.proofs.Common.{length, map, Option, Some, refl, sym, ap, subst, ◌∙◌, arith, inl, inr}
 use Rattle.std.specs.Prelude.{nat_le, cond, slice_get}
@@ -17,13 +17,16 @@ use Rattle.kcl_laws.specs.Recorded.{HasFrom}
 use Rattle.kcl_drill_summary.proofs.BatchLemmas.{IsUp, from, all_from, up_weaker, up_from, up_kept, parts, place_up}
 use Rattle.kcl_drill_summary.proofs.BatchLemmas.{from_twice}
 
--- ---- At the start
+-- ---- When the drain of a row begins
 
+-- If no record is left from the position `p` on, the first record is below `p`, and none of the others is left.
 none_first : (p : ℕ) (r : Logged) (rs : List Logged) (b : Bool) → nat_le p r.seq ≡ b
     → cond b (r ∷ from p rs) (from p rs) ≡ [] → (r.seq < p) × (from p rs ≡ [])
 none_first p r rs true is none = absurd cc
 none_first p r rs false is none = (above_so p r.seq is, none)
 
+-- If no record has a greater number than `q`, and one has `q` or a greater number, then the checkpoint at `q` is the
+-- one at the last record.
 pub settled_at : (q p : ℕ) (rs : List Logged) → IsUp p rs → HasFrom q rs → from (q + 1) rs ≡ []
     → At q ≡ last_checkpoint rs
 settled_at q p [] up has none = absurd has
@@ -40,10 +43,11 @@ settled_at q p (r ∷ s ∷ rs) up (inl le) none =
 settled_at q p (r ∷ s ∷ rs) up (inr has) none =
     settled_at q (r.seq + 1) (s ∷ rs) up.1 has (none_first (q + 1) r (s ∷ rs) (nat_le (q + 1) r.seq) refl none).1
 
+-- If no record is left from the trim horizon on, there is none, and the checkpoint at the last record is TRIM_HORIZON.
 pub settled_horizon : (p : ℕ) (rs : List Logged) → IsUp p rs → from 0 rs ≡ [] → TrimHorizon ≡ last_checkpoint rs
 settled_horizon p rs up none = ap last_checkpoint (sym none ∙ all_from 0 rs (up_weaker 0 p rs (omega arith) up))
 
--- ---- After a batch
+-- ---- After the mark at the last record of a batch
 
 from_head : (p : ℕ) (r : Logged) (rs : List Logged) (x : Logged) (xs : List Logged) (b : Bool) → nat_le p r.seq ≡ b
     → IsUp (r.seq + 1) rs → (from p rs ≡ x ∷ xs → last_checkpoint rs ≡ last_checkpoint (x ∷ xs))
@@ -55,6 +59,7 @@ from_head p r rs x xs true is up so none are =
 from_head p r [] x xs false is up so none are = absurd cc
 from_head p r (s ∷ rs) x xs false is up so none are = so are
 
+-- If some records are left from the position `p` on, the last one of them is the last of all.
 last_from : (p m : ℕ) (rs : List Logged) (x : Logged) (xs : List Logged) → IsUp m rs → from p rs ≡ x ∷ xs
     → last_checkpoint rs ≡ last_checkpoint (x ∷ xs)
 last_from p m [] x xs up are = absurd cc
@@ -76,12 +81,14 @@ settled_batch limit room place m rs x xs up is none =
     let all : ls ≡ bs = parts limit room place ls up' ∙ ap (λ ys. bs ++ ys) rest ∙ append-nil bs in
     ap last_checkpoint is ∙ sym (last_from place m rs x xs up (all ∙ is))
 
--- ---- The last record of a batch
+-- ---- The last record of a batch that isn't empty
 
+-- The sequence number of the last of these records, of which `x` is the first and `xs` are the others.
 pub last_seq : Logged → List Logged → ℕ
 last_seq x [] = x.seq
 last_seq x (y ∷ ys) = last_seq y ys
 
+-- The sequence number of the record at the index `i`, if there is one.
 abbrev seq_at : List Logged → ℕ → Option ℕ
 seq_at xs i = option_map (λ (r : Stored). r.seq) (slice_get (map stored xs) i)
 
@@ -90,6 +97,7 @@ unfolding last_seq
 last_of x [] = refl
 last_of x (y ∷ ys) = last_of y ys
 
+-- The last sequence number of a batch that isn't empty is that of its last record.
 number_is : (x : Logged) (xs : List Logged) → last_number_in (map stored (x ∷ xs)) ≡ Some (last_seq x xs)
 number_is x xs =
     let e : length (map stored (x ∷ xs)) - 1 ≡ length xs =
@@ -99,6 +107,7 @@ number_is x xs =
     less : (n m : ℕ) → n ≡ m → suc n - 1 ≡ m
     less n m is = omega arith
 
+-- The checkpoint at the last record of a batch that isn't empty is at this record's number.
 checkpoint_is : (x : Logged) (xs : List Logged) → last_checkpoint (x ∷ xs) ≡ At (last_seq x xs)
 unfolding last_seq
 checkpoint_is x [] = refl
@@ -109,11 +118,13 @@ unfolding last_seq
 reach_is p x [] = refl
 reach_is p x (y ∷ ys) = reach_is (x.seq + 1) y ys
 
+-- If the numbers of the records rise from `p` on, the last one is at least `p`.
 above_is : (p : ℕ) (x : Logged) (xs : List Logged) → IsUp p (x ∷ xs) → p ≤ last_seq x xs
 unfolding last_seq
 above_is p x [] up = up.0
 above_is p x (y ∷ ys) up = let n = above_is (x.seq + 1) y ys up.1 in omega (arith, n, up.0)
 
+-- If the numbers of records rise, so do those of each batch from their front.
 up_beginning : (limit room p : ℕ) (rs : List Logged) → IsUp p rs → IsUp p (beginning limit room rs)
 up_beginning zero room p rs up = tt
 up_beginning (suc limit) room p [] up = tt
@@ -163,6 +174,7 @@ batched limit room start place rs x xs up is =
       fewer = fewer_by ls bs (from (q + 1) rs) x xs (parts limit room place ls up' ∙ ap (λ ys. bs ++ ys) rest) is;
     }
 
+-- At most as many records are left from a position on as there are records.
 pub fewer_from : (p : ℕ) (rs : List Logged) → length (from p rs) ≤ length rs
 fewer_from p [] = omega arith
 fewer_from p (r ∷ rs) =

@@ -1,4 +1,5 @@
--- A key among the listed ones.
+-- Facts about one of the listed keys (a spot) and the other listed keys: how they are ordered, and that the parents of
+-- its shard were read to their ends before it.
 use Rattle.std.proofs.Common.{◌≡◌, ℕ, zero, suc, ◌+◌, ◌*◌, ◌<◌, ◌≤◌, ◌^◌, max, Bool, true, false, List, [], ◌∷◌, length}
 use Rattle.std.proofs.Common.{get_or, Option, Some, None, refl, sym, ap, subst, ◌∙◌, arith, inl, inr}
 use Rattle.std.specs.Prelude.{◌⊎◌, ◌&&◌, not, slice_get, if◌then◌else◌, nat_lt}
@@ -34,12 +35,14 @@ use Rattle.kcl_drill_drain.proofs.KeyLemmas.{older_in, unlike_in, up_numbers}
 use Rattle.kcl_drill_drain.proofs.Leading.{IsOver}
 use Rattle.kcl_drill_drain.proofs.Overs.{is_listed_now, same_shard}
 
+-- What is true of each element of a list is true of the element at an index.
 pub all_get : {A : Type 0} (P : A → Type 0) (xs : List A) (i : ℕ) (x : A) → AllByRecursion P xs
     → slice_get xs i ≡ Some x → P x
 all_get P [] i x are is = absurd cc
 all_get P (y ∷ xs) zero x are is = let e : y ≡ x = cc in subst P e are.0
 all_get P (y ∷ xs) (suc i) x are is = all_get P xs i x are.1 is
 
+-- If shards are numbered from `n` on, the one at the index `i` has the number `n` + `i`.
 pub number_at : (n i : ℕ) (xs : List ShardState) (x : ShardState) → AreNumbered n xs → slice_get xs i ≡ Some x
     → x.no ≡ n + i
 number_at n i [] x numbers is = absurd cc
@@ -50,9 +53,12 @@ number_at n zero (y ∷ xs) x numbers is = let e : y ≡ x = cc in
     plus m is = omega arith
 number_at n (suc i) (y ∷ xs) x numbers is = let e = number_at (n + 1) i xs x numbers.1 is in omega arith
 
+-- The spot of the key `key` at the index `i` of the listed keys, with the history before the drain and the rows of the
+-- survey.
 abbrev pub spot_of : List Turn → List ShardRef → List Row → ℕ → ShardRef → Spot
 spot_of h keys among i key = record { history = h; keys = keys; among = among; index = i; key = key }
 
+-- Each of the listed keys of a history that can be drained is a spot (`IsSpot`).
 pub is_spot : (h : List Turn) (at : ℕ) (keys : List ShardRef) (among : List Row) (i : ℕ) (key : ShardRef)
     → CanDrain h at → keys ≡ listed_keys h at → i < length keys → key ≡ get_or keys i key → length keys * 16 < 2 ^ 63
     → IsSpot (spot_of h keys among i key) at
@@ -60,8 +66,9 @@ is_spot h at keys among i key can listed below is few =
     let here = slice_get_read keys (length keys) i key refl below is in
     record { can = can; listed = listed; here = here; few = omega arith }
 
--- ---- The keys of a history
+-- ---- The listed keys of a history
 
+-- If no shard of a live stream is expired, the listed keys are those of all shards of the live streams.
 pub keys_are : (h : List Turn) (at : ℕ)
     → ((s : ℕ) → is_live (journal h) s ≡ true → IsWhole (journal h) (max (clock h) at) s)
     → listed_keys h at ≡ keys_in (journal h) (live_streams (journal h))
@@ -69,7 +76,7 @@ keys_are h at whole =
     keys_same (journal h) (max (clock h) at) (live_streams (journal h)) whole
     (filtered (is_live (journal h)) (numbers_from 1 (made_count (journal h))))
 
--- The key of each shard of a live stream is among the listed ones.
+-- If no shard of a live stream is expired, the key of each shard of a live stream is among the listed keys.
 pub key_there : (h : List Turn) (at : ℕ) (s sh : ℕ) (x : ShardState)
     → ((s : ℕ) → is_live (journal h) s ≡ true → IsWhole (journal h) (max (clock h) at) s) → HasLaws h (max (clock h) at)
     → is_live (journal h) s ≡ true → shard_at (journal h) s sh ≡ Some x
@@ -81,7 +88,7 @@ key_there h at s sh x whole laws live there =
     let found = all_in log laws.numbered (live_streams log) s sh x among there in
     (found.0, ap (λ ks. slice_get ks found.0) (keys_are h at whole) ∙ found.1)
 
--- An index below the next one is below this one, or is this one.
+-- If `j` is below `i` + 1, it is below `i` or equal to `i`.
 pub up_to : (j i : ℕ) → j < i + 1 → (j < i) ⊎ (j ≡ i)
 up_to j i below = either (nat_lt j i) refl
   where
@@ -95,7 +102,10 @@ up_to j i below = either (nat_lt j i) refl
     either true is = inl (lt is)
     either false is = inr (eq is)
 
+-- In these lemmas, `w` is one of the listed keys, `at` is the moment of the turns, and `laws` are the facts about the
+-- history before the drain.
 module _ (w : Spot) (at : ℕ) (spot : IsSpot w at) (laws : HasLaws w.history (clock_at w at)) where
+  -- The listed keys are those of all shards of the live streams.
   all_keys : w.keys ≡ keys_in (journal w.history) (live_streams (journal w.history))
   all_keys = spot.listed ∙ keys_are w.history at spot.can.whole
 
@@ -103,15 +113,17 @@ module _ (w : Spot) (at : ℕ) (spot : IsSpot w at) (laws : HasLaws w.history (c
       → slice_get (keys_in (journal w.history) (live_streams (journal w.history))) j ≡ Some key
   in_streams j key is = ap (λ ks. slice_get ks j) (sym all_keys) ∙ is
 
+  -- The key is that of a shard of a live stream.
   pub key_is : IsKeyOf (journal w.history) w.key
   key_is = key_of_streams (journal w.history) laws.numbered (live_streams (journal w.history)) w.index w.key
       (filtered (is_live (journal w.history)) (numbers_from 1 (made_count (journal w.history))))
       (in_streams w.index w.key spot.here)
 
+  -- No record of the key's stream is trimmed, and none of its shards is expired.
   pub whole_is : IsWhole (journal w.history) (clock_at w at) w.key.stream
   whole_is = spot.can.whole w.key.stream key_is.live
 
-  -- The keys at other indexes are other keys.
+  -- A key at another index is another key.
   pub apart : (j : ℕ) (key : ShardRef) → slice_get w.keys j ≡ Some key → (j < w.index) ⊎ (w.index < j)
       → same_key w.key key ≡ false
   apart j key is (inl below) =
@@ -123,21 +135,22 @@ module _ (w : Spot) (at : ℕ) (spot : IsSpot w at) (laws : HasLaws w.history (c
       (up_numbers (is_live (journal w.history)) 1 (made_count (journal w.history))) above
       (in_streams w.index w.key spot.here) (in_streams j key is)).0
 
-  -- The shards before this key's shard in its stream stand before it among the keys.
+  -- The keys of the shards with smaller numbers in the key's stream come before the key.
   pub before : (p : ℕ) → p < w.key.shard → (j : ℕ) × (j < w.index) × (slice_get w.keys j ≡ Some (ref w.key.stream p))
   before p below =
       let o = older_in (journal w.history) laws.numbered (live_streams (journal w.history)) w.index p w.key below
       (in_streams w.index w.key spot.here) in
       (o.0, o.1, ap (λ ks. slice_get ks o.0) all_keys ∙ o.2)
 
-  -- The shard of the key is listed.
+  -- The shard of the key is listed, also after turns on leases.
   pub listed : (now : Journal) → IsOver w.history (clock_at w at) now → is_listed_key now (clock_at w at) w.key ≡ true
   listed now is = is_listed_now w.history (clock_at w at) now is w.key key_is.state key_is.live key_is.there
       (all_get (λ (x : ShardState). is_closed_below (trim_floor (journal w.history) (clock_at w at) w.key.stream) x
       ≡ false) (shards (journal w.history) w.key.stream) w.key.shard key_is.state whole_is.listed key_is.there)
 
-  -- ---- The parents of the key's shard are past
+  -- ---- The parents of the key's shard were read to their ends
 
+  -- A row with the checkpoint SHARD_END says that its shard was read to its end.
   ended_row : (o : Option Row) → option_map (λ (r : Row). r.checkpoint) o ≡ Some ShardEnd → reads_end o ≡ true
   ended_row None is = absurd cc
   ended_row (Some r) is = end_at r.checkpoint (cc)
@@ -151,6 +164,8 @@ module _ (w : Spot) (at : ℕ) (spot : IsSpot w at) (laws : HasLaws w.history (c
   none_unread true b e = ap not e
   none_unread false b e = refl
 
+  -- The rows of the keys before this one are drained. If a parent of the shard is closed and has a smaller number, then
+  -- this parent stands in the way of no opening.
   past_one : (now : Journal) (o : Option ℕ) (next : Decision)
       → ((j : ℕ) (key : ShardRef) → j < w.index → slice_get w.keys j ≡ Some key → IsDone w.history key (row now key))
       → IsParentClosed (shards (journal w.history) w.key.stream) w.key.shard o
@@ -168,6 +183,8 @@ module _ (w : Spot) (at : ℕ) (spot : IsSpot w at) (laws : HasLaws w.history (c
       last_of : ShardRef → Checkpoint
       last_of k = last_checkpoint (records_of (journal w.history) k)
 
+  -- If the rows of the keys before this one are drained, the parents of its shard stand in the way of no opening
+  -- (`ArePast`): each of them was read to its end, or isn't listed.
   pub past : (now : Journal) → IsOver w.history (clock_at w at) now
       → ((j : ℕ) (key : ShardRef) → j < w.index → slice_get w.keys j ≡ Some key → IsDone w.history key (row now key))
       → ArePast now (clock_at w at) w.key
@@ -189,8 +206,10 @@ module _ (w : Spot) (at : ℕ) (spot : IsSpot w at) (laws : HasLaws w.history (c
       plain : (n : ℕ) → 0 + n ≡ n
       plain n = omega arith
 
-  -- ---- The others still wait, as long as the rows of other keys stay
+  -- ---- The other keys, as long as their rows stay
 
+  -- If the rows of other keys stay as they are and no tenure begins, the other keys are still as they should be
+  -- (`OthersWait`).
   pub others_stay : (old now : Journal) → OthersWait w old
       → ((key : ShardRef) → same_key w.key key ≡ false → row now key ≡ row old key) → taken_count now ≡ taken_count old
       → OthersWait w now
@@ -203,9 +222,11 @@ module _ (w : Spot) (at : ℕ) (spot : IsSpot w at) (laws : HasLaws w.history (c
     few = subst (λ n. n ≤ length w.history + (w.index + 1)) (sym count) others.few;
   }
 
+  -- The listed key at the index of `w` is the key of `w`.
   pub same_here : (j : ℕ) (key : ShardRef) → j ≡ w.index → slice_get w.keys j ≡ Some key → key ≡ w.key
   same_here j key e is = let a : Some key ≡ Some w.key = sym is ∙ ap (slice_get w.keys) e ∙ spot.here in cc (a)
 
+  -- If the rows of the keys before this one and of this key are drained, so is the row of each key up to this one.
   done_by : (now : Journal)
       → ((j : ℕ) (key : ShardRef) → j < w.index → slice_get w.keys j ≡ Some key → IsDone w.history key (row now key))
       → IsDone w.history w.key (row now w.key)
@@ -215,7 +236,8 @@ module _ (w : Spot) (at : ℕ) (spot : IsSpot w at) (laws : HasLaws w.history (c
   done_by now before here j key is (inr same) =
       subst (λ k. IsDone w.history k (row now k)) (sym (same_here j key same is)) here
 
-  -- Once this key's row is drained, the rows of one more key are drained.
+  -- The other keys are as they should be (`OthersWait`). If the row of this key is drained, then the rows of the keys
+  -- up to this one are drained, and the others wait.
   pub one_more : (now : Journal) → OthersWait w now → IsDone w.history w.key (row now w.key)
       → AreDrainedTo w.history w.keys w.among (w.index + 1) now
   one_more now others here = record {
@@ -224,7 +246,8 @@ module _ (w : Spot) (at : ℕ) (spot : IsSpot w at) (laws : HasLaws w.history (c
     few = others.few;
   }
 
-  -- Before this key's row is drained, the others wait.
+  -- If the rows of the keys before this one are drained and the others wait, then the other keys are as they should be
+  -- (`OthersWait`).
   pub none_yet : (now : Journal) → AreDrainedTo w.history w.keys w.among w.index now → OthersWait w now
   none_yet now drained = record {
     done = drained.done;

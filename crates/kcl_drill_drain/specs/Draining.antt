@@ -1,4 +1,5 @@
--- Which rows can be drained, and what draining leaves of a row.
+-- Which rows can be drained, and when a row is drained: its shard was read to the end, and its checkpoint says so. A
+-- row is the item of a lease in the lease table.
 use Rattle.std.specs.Prelude.{ℕ, ◌≡◌, ◌<◌, ◌≤◌, ◌^◌, max, true, false, if◌then◌else◌, List, length, Option, Some}
 use Rattle.std.specs.List.{AllByRecursion}
 use Rattle.std.specs.Option.{option_map}
@@ -20,13 +21,14 @@ use Rattle.kcl_drill.specs.Summed.{last_checkpoint}
 use Rattle.kcl_laws.specs.Recorded.{HasFrom}
 use Rattle.kcl_drill_summary.specs.Counting.{AreAbove}
 
--- Nothing of the stream is trimmed, and none of its shards is expired.
+-- At the clock `c`, no record of the stream `s` is trimmed, and none of its shards is expired.
 pub record IsWhole (log : Journal) (c s : ℕ) : Type 0 where
   pub above : (sh : ℕ) → AreAbove (trim_floor log c s) (records log s sh)
   pub listed : AllByRecursion (λ (x : ShardState). is_closed_below (trim_floor log c s) x ≡ false) (shards log s)
 
--- The history has fewer than 2^32 turns. At the clock after the moment `at`, nothing of a live stream is trimmed or
--- expired, and the origin of each row is the trim horizon.
+-- The history `h` can be drained at the moment `at`: it is lawful and has fewer than 2^32 turns. At the greater of its
+-- clock and `at`, no record of a live stream is trimmed and no shard of it is expired. Each row was made with the
+-- origin TRIM_HORIZON.
 pub record CanDrain (h : List Turn) (at : ℕ) : Type 0 where
   pub lawful : IsHistory h
   pub few : length h < 2 ^ 32
@@ -34,35 +36,42 @@ pub record CanDrain (h : List Turn) (at : ℕ) : Type 0 where
   pub horizon : (key : ShardRef) (r : Row) → row (journal h) key ≡ Some r
       → origin_of (journal h) key ≡ Some origin.TrimHorizon
 
--- ---- The shard of a key
+-- ---- What a journal says of the shard of a key
 
+-- The shard of the key, if there is one.
 abbrev pub shard_of : Journal → ShardRef → Option ShardState
 shard_of log key = shard_at log key.stream key.shard
 
+-- The records of the key's shard.
 abbrev pub records_of : Journal → ShardRef → List Logged
 records_of log key = records log key.stream key.shard
 
+-- The records of the key's shard that are left at the clock `c`: untrimmed, and at or above the position.
 abbrev pub left_of : Journal → ℕ → ShardRef → ℕ → List Logged
 left_of log c key place = left_from log c key.stream key.shard place
 
--- ---- The row of a key
+-- ---- The row of a key, before and after its drain
 
--- Where a row may stand: at the trim horizon, with the shard's starting number as its floor; at a number that isn't
--- above the last record's; or at the end of a closed shard.
+-- The checkpoint of a row is one from which its shard can be drained. `x` is the shard, `rs` are its records, and
+-- `floor` is the row's floor. At TRIM_HORIZON, the floor is the shard's starting sequence number. At a sequence number,
+-- a record has this number or a greater one. At SHARD_END, the shard is closed.
 abbrev pub IsStart : Option ShardState → List Logged → ℕ → Checkpoint → Type 0
 IsStart x rs floor TrimHorizon = floor ≡ start_of x
 IsStart x rs floor (At q) = HasFrom q rs
 IsStart x rs floor ShardEnd = is_closed_at x ≡ true
 
--- The row hasn't been drained yet.
+-- The row `r` of the key is as a row can be right after the history `h`: its counter is at most the number of turns,
+-- and its checkpoint is one from which the shard can be drained (`IsStart`).
 pub record IsFresh (h : List Turn) (key : ShardRef) (r : Row) : Type 0 where
   pub few : r.counter ≤ length h
   pub start : IsStart (shard_of (journal h) key) (records_of (journal h) key) r.floor r.checkpoint
 
--- The checkpoint of a shard that was read to its end.
+-- The checkpoint that the key's row has once its shard was read to the end: SHARD_END if the shard is closed, and
+-- otherwise the one at its last record, or TRIM_HORIZON if it has none.
 abbrev pub final_of : Journal → ShardRef → Checkpoint
 final_of log key = if is_closed_at (shard_of log key) then ShardEnd else last_checkpoint (records_of log key)
 
--- The row exists, and has the checkpoint of a shard that was read to its end.
+-- The row of the key is drained: it exists (it isn't None), and its checkpoint is the one of a shard that was read to
+-- its end. The shard is as the history `h` left it.
 abbrev pub IsDone : List Turn → ShardRef → Option Row → Type 0
 IsDone h key o = option_map (λ r. r.checkpoint) o ≡ Some (final_of (journal h) key)

@@ -1,4 +1,5 @@
--- How far the rows of the keys are made, and how far they are drained.
+-- A drain goes over the keys of the listed shards in order. First it makes a row for each key that has none, and then
+-- it drains the row of each key. These definitions say how far it has come.
 use Rattle.std.specs.Prelude.{ℕ, ◌≡◌, ◌+◌, ◌<◌, ◌≤◌, max, List, length, slice_get, Some}
 use Rattle.kds_base.specs.declared.lease_key.ShardRef.{ShardRef}
 use Rattle.kds_defs.specs.declared.command.Turn.{Turn}
@@ -11,29 +12,33 @@ use Rattle.kds_defs.specs.Streams.{live_streams}
 use Rattle.kcl_drill_summary.specs.Counting.{row_in}
 use Rattle.kcl_drill_drain.specs.Draining.{IsDone, IsFresh}
 
--- The listed shards of the history at the clock after the moment `at`, in the order of their keys.
+-- The keys of the shards that are listed at the greater of the history's clock and `at`, in their order.
 abbrev pub listed_keys : List Turn → ℕ → List ShardRef
 listed_keys h at = listed_in (journal h) (max (clock h) at) (live_streams (journal h))
 
--- The key has a row.
+-- The key has a row in the journal.
 abbrev pub HasRow : Journal → ShardRef → Type 0
 HasRow log key = (r : Row) × (row log key ≡ Some r)
 
--- No row has been drained yet. The rows that were there still exist, and so do those of the first `i` keys.
+-- The drain has made the rows of the first `i` keys: they have a row in `log`, and so does each key with a row among
+-- `among`, the rows of the survey. Each row is as a row can be before its drain (`IsFresh`), and at most as many
+-- tenures began as `h`, the history before the drain, has turns.
 pub record AreMade (h : List Turn) (keys : List ShardRef) (among : List Row) (i : ℕ) (log : Journal) : Type 0 where
   pub fresh : (key : ShardRef) (r : Row) → row log key ≡ Some r → IsFresh h key r
   pub kept : (key : ShardRef) (r : Row) → row_in among key ≡ Some r → HasRow log key
   pub made : (j : ℕ) (key : ShardRef) → j < i → slice_get keys j ≡ Some key → HasRow log key
   pub few : taken_count log ≤ length h
 
--- The row of the key is the one among `among`, and hasn't been drained yet.
+-- The row of the key waits to be drained: it is the one among `among`, the rows of the survey, and as a row can be
+-- before its drain (`IsFresh`).
 pub record Waits (h : List Turn) (among : List Row) (log : Journal) (key : ShardRef) : Type 0 where
   pub now : Row
   pub there : row log key ≡ Some now
   pub seen : row_in among key ≡ Some now
   pub fresh : IsFresh h key now
 
--- The rows of the first `i` keys are drained, and the others wait.
+-- The drain has drained the rows of the first `i` keys, and those of the other keys wait (`Waits`). Since the history
+-- `h`, at most one tenure began for each of the first `i` keys.
 pub record AreDrainedTo (h : List Turn) (keys : List ShardRef) (among : List Row) (i : ℕ) (log : Journal) : Type 0 where
   pub done : (j : ℕ) (key : ShardRef) → j < i → slice_get keys j ≡ Some key → IsDone h key (row log key)
   pub waits : (j : ℕ) (key : ShardRef) → i ≤ j → slice_get keys j ≡ Some key → Waits h among log key

@@ -1,4 +1,4 @@
--- What a drain depends on: facts about the history before it, and what its turns leave unchanged.
+-- What a drain relies on: facts about the history before it, and what turns on leases leave unchanged.
 use Rattle.std.specs.Prelude.{ℕ, ◌≡◌, ◌≤◌, true, List, ◌++◌, length, Some}
 use Rattle.std.specs.List.{AllByRecursion}
 use Rattle.kds_base.specs.declared.lease_key.ShardRef.{ShardRef}
@@ -16,6 +16,10 @@ use Rattle.kcl_drill_laws.specs.Leasing.{AreOnLeases, HasSameFloors, HasSameStre
 use Rattle.kcl_drill_laws.specs.Parents.{AreFewRecords, AreParentsClosed}
 use Rattle.kcl_drill_drain.specs.Draining.{IsFresh}
 
+-- Facts about the history `h` before a drain. In each stream, the shards are numbered from 0 on, the parents of shards
+-- are closed, and the records have rising sequence numbers and bounded sizes. Live streams have the numbers of streams
+-- that were made. Each row is as a row can be before its drain (`IsFresh`), and there are few enough tenures and
+-- records. Further turns on leases change no stream, and no trim floor as long as the clock isn't above `c`.
 pub record HasLaws (h : List Turn) (c : ℕ) : Type 0 where
   pub numbered : (s : ℕ) → AreNumbered 0 (shards (journal h) s)
   pub drawn : (s sh : ℕ) → AreDrawn (journal h) s sh

@@ -1,4 +1,5 @@
--- A machine that has answered further turns, which are on leases.
+-- Which turns a machine has answered after those of a history `h`: only turns on leases, all of one actor at one
+-- moment. `stands` holds for each history that the machine may have answered.
 use Rattle.std.specs.Prelude.{ℕ, ◌≡◌, max, List, ◌∷◌, ◌++◌, Result, IfOk}
 use Rattle.kds_defs.specs.declared.command.Command.{Command}
 use Rattle.kds_defs.specs.declared.command.Turn.{Turn}
@@ -9,7 +10,7 @@ use Rattle.kds_defs.specs.Journal.{Journal}
 use Rattle.kcl_drill.specs.Summed.{AreDrained}
 use Rattle.kcl_drill_laws.specs.Closed.{AreLeased}
 
--- The machine stands for the history `h` with further turns on leases after it.
+-- The machine has answered the history `h` and then only lawful turns on leases, of the actor `by` at the moment `at`.
 pub record HasLeased (stands : List Turn → Type 0) (by at : ℕ) (h : List Turn) : Type 0 where
   pub more : List Turn
   pub stands_now : stands (more ++ h)
@@ -24,18 +25,21 @@ pub record Leads (stands : List Turn → Type 0) (by at : ℕ) (h : List Turn) (
   pub late : clock (more ++ h) ≡ max (clock h) at
   pub so : P (journal (more ++ h))
 
--- The machine stands for the history `h` with further turns on leases after it, which leave each listed shard drained.
+-- The machine has answered the history `h` and then only lawful turns on leases, of the actor `by` at the moment `at`.
+-- After them, each listed shard is drained (`AreDrained`).
 pub record HasDrained (stands : List Turn → Type 0) (by at : ℕ) (h : List Turn) : Type 0 where
   pub more : List Turn
   pub stands_now : stands (more ++ h)
   pub are : AreLeased by at more
   pub drained : AreDrained (journal (more ++ h)) (clock (more ++ h))
 
+-- The command `what` as a turn of the actor `by` at the moment `at`.
 abbrev pub turn_of : ℕ → ℕ → Command → Turn
 turn_of by at what = record { by = by; at = at; what = what }
 
--- The answer is that of the definitions after any history that the machine stood for, and the turn is added to this
--- history.
+-- A call gave the turn to the machine. Take any history that the machine stood for before (`stands`). If the result is
+-- Ok, it has the answer by the definitions, and the machine now stands for this history with the turn added
+-- (`stands'`).
 abbrev pub Answers : {E : Type 0} → (List Turn → Type 0) → (List Turn → Type 0) → Turn → Result (Result Reply Refusal) E
     → Type 0
 Answers stands stands' turn result = (now : List Turn) → stands now

@@ -1,4 +1,5 @@
--- How far the draining of one row has come.
+-- How far the drain of one key's row has come: it is taken, its shard is opened, and then batch after batch is read,
+-- given and marked.
 use Rattle.std.specs.Prelude.{ℕ, ◌≡◌, ◌+◌, ◌<◌, ◌≤◌, ◌^◌, max, Bool, false, List, [], ◌∷◌, length, map, slice_get}
 use Rattle.std.specs.Prelude.{Option, Some, None}
 use Rattle.kds_base.specs.declared.lease_key.ShardRef.{ShardRef}
@@ -23,7 +24,8 @@ use Rattle.kcl_drill_drain.specs.Draining.{CanDrain, IsDone, IsFresh, left_of, r
 use Rattle.kcl_drill_drain.specs.Keys.{AreDrainedTo, Waits, listed_keys}
 use Rattle.kcl_drill_drain.specs.Leased.{Leads}
 
--- A key among the listed ones, with the history before the drain and the rows that were seen.
+-- One of the listed keys (`key`, at the index `index` of `keys`), with the history before the drain, and with the rows
+-- that a survey has shown (`among`).
 pub record Spot : Type 0 where
   pub history : List Turn
   pub keys : List ShardRef
@@ -31,23 +33,29 @@ pub record Spot : Type 0 where
   pub index : ℕ
   pub key : ShardRef
 
--- The history can be drained, and the key is at its index among the listed ones.
+-- The history of `w` can be drained at the moment `at`, its keys are the listed ones, and its key stands at its index
+-- among them.
 pub record IsSpot (w : Spot) (at : ℕ) : Type 0 where
   pub can : CanDrain w.history at
   pub listed : w.keys ≡ listed_keys w.history at
   pub here : slice_get w.keys w.index ≡ Some w.key
   pub few : w.index < 2 ^ 63
 
+-- The clock during the drain: the greater of the clock of the history before it and the moment `at` of its turns.
 abbrev pub clock_at : Spot → ℕ → ℕ
 clock_at w at = max (clock w.history) at
 
--- The rows of the keys before are drained, and those of the keys behind wait.
+-- The other keys are as they are while the row of this key is drained: the rows of the keys before it are drained, and
+-- those of the keys after it wait. Since the history before the drain, at most one tenure began for each key up to this
+-- one.
 pub record OthersWait (w : Spot) (log : Journal) : Type 0 where
   pub done : (j : ℕ) (key : ShardRef) → j < w.index → slice_get w.keys j ≡ Some key → IsDone w.history key (row log key)
   pub waits : (j : ℕ) (key : ShardRef) → w.index < j → slice_get w.keys j ≡ Some key → Waits w.history w.among log key
   pub few : taken_count log ≤ length w.history + (w.index + 1)
 
--- The row of the key was taken by the newest line.
+-- The newest line of the journal took the row `r` of the key. `held` has the number of the new tenure, the row's
+-- counter after the take, and the position of the first read. Before this line, the rows of the keys before this one
+-- were drained, and `r` and those of the keys after it waited.
 pub record IsTaken (w : Spot) (by : ℕ) (r : Row) (held : DrainTenure) (log : Journal) : Type 0 where
   pub before : Journal
   pub clock : ℕ
@@ -59,15 +67,18 @@ pub record IsTaken (w : Spot) (by : ℕ) (r : Row) (held : DrainTenure) (log : J
   pub place : held.place ≡ first_place r.checkpoint
   pub fresh : IsFresh w.history w.key r
 
--- A tenure of the key has come as far as `x` says, and `OthersWait` holds for the other keys.
+-- The tenure of this key, which is the actor's, and its row are as `x` says (`Holds`), and the other keys are as they
+-- should be (`OthersWait`).
 pub record Stands (w : Spot) (by : ℕ) (x : Holding) (log : Journal) : Type 0 where
   pub others : OthersWait w log
   pub holds : Holds log x
   pub own : x.by ≡ by
   pub of_key : x.key ≡ w.key
 
--- All that the tenure read is given. If nothing is left, its row's checkpoint is at the last record. A mark at a record
--- that is left is above the least one, and there are counters for all that is left.
+-- The tenure is ready for its next read: each of its reads is given, and the row's checkpoint isn't SHARD_END. If no
+-- record is left from its position on, the checkpoint is at the shard's last record (`settled`). The least sequence
+-- number that it may mark isn't above its position or the shard's start, whichever is greater (`low`). The counter is
+-- low enough for one mark per record that is left (`budget`).
 pub record IsReady (w : Spot) (at : ℕ) (x : Holding) : Type 0 where
   pub none_waits : x.waiting ≡ []
   pub given : x.done ≡ x.place
@@ -78,53 +89,64 @@ pub record IsReady (w : Spot) (at : ℕ) (x : Holding) : Type 0 where
   pub budget : x.counter + length (left_of (journal w.history) (clock_at w at) w.key x.place)
       ≤ length w.history + 1 + length (records_of (journal w.history) w.key)
 
--- The tenure's number, its position and its row's counter are those of `held`.
+-- `held`, which the code keeps, has the number and the position of the tenure `x` and the counter of its row.
 pub record IsHeld (x : Holding) (held : DrainTenure) : Type 0 where
   pub tenure : x.tenure ≡ held.tenure
   pub place : x.place ≡ held.place
   pub counter : x.counter ≡ held.counter
 
--- The machine stands for a history in which the tenure `held` can read on.
+-- The machine has answered turns on leases since the history before the drain, after which the tenure `held` of this
+-- key is ready for its next read (`IsReady`).
 pub record ReadsOn (stands : List Turn → Type 0) (w : Spot) (by at : ℕ) (held : DrainTenure) : Type 0 where
   pub now : Holding
   pub leads : Leads stands by at w.history (Stands w by now)
   pub ready : IsReady w at now
   pub is : IsHeld now held
 
--- The row of the key is drained as well.
+-- The machine has answered turns on leases since the history before the drain. After them, the rows of the keys up to
+-- this one are drained, and those of the keys after it wait.
 abbrev pub IsDrainedHere : (List Turn → Type 0) → Spot → ℕ → ℕ → Type 0
 IsDrainedHere stands w by at = Leads stands by at w.history (AreDrainedTo w.history w.keys w.among (w.index + 1))
 
--- ---- One read: its batch, where it ends, and whether the shard ends there
+-- ---- The next read of the tenure `x`, and what follows it
 
+-- The batch that a read at the position of the tenure `x` returns.
 abbrev pub batch_at : Spot → ℕ → Holding → List Logged
 batch_at w at x = batch (journal w.history) (clock_at w at) w.key.stream w.key.shard x.place READ
 
+-- The position after this batch.
 abbrev pub reach_at : Spot → ℕ → Holding → ℕ
 reach_at w at x = place_after x.place (numbers_of (batch_at w at x))
 
+-- Whether this read ends the shard: it is closed, and no record is left after the batch.
 abbrev pub ended_at : Spot → ℕ → Holding → Bool
 ended_at w at x = ends_at (journal w.history) (clock_at w at) w.key.stream w.key.shard (reach_at w at x)
 
+-- This read as the journal has it: the sequence numbers of its batch, and whether it ends the shard.
 abbrev pub read_at : Spot → ℕ → Holding → ReadDone
 read_at w at x = record { numbers = numbers_of (batch_at w at x); ended = ended_at w at x }
 
+-- The sequence number of the last record of this batch, or None if the batch is empty.
 abbrev pub last_at : Spot → ℕ → Holding → Option ℕ
 last_at w at x = last_number_in (map stored (batch_at w at x))
 
+-- The reply to the command Read at the position of the tenure `x`.
 abbrev pub reply_at : Spot → ℕ → Holding → Reply
 reply_at w at x = reply.Read (map stored (batch_at w at x)) (reach_at w at x) (ended_at w at x)
 
--- The tenure after the read, after this read was given, and after the mark at its last record.
+-- The tenure `x` after its next read.
 abbrev pub read_then : Spot → ℕ → Holding → Holding
 read_then w at x = after_read x (read_at w at x)
 
+-- The tenure `x` after its next read was made and given.
 abbrev pub given_then : Spot → ℕ → Holding → Holding
 given_then w at x = after_give (read_then w at x) (read_at w at x) []
 
+-- The tenure `x` after a mark at the sequence number, or `x` itself if there is none.
 abbrev pub marked_at : Option ℕ → Holding → Holding
 marked_at None x = x
 marked_at (Some q) x = after_mark x (target.At q)
 
+-- The tenure `x` after its next read was made and given, and the last record of its batch, if there is one, was marked.
 abbrev pub marked_then : Spot → ℕ → Holding → Holding
 marked_then w at x = marked_at (last_at w at x) (given_then w at x)

@@ -1,4 +1,6 @@
--- What the steps of a drain promise for any machine.
+-- What each step of a drain does on any machine. `stands` says which histories the machine stands for before the step,
+-- and `stands'` which ones after it. The actor of all commands is `by`, and their moment is `at`. A step promises
+-- nothing if memory runs out, so that `result` is an error.
 use Rattle.std.specs.Prelude.{ℕ, ◌≡◌, ◌+◌, ◌==◌, Bool, false, List, [], ◌∷◌, length, Option, Some, None, Result, Ok}
 use Rattle.std.specs.Prelude.{IfOk, OnOk}
 use Rattle.kds_base.specs.declared.lease_key.ShardRef.{ShardRef}
@@ -21,9 +23,10 @@ use Rattle.kcl_drill_drain.specs.Leased.{Leads}
 use Rattle.kcl_drill_drain.specs.Standing.{IsDrainedHere, IsHeld, IsReady, IsSpot, IsTaken, ReadsOn, Spot, Stands}
 use Rattle.kcl_drill_drain.specs.Standing.{ended_at, given_then, last_at, marked_then, reach_at, read_then, reply_at}
 
--- ---- One row
+-- ---- The row of one key
 
--- The row of the key is taken at its counter.
+-- The step takes the row of the key, if the row waits to be drained, has the counter `counter`, and isn't at SHARD_END.
+-- `result` then has the new tenure.
 abbrev pub Takes : {E : Type 0} → (List Turn → Type 0) → (List Turn → Type 0) → ℕ → ℕ → ShardRef → ℕ
     → Result (Option DrainTenure) E → Type 0
 Takes stands stands' by at key counter result =
@@ -32,14 +35,16 @@ Takes stands stands' by at key counter result =
     → Leads stands by at w.history (AreDrainedTo w.history w.keys w.among w.index)
     → IfOk result (λ o. (held : DrainTenure) × (o ≡ Some held) × Leads stands' by at w.history (IsTaken w by r held))
 
--- The shard of the row is opened.
+-- The step opens the shard of the tenure `held`, if its row was taken by the newest line and wasn't at SHARD_END. The
+-- tenure is then ready for its first read.
 abbrev pub Opens : {E : Type 0} → (List Turn → Type 0) → (List Turn → Type 0) → ℕ → ℕ → DrainTenure
     → Result (Unit {0}) E → Type 0
 Opens stands stands' by at held result =
     (w : Spot) (r : Row) → IsSpot w at → row_in w.among w.key ≡ Some r → is_end r.checkpoint ≡ false
     → Leads stands by at w.history (IsTaken w by r held) → OnOk result (ReadsOn stands' w by at held)
 
--- A read is answered with the batch at the tenure's position.
+-- The step reads at the position of the tenure `held`, if this tenure is ready for a read. The answer in `result` has
+-- the batch at this position.
 abbrev pub Reads : {E : Type 0} → (List Turn → Type 0) → (List Turn → Type 0) → ℕ → ℕ → DrainTenure
     → Result (Result Reply Refusal) E → Type 0
 Reads stands stands' by at held result =
@@ -47,7 +52,7 @@ Reads stands stands' by at held result =
     → Leads stands by at w.history (Stands w by x)
     → IfOk result (λ a. (a ≡ Ok (reply_at w at x)) × Leads stands' by at w.history (Stands w by (read_then w at x)))
 
--- The read that waits is given.
+-- The step gives the read `r` of the tenure `held`, if this is its only read that waits to be given.
 abbrev pub Gives : {E : Type 0} → (List Turn → Type 0) → (List Turn → Type 0) → ℕ → ℕ → DrainTenure
     → Result (Unit {0}) E → Type 0
 Gives stands stands' by at held result =
@@ -55,7 +60,8 @@ Gives stands stands' by at held result =
     → Leads stands by at w.history (Stands w by x)
     → OnOk result (Leads stands' by at w.history (Stands w by (after_give x r [])))
 
--- The row is marked, and its counter is returned.
+-- The step marks the row of the tenure `held` at the target `to`, if the tenure may mark it and the counter isn't the
+-- last number. `result` has the row's new counter.
 abbrev pub Marks : {E : Type 0} → (List Turn → Type 0) → (List Turn → Type 0) → ℕ → ℕ → DrainTenure → Target
     → Result ℕ E → Type 0
 Marks stands stands' by at held to result =
@@ -64,7 +70,8 @@ Marks stands stands' by at held to result =
     → Leads stands by at w.history (Stands w by x)
     → IfOk result (λ n. (n ≡ x.counter + 1) × Leads stands' by at w.history (Stands w by (after_mark x to)))
 
--- The row is marked at the last record of the batch, if there is one.
+-- The step marks the row of the tenure `held` at the last record of the batch that was read and given, if the batch has
+-- one (`last`). `result` has the row's counter after it.
 abbrev pub MarksLast : {E : Type 0} → (List Turn → Type 0) → (List Turn → Type 0) → ℕ → ℕ → DrainTenure → Option ℕ
     → Result ℕ E → Type 0
 MarksLast stands stands' by at held last result =
@@ -73,12 +80,15 @@ MarksLast stands stands' by at held last result =
     → IfOk result (λ n. (n ≡ (marked_then w at x).counter)
     × Leads stands' by at w.history (Stands w by (marked_then w at x)))
 
--- The row is drained, or its tenure reads on.
+-- Where a step leaves the drain of this key. If there is no tenure any more (None), the key's row is drained. Otherwise
+-- the tenure `held` is ready for its next read.
 abbrev pub Advances : (List Turn → Type 0) → Spot → ℕ → ℕ → Option DrainTenure → Type 0
 Advances stands w by at None = IsDrainedHere stands w by at
 Advances stands w by at (Some held) = ReadsOn stands w by at held
 
--- After the mark, the end is marked if the read ended the shard.
+-- The step comes after the mark at the last record of a batch, which was read at `position`. If this read ended the
+-- shard (`ended`), the step marks SHARD_END. Then the key's row is drained, or its tenure is ready for its next read
+-- (`Advances`).
 abbrev pub Settles : {E : Type 0} → (List Turn → Type 0) → (List Turn → Type 0) → ℕ → ℕ → ℕ → DrainTenure → Bool
     → Result (Option DrainTenure) E → Type 0
 Settles stands stands' by at place held ended result =
@@ -86,7 +96,9 @@ Settles stands stands' by at place held ended result =
     → IsHeld (marked_then w at x) held
     → Leads stands by at w.history (Stands w by (marked_then w at x)) → IfOk result (Advances stands' w by at)
 
--- What was read is given and marked.
+-- The step gives and marks what was read: `fetch` has the last record's number, the position after the batch, and
+-- whether the read ended the shard. Then the key's row is drained, or its tenure is ready for its next read
+-- (`Advances`).
 abbrev pub Delivers : {E : Type 0} → (List Turn → Type 0) → (List Turn → Type 0) → ℕ → ℕ → DrainTenure → Fetch
     → Result (Option DrainTenure) E → Type 0
 Delivers stands stands' by at held fetch result =
@@ -94,18 +106,21 @@ Delivers stands stands' by at held fetch result =
     → fetch ≡ record { last = last_at w at x; reach = reach_at w at x; ended = ended_at w at x }
     → Leads stands by at w.history (Stands w by (read_then w at x)) → IfOk result (Advances stands' w by at)
 
+-- If the tenure `held` is ready for a read, the step reads, gives and marks one more batch. Then the key's row is
+-- drained, or its tenure is ready for its next read (`Advances`).
 abbrev pub StepsOn : {E : Type 0} → (List Turn → Type 0) → (List Turn → Type 0) → ℕ → ℕ → DrainTenure
     → Result (Option DrainTenure) E → Type 0
 StepsOn stands stands' by at held result = (w : Spot) → IsSpot w at → ReadsOn stands w by at held
     → IfOk result (Advances stands' w by at)
 
--- The shard is read to its end.
+-- If the tenure `held` is ready for a read, the step reads its shard to the end, and then the key's row is drained.
 abbrev pub ReadsToEnd : {E : Type 0} → (List Turn → Type 0) → (List Turn → Type 0) → ℕ → ℕ → DrainTenure
     → Result (Unit {0}) E → Type 0
 ReadsToEnd stands stands' by at held result = (w : Spot) → IsSpot w at → ReadsOn stands w by at held
     → OnOk result (IsDrainedHere stands' w by at)
 
--- A row that isn't at its end is taken, and its shard is read to the end.
+-- If the row of the key waits to be drained, has the counter `counter` and isn't at SHARD_END, the step takes it and
+-- reads its shard to the end. Then the key's row is drained.
 abbrev pub DrainsTaken : {E : Type 0} → (List Turn → Type 0) → (List Turn → Type 0) → ℕ → ℕ → ShardRef → ℕ
     → Result (Unit {0}) E → Type 0
 DrainsTaken stands stands' by at key counter result =
@@ -114,7 +129,8 @@ DrainsTaken stands stands' by at key counter result =
     → Leads stands by at w.history (AreDrainedTo w.history w.keys w.among w.index)
     → OnOk result (IsDrainedHere stands' w by at)
 
--- The row of a key is drained.
+-- If the rows of the keys before this one are drained and the others wait, the step drains the row of this key. `row`
+-- is the key's row among the rows of the survey.
 abbrev pub DrainsRow : {E : Type 0} → (List Turn → Type 0) → (List Turn → Type 0) → ℕ → ℕ → ShardRef → Option Row
     → Result (Unit {0}) E → Type 0
 DrainsRow stands stands' by at key row result =
@@ -122,21 +138,24 @@ DrainsRow stands stands' by at key row result =
     → Leads stands by at w.history (AreDrainedTo w.history w.keys w.among w.index)
     → OnOk result (IsDrainedHere stands' w by at)
 
--- ---- All rows
+-- ---- The rows of all listed keys
 
+-- If the rows of all listed keys wait, the step drains all of them.
 abbrev pub DrainsKeys : {E : Type 0} → (List Turn → Type 0) → (List Turn → Type 0) → ℕ → ℕ → List ShardRef → List Row
     → Result (Unit {0}) E → Type 0
 DrainsKeys stands stands' by at keys among result =
     (h : List Turn) → CanDrain h at → keys ≡ listed_keys h at → Leads stands by at h (AreDrainedTo h keys among 0)
     → OnOk result (Leads stands' by at h (AreDrainedTo h keys among (length keys)))
 
+-- The step makes a row for each of the listed keys that has none. `among` are the rows of the survey.
 abbrev pub MakesKeys : {E : Type 0} → (List Turn → Type 0) → (List Turn → Type 0) → ℕ → ℕ → List ShardRef → List Row
     → Result (Unit {0}) E → Type 0
 MakesKeys stands stands' by at keys among result =
     (h : List Turn) → CanDrain h at → keys ≡ listed_keys h at → Leads stands by at h (AreMade h keys among 0)
     → OnOk result (Leads stands' by at h (AreMade h keys among (length keys)))
 
--- One row is made, if there is none.
+-- If the keys before this one have rows, the step makes a row for this key, unless it has one among the rows of the
+-- survey (`seen`). Then the keys up to this one have rows.
 abbrev pub MakesRow : {E : Type 0} → (List Turn → Type 0) → (List Turn → Type 0) → ℕ → ℕ → ShardRef → Option Row
     → Result (Unit {0}) E → Type 0
 MakesRow stands stands' by at key seen result =
@@ -144,7 +163,8 @@ MakesRow stands stands' by at key seen result =
     → Leads stands by at w.history (AreMade w.history w.keys w.among w.index)
     → OnOk result (Leads stands' by at w.history (AreMade w.history w.keys w.among (w.index + 1)))
 
--- A row is made for each listed shard that has none in a survey of the history.
+-- The step makes a row for each listed key that has none, where `survey` is the answer to a survey with the listed keys
+-- and all rows.
 abbrev pub Makes : {E : Type 0} → (List Turn → Type 0) → (List Turn → Type 0) → ℕ → ℕ → Result Reply Refusal
     → Result (Unit {0}) E → Type 0
 Makes stands stands' by at survey result =
@@ -152,7 +172,8 @@ Makes stands stands' by at survey result =
     → Leads stands by at h (AreMade h (listed_keys h at) (rows (journal h)) 0)
     → OnOk result (Leads stands' by at h (AreMade h (listed_keys h at) (rows (journal h)) (length (listed_keys h at))))
 
--- The rows that a survey shows are drained.
+-- If the rows of all listed keys wait, the step drains all of them, where `survey` is the answer to a survey with the
+-- listed keys and their rows.
 abbrev pub Drains : {E : Type 0} → (List Turn → Type 0) → (List Turn → Type 0) → ℕ → ℕ → Result Reply Refusal
     → Result (Unit {0}) E → Type 0
 Drains stands stands' by at survey result =

@@ -77,10 +77,10 @@ fn mark_last<M: Machine>(
     }
 }
 
-/// Decides whether another read follows the read at the position `place`. If the read reached the shard's end
+/// Decides whether another read follows the read at the position `position`. If the read reached the shard's end
 /// (`ended`), sets the checkpoint to that end, and returns `None`. Otherwise, if the read position of `held` is above
-/// `place`, returns `held`, the tenure for the next read. If that position isn't above `place`, returns `None`. So the
-/// position rises with each read, and reading terminates on any machine.
+/// `position`, returns `held`, the tenure for the next read. If that position isn't above `position`, returns `None`.
+/// So the position rises with each read, and reading terminates on any machine.
 fn finish_or_continue<M: Machine>(
     machine: &mut M,
     by: u32,

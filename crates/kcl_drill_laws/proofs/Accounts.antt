@@ -1,4 +1,5 @@
--- The turns of a history, in terms of the accounts of all its passes.
+-- The turns of a history are those of the accounts of all its passes. So what is true of each turn of each account is
+-- true of each turn of the history, and the history has no more turns than the accounts.
 use Rattle.std.proofs.Common.{◌≡◌, ℕ, ◌+◌, ◌<◌, ◌≤◌, max, Bool, true, false, List, [], ◌∷◌, length, refl, sym, ap}
 use Rattle.std.proofs.Common.{subst, ◌∙◌, arith}
 use Rattle.std.specs.Prelude.{◌==◌, cond}
@@ -13,12 +14,13 @@ use Rattle.kds_turn.specs.Passes.{AreAllBy, IsSplitInto}
 same_test : (n m : ℕ) → (n == m) ≡ (m == n)
 same_test n m = grind (arith, nat_tests)
 
--- ---- What holds of each account's turns holds of all turns
+-- ---- What is true of each turn of each account is true of each turn of the history
 
--- The fact holds of the turns of each account.
+-- `P` is true of each turn of `h` whose actor has one of the accounts.
 abbrev pub OfEach : (Turn → Type 0) → List Account → List Turn → Type 0
 OfEach P accounts h = AllByRecursion (λ a. AllByRecursion P (turns_by a.by h)) accounts
 
+-- If `P` is true of all such turns of a history, it is true of those of the history without its newest turn.
 rest_of : (P : Turn → Type 0) (accounts : List Account) (t : Turn) (h : List Turn) → OfEach P accounts (t ∷ h)
     → OfEach P accounts h
 rest_of P [] t h of = tt
@@ -42,36 +44,43 @@ one_by P a t h n false is mine some later =
     let none : has t.by a ≡ 0 = ap (λ b. cond b 1 0) (same_test a.by t.by ∙ is) in
     later (omega arith)
 
+-- If `P` is true of all such turns, and the newest turn's actor has one of the accounts, then `P` is true of this turn.
 one_of : (P : Turn → Type 0) (accounts : List Account) (t : Turn) (h : List Turn) → OfEach P accounts (t ∷ h)
     → 0 < times t.by accounts → P t
 one_of P [] t h of some = absurd (omega arith)
 one_of P (a ∷ rest) t h of some =
     one_by P a t h (times t.by rest) (t.by == a.by) refl of.0 some (one_of P rest t h of.1)
 
+-- If each turn of the history is by an actor with one of the accounts, then `P` is true of each turn.
 all_of : (P : Turn → Type 0) (accounts : List Account) (h : List Turn) → OfEach P accounts h → AreAllBy accounts h
     → AllByRecursion P h
 all_of P accounts [] of all = tt
 all_of P accounts (t ∷ h) of all =
     (one_of P accounts t h of all.0, all_of P accounts h (rest_of P accounts t h of) all.1)
 
+-- If `P` is true of each turn of each account, it is true of the turns of the history whose actors have an account.
 each_of : (P : Turn → Type 0) (accounts : List Account) (h : List Turn) → IsSplitInto accounts h
     → AllByRecursion (λ a. AllByRecursion P a.turns) accounts
     → OfEach P accounts h
 each_of P [] h own of = tt
 each_of P (a ∷ rest) h own of = (subst (AllByRecursion P) (sym own.0) of.0, each_of P rest h own.1 of.1)
 
+-- If `P` is true of each turn of each account, it is true of each turn of the history `h`, which has the turns of these
+-- accounts and no others.
 pub all_turns : (P : Turn → Type 0) (accounts : List Account) (h : List Turn) → IsSplitInto accounts h
     → AreAllBy accounts h
     → AllByRecursion (λ a. AllByRecursion P a.turns) accounts → AllByRecursion P h
 all_turns P accounts h own all of = all_of P accounts h (each_of P accounts h own of) all
 
--- ---- How many turns there are
+-- ---- The number of turns
 
--- The number of turns of the accounts.
+-- The number of turns in all accounts together.
 abbrev pub count_of : List Account → ℕ
 count_of [] = 0
 count_of (a ∷ rest) = length a.turns + count_of rest
 
+-- For all accounts together, the number of turns of `h` that are by the pass of an account. A turn counts once for each
+-- account of its pass.
 abbrev pub count_in : List Turn → List Account → ℕ
 count_in h [] = 0
 count_in h (a ∷ rest) = length (turns_by a.by h) + count_in h rest
@@ -90,6 +99,7 @@ one_more t h (a ∷ rest) = either (t.by == a.by) refl (one_more t h rest)
     either false is so = let none : has t.by a ≡ 0 = ap (λ b. cond b 1 0) (same_test a.by t.by ∙ is) in
         omega arith
 
+-- If each turn of `h` is by the pass of an account, `h` has at most `count_in` turns.
 few_in : (accounts : List Account) (h : List Turn) → AreAllBy accounts h → length h ≤ count_in h accounts
 few_in accounts [] all = omega arith
 few_in accounts (t ∷ h) all = let more = one_more t h accounts in let rest = few_in accounts h all.1 in
@@ -101,6 +111,7 @@ count_same [] h own = refl
 count_same (a ∷ rest) h own = let one = ap length own.0 in let more = count_same rest h own.1 in
     omega arith
 
+-- If a history has the turns of the accounts and no others, it has at most as many turns as the accounts together.
 pub few_turns : (accounts : List Account) (h : List Turn) → IsSplitInto accounts h → AreAllBy accounts h
     → length h ≤ count_of accounts
 few_turns accounts h own all = let same = count_same accounts h own in let few = few_in accounts h all in
@@ -108,6 +119,7 @@ few_turns accounts h own all = let same = count_same accounts h own in let few =
 
 -- ---- The clock
 
+-- If no turn of a history is later than `most`, its clock isn't above `most`.
 pub clock_by : (most : ℕ) (h : List Turn) → AllByRecursion (λ t. t.at ≤ most) h → clock h ≤ most
 clock_by most [] below = omega arith
 clock_by most (t ∷ h) below = both (clock h) t.at (clock_by most h below.1) below.0

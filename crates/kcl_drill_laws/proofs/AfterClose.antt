@@ -1,4 +1,5 @@
--- A drill's history, and turns on leases after it.
+-- Further lawful turns on leases after the history of a drill, at a moment that isn't later than its clock, leave it
+-- the history of this drill.
 use Rattle.std.proofs.Common.{◌≡◌, ℕ, ◌≤◌, max, false, List, [], ◌∷◌, ◌++◌, refl, ap, ◌∙◌, arith}
 use Rattle.std.specs.Prelude.{cond, nat_lt}
 use Rattle.kds_defs.specs.declared.command.Turn.{Turn}
@@ -10,6 +11,7 @@ use Rattle.kcl_drill.specs.Fed.{IsDrill, commands_in}
 use Rattle.kcl_drill_summary.specs.Counting.{AreAbove}
 use Rattle.kcl_drill_laws.specs.Closed.{AreLeased}
 
+-- Turns that aren't later than the clock of the history don't change the clock.
 pub clock_same : (by at : ℕ) (more h : List Turn) → at ≤ clock h → AreLeased by at more → clock (more ++ h) ≡ clock h
 clock_same by at [] h below are = refl
 clock_same by at (t ∷ more) h below are =
@@ -18,16 +20,19 @@ clock_same by at (t ∷ more) h below are =
     both : (n m k : ℕ) → n ≡ m → k ≡ at → at ≤ m → max n k ≡ m
     both n m k e is le = omega arith
 
+-- Turns on leases add no turn for the stream service.
 services_same : (by at : ℕ) (more h : List Turn) → AreLeased by at more → service_turns (more ++ h) ≡ service_turns h
 services_same by at [] h are = refl
 services_same by at (t ∷ more) h are =
     ap (λ b. cond b (t ∷ service_turns (more ++ h)) (service_turns (more ++ h))) are.0.2
     ∙ services_same by at more h are.1
 
+-- A history with lawful turns added is lawful.
 history_more : (by at : ℕ) (more h : List Turn) → AreLeased by at more → IsHistory h → IsHistory (more ++ h)
 history_more by at [] h are is = is
 history_more by at (t ∷ more) h are is = (are.0.3, history_more by at more h are.1 is)
 
+-- After the history of a drill and further such turns on leases, the history is still that of the drill (`IsDrill`).
 pub still_drill : (number records by at : ℕ) (more h : List Turn) → IsDrill h number records → at ≤ clock h
     → AreLeased by at more
     → IsDrill (more ++ h) number records
@@ -38,7 +43,7 @@ still_drill number records by at more h is below are =
       asks = ap commands_in (services_same by at more h are) ∙ is.asks;
     }
 
--- If the floor is 0, no record is below it.
+-- If the trim floor is 0, each record arrived at or above it.
 pub none_below : (floor : ℕ) (rs : List Logged) → floor ≡ 0 → AreAbove floor rs
 none_below floor [] e = tt
 none_below floor (r ∷ rs) e = (above r.arrival floor e, none_below floor rs e)

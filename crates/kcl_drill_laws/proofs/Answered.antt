@@ -1,4 +1,4 @@
--- How commands of a tenure that is held alone are answered.
+-- The answers to the commands of a tenure, if the row of its key names it and it has come as far as `x` says (`Holds`).
 use Rattle.std.proofs.Common.{◌≡◌, ℕ, ◌+◌, ◌-◌, ◌<◌, true, false, List, [], ◌∷◌, length, suc, Some, refl, sym, ap, ◌∙◌}
 use Rattle.std.proofs.Common.{arith}
 use Rattle.std.specs.Prelude.{◌==◌, ◌||◌, not, nat_le, nat_lt}
@@ -26,7 +26,7 @@ use Rattle.kcl_drill_laws.specs.Holding.{ArePast, HasCome, HasRow, Holding, Hold
 use Rattle.kcl_drill_laws.specs.Holding.{marked_line, opened_line, read_here, taken_line}
 use Rattle.kcl_drill_laws.proofs.Come.{begun_row, begun_tenure, given_place}
 
--- ---- Tests
+-- ---- Tests in the decisions
 
 same_not : (a b : ℕ) → a ≡ b → not (a == b) ≡ false
 same_not a b is = grind (arith, nat_tests)
@@ -37,11 +37,13 @@ few_wait n below = grind (arith, nat_tests)
 some_wait : (n m : ℕ) → n ≡ suc m → (n == 0) ≡ false
 some_wait n m is = grind (arith, nat_tests)
 
+-- The tenure has as many pending reads as `x` has reads that wait to be given.
 waiting_is : (log : Journal) (x : Holding) → (has : HasCome log x) → pending has.state ≡ length x.waiting
 waiting_is log x has = sym (length-drop has.state.given has.state.reads) ∙ ap length has.waits
 
--- ---- What follows for a tenure of the actor's own, and if the row is its own too
+-- ---- The tests whether the tenure is the actor's, and whether the row names it
 
+-- If the tenure is the actor's, the decision on its command is `next` for this tenure.
 own_tenure : (log : Journal) (x : Holding) (next : TenureState → Decision) → (has : HasCome log x)
     → with_tenure log x.by x.tenure next ≡ next has.state
 own_tenure log x next has = with_some (tenure log x.tenure) refusal.NoTenure _ has.state has.begun
@@ -51,6 +53,7 @@ row_of : (log : Journal) (x : Holding) → (held : HasRow log x) (T : TenureStat
     → row log T.key ≡ Some held.now
 row_of log x held T is = ap (row log) is ∙ held.there
 
+-- If the tenure is the actor's and the row names it, the decision on its command is `next` for this tenure.
 own_held : (log : Journal) (x : Holding) (next : TenureState → Decision) → (has : HasCome log x) → HasRow log x
     → with_held log x.by x.tenure next ≡ next has.state
 own_held log x next has held =
@@ -59,8 +62,10 @@ own_held log x next has held =
     (same_not (tenure_in (row log has.state.key)) x.tenure (ap tenure_in (row_of log x held has.state has.of_key)
     ∙ held.of_tenure))
 
--- ---- A read, a give, a mark
+-- ---- A Read, a Give and a Mark
 
+-- If the shard is listed, and fewer reads wait to be given than may, a Read at the tenure's position is accepted with
+-- the batch there (`read_here`).
 pub read_answered : (log : Journal) (c limit : ℕ) (x : Holding) → Holds log x → length x.waiting < PENDING_READS
     → is_listed_key log c x.key ≡ true → read log c x.by x.tenure x.place limit ≡ read_here log c x limit
 read_answered log c limit x holds few listed =
@@ -78,6 +83,7 @@ read_answered log c limit x holds few listed =
     ∙ ap (λ k. read_reply log c x.by x.tenure limit k (batch log c k.stream k.shard x.place limit)
     (place_after x.place (numbers_of (batch log c k.stream k.shard x.place limit)))) has.of_key
 
+-- The Give of the first read that waits to be given is accepted, and returns the position after this read.
 pub give_answered : (log : Journal) (c : ℕ) (x : Holding) (r : ReadDone) (rest : List ReadDone) → Holds log x
     → x.waiting ≡ r ∷ rest
     → give log c x.by x.tenure ≡ Accepted (given_line c x ∷ []) (reply.Given (place_after x.done r.numbers))
@@ -89,6 +95,7 @@ give_answered log c x r rest holds first =
     ∙ ap (λ p. Accepted (given_line c x ∷ []) (reply.Given p)) (given_place has.state r rest (has.waits ∙ first)
     ∙ ap (λ p. place_after p r.numbers) has.given_to)
 
+-- If the tenure may mark its row at the target `to`, and the row's counter isn't the last number, the Mark is accepted.
 pub mark_answered : (log : Journal) (c : ℕ) (x : Holding) (to : Target) → Holds log x → MayMark x to
     → (x.counter == last_number) ≡ false
     → mark log c x.by x.tenure x.counter to ≡ Accepted (marked_line c x to ∷ []) (reply.Counter (x.counter + 1))
@@ -120,8 +127,9 @@ mark_answered log c x target.End holds may rest =
     ∙ passed_if refusal.NotAtEnd (not (last_ended (given_reads T))) _ (ap not (has.last ∙ may))
     ∙ passed_if refusal.Spent (counter_in (row log T.key) == last_number) _ (ap (λ m. m == last_number) n ∙ rest)
 
--- ---- A take, and the opening after it
+-- ---- A Take, and the OpenShard after it
 
+-- If the row can be taken (`MayTake`), its Take is accepted, and begins the next tenure at the row's checkpoint.
 pub take_answered : (log : Journal) (c by owner : ℕ) (key : ShardRef) (r : Row) → row log key ≡ Some r → MayTake log r
     → take_lease log c by key r.counter owner
     ≡ Accepted (taken_line log c by key r owner ∷ [])
@@ -133,6 +141,8 @@ take_answered log c by owner key r there may =
     ∙ passed_if refusal.Spent (r.counter == last_number || taken_count log == last_number) _
     (or_from (r.counter == last_number) (taken_count log == last_number) may.1 may.2)
 
+-- Right after the take, OpenShard is accepted, if the shard is listed and its parents stand in the way of no opening
+-- (`ArePast`).
 pub open_answered : (log : Journal) (c d by owner : ℕ) (key : ShardRef) (r : Row) → row log key ≡ Some r
     → is_listed_key (taken_line log d by key r owner ∷ log) c key ≡ true
     → ArePast (taken_line log d by key r owner ∷ log) c key

@@ -1,4 +1,4 @@
--- How far a tenure has come after each of its lines.
+-- How far a tenure has come (`Holds`) after each line of its own: a take and an opening, a read, a give or a mark.
 use Rattle.std.proofs.Common.{◌≡◌, ℕ, ◌+◌, ◌≤◌, List, [], ◌∷◌, ◌++◌, drop, length, take, zero, suc, Option, Some, refl}
 use Rattle.std.proofs.Common.{ap, ◌∙◌, arith}
 use Rattle.std.specs.Prelude.{◌==◌, if◌then◌else◌}
@@ -24,12 +24,13 @@ places_append : (p : ℕ) (rs : List ReadDone) (r : ReadDone)
 places_append p [] r = refl
 places_append p (q ∷ rs) r = places_append (place_after p q.numbers) rs r
 
+-- The last read of a list says whether the list ended the shard.
 last_one : (rs : List ReadDone) (r : ReadDone) → last_ended (rs ++ r ∷ []) ≡ r.ended
 last_one [] r = refl
 last_one (q ∷ []) r = refl
 last_one (q ∷ s ∷ rs) r = last_one (s ∷ rs) r
 
--- The first n + 1 reads are the first n and the first one after these.
+-- If `r` is the first read after the first `n`, the first `n` + 1 reads are the first `n` and `r`.
 take_more : (n : ℕ) (rs : List ReadDone) (r : ReadDone) (rest : List ReadDone) → drop n rs ≡ r ∷ rest
     → take (suc n) rs ≡ take n rs ++ r ∷ []
 take_more zero [] r rest is = absurd cc
@@ -37,6 +38,8 @@ take_more zero (q ∷ rs) r rest is = let e : q ≡ r = cc in ap (λ x. x ∷ []
 take_more (suc n) [] r rest is = absurd cc
 take_more (suc n) (q ∷ rs) r rest is = ap (λ qs. q ∷ qs) (take_more n rs r rest is)
 
+-- If `r` is the first read after the first `n`, and `rest` are the others, then `rest` are those after the first `n` +
+-- 1.
 drop_more : (n : ℕ) (rs : List ReadDone) (r : ReadDone) (rest : List ReadDone) → drop n rs ≡ r ∷ rest
     → drop (suc n) rs ≡ rest
 drop_more zero [] r rest is = absurd cc
@@ -44,6 +47,7 @@ drop_more zero (q ∷ rs) r rest is = let e : rs ≡ rest = cc in e
 drop_more (suc n) [] r rest is = absurd cc
 drop_more (suc n) (q ∷ rs) r rest is = drop_more n rs r rest is
 
+-- If there is a read after the first `n`, there are at least `n` + 1 reads.
 some_more : (n : ℕ) (rs : List ReadDone) (r : ReadDone) (rest : List ReadDone) → drop n rs ≡ r ∷ rest
     → suc n ≤ length rs
 some_more zero [] r rest is = absurd cc
@@ -51,8 +55,9 @@ some_more zero (q ∷ rs) r rest is = omega arith
 some_more (suc n) [] r rest is = absurd cc
 some_more (suc n) (q ∷ rs) r rest is = let e = some_more n rs r rest is in omega arith
 
--- ---- The given reads after one more is given
+-- ---- The given reads after a give
 
+-- If `r` is the first read that isn't given, then after a give the given reads are those before and `r`.
 pub one_more_given : (T : TenureState) (r : ReadDone) (rest : List ReadDone) → drop T.given T.reads ≡ r ∷ rest
     → given_reads (with_given T) ≡ given_reads T ++ r ∷ []
 one_more_given T r rest is =
@@ -66,6 +71,7 @@ given_place T r rest is = ap (place_after_reads (place_of T.start)) (one_more_gi
 
 -- ---- A take and an opening
 
+-- After the line of a take, the new tenure is the actor's and of the key, and begins at the row's checkpoint.
 pub begun_tenure : (log : Journal) (c by owner : ℕ) (key : ShardRef) (r : Row) → row log key ≡ Some r
     → tenure (taken_line log c by key r owner ∷ log) (taken_count log + 1) ≡ Some (new_tenure by key r.checkpoint)
 begun_tenure log c by owner key r there =
@@ -73,6 +79,7 @@ begun_tenure log c by owner key r there =
     (is_itself (taken_count log + 1))
     ∙ ap (λ k. Some (new_tenure by key k)) (ap checkpoint_in there)
 
+-- After the line of a take, the row is the taken one, and names the new tenure.
 pub begun_row : (log : Journal) (c by owner : ℕ) (key : ShardRef) (r : Row) → row log key ≡ Some r
     → row (taken_line log c by key r owner ∷ log) key ≡ Some (taken_row (taken_count log + 1) owner r)
 begun_row log c by owner key r there =
@@ -84,6 +91,7 @@ told : (t : ℕ) (o : Option TenureState) (T : TenureState) (f : TenureState →
     → (if t == t then option_map f o else o) ≡ Some (f T)
 told t o T f is = ap (λ b. if b then option_map f o else o) (is_itself t) ∙ ap (option_map f) is
 
+-- After the lines of a take and of the opening of the shard, the new tenure and its row are as `begun_from` says.
 pub begun_holds : (log : Journal) (c d by owner : ℕ) (key : ShardRef) (r : Row) → row log key ≡ Some r
     → Holds (opened_line log d by ∷ taken_line log c by key r owner ∷ log) (begun_from log by key r)
 begun_holds log c d by owner key r there =
@@ -114,8 +122,9 @@ begun_holds log c d by owner key r there =
       };
     }
 
--- ---- A read, a give, a mark
+-- ---- A read, a give and a mark
 
+-- After the line of the read `r`, the tenure is as `after_read` says.
 pub read_holds : (log : Journal) (c limit : ℕ) (x : Holding) (r : ReadDone) → Holds log x
     → Holds (read_line c x limit r ∷ log) (after_read x r)
 read_holds log c limit x r holds =
@@ -147,6 +156,7 @@ read_holds log c limit x r holds =
       };
     }
 
+-- After the line of the give of `r`, the first read that waits, the tenure is as `after_give` says.
 pub give_holds : (log : Journal) (c : ℕ) (x : Holding) (r : ReadDone) (rest : List ReadDone) → Holds log x
     → x.waiting ≡ r ∷ rest → Holds (given_line c x ∷ log) (after_give x r rest)
 give_holds log c x r rest holds first =
@@ -179,6 +189,7 @@ give_holds log c x r rest holds first =
       };
     }
 
+-- After the line of a mark at the target `to`, the tenure and its row are as `after_mark` says.
 pub mark_holds : (log : Journal) (c : ℕ) (x : Holding) (to : Target) → Holds log x
     → Holds (marked_line c x to ∷ log) (after_mark x to)
 mark_holds log c x to holds =

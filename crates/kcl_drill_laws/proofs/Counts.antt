@@ -1,4 +1,5 @@
--- Each turn adds at most one line of a lease, and each such line raises a row's counter by at most one.
+-- Each turn adds at most one line about a lease, and such a line raises a row's counter, or the number of tenures, by
+-- at most one. So neither is above the number of turns (`AreCounted`).
 use Rattle.std.proofs.Common.{◌≡◌, ℕ, ◌+◌, ◌≤◌, Bool, true, false, List, [], ◌∷◌, length, Option, Some, None, refl}
 use Rattle.std.proofs.Common.{arith}
 use Rattle.std.specs.Prelude.{Result, if◌then◌else◌}
@@ -24,21 +25,23 @@ use Rattle.kds_defs.proofs.Walk.{Outcome, Refuses, Answers, Adds, Stores, Scales
 use Rattle.kcl_drill.specs.Apart.{is_stream_entry}
 use Rattle.kcl_drill_laws.specs.Parents.{AreCounted}
 
--- The number is 1 for a line of a lease, and 0 for any other line.
+-- The number 1 for an entry about a lease, and 0 for an entry about a stream.
 abbrev weight : Entry → ℕ
 weight e = if is_stream_entry e then 0 else 1
 
+-- The number of lines about leases.
 abbrev leases : List Line → ℕ
 leases [] = 0
 leases (line ∷ ls) = weight line.what + leases ls
 
+-- If lines are added to a journal, it has as many lines about leases as they and it have together.
 leases_with : (ls : List Line) (log : Journal) → leases (with_lines ls log) ≡ leases ls + leases log
 leases_with [] log = omega arith
 leases_with (line ∷ ls) log = let n = leases_with ls (line ∷ log) in omega arith
 
 -- ---- The lines of a decision
 
--- If no line is of a lease, the bound of one such line holds.
+-- If none of the lines is about a lease, at most one of them is.
 none_of : (ls : List Line) → AllByRecursion (λ line. weight line.what ≡ 0) ls → leases ls ≤ 1
 none_of ls none = let n = none_in ls none in omega arith
   where
@@ -50,6 +53,7 @@ one : (e : Entry) → weight e + 0 ≤ 1
 one (entry.Made stream name shards) = omega arith
 one _ = omega arith
 
+-- Each command adds at most one line about a lease.
 few : (log : Journal) (c by : ℕ) (what : Command) (lines : List Line) (answer : Result Reply Refusal)
     → Outcome log c by what lines answer → leases lines ≤ 1
 few log c by _ _ _ (Refuses what r may) = omega arith
@@ -64,6 +68,7 @@ few log c by _ _ _ (Scales name goal s named room fits) =
 decided_few : (log : Journal) (c by : ℕ) (what : Command) → leases (lines_of (decide log c by what)) ≤ 1
 decided_few log c by what = few log c by what _ _ (walk log c by what)
 
+-- A history leaves at most as many lines about leases as it has turns.
 turns_few : (h : List Turn) → leases (journal h) ≤ length h
 turns_few [] = omega arith
 turns_few (turn ∷ h) =
@@ -80,6 +85,7 @@ raised f true None n keeps le = omega arith
 raised f true (Some x) n keeps le = omega (arith, keeps x, le)
 raised f false o n keeps le = omega arith
 
+-- A line raises the counter of a row by at most 1 if it is about a lease, and not at all if it isn't.
 counter_by : (log : Journal) (line : Line) (e : Entry) (key : ShardRef) (o : Option Row) (n : ℕ) → counter_in o ≤ n
     → counter_in (row_after log line e key o) ≤ weight e + n
 counter_by log line (entry.LeaseMade k from) key o n le =
@@ -97,18 +103,22 @@ counter_by log line (entry.Marked tenure counter to) key o n le =
     raised (marked_row to) (is_key (key_of log tenure) key) o n (λ x. refl) le
 counter_by log line _ key o n le = omega arith
 
+-- The counter of a row is at most the number of lines about leases.
 counter_few : (log : Journal) (key : ShardRef) → counter_in (row log key) ≤ leases log
 counter_few [] key = omega arith
 counter_few (line ∷ log) key = counter_by log line line.what key (row log key) (leases log) (counter_few log key)
 
+-- An entry raises the number of tenures by at most 1 if it is about a lease, and not at all if it isn't.
 taken_by : (e : Entry) (n m : ℕ) → n ≤ m → taken_count_after e n ≤ weight e + m
 taken_by (entry.Taken key tenure counter owner) n m le = omega arith
 taken_by _ n m le = omega arith
 
+-- The number of tenures is at most the number of lines about leases.
 taken_few : (log : Journal) → taken_count log ≤ leases log
 taken_few [] = omega arith
 taken_few (line ∷ log) = taken_by line.what (taken_count log) (leases log) (taken_few log)
 
+-- After each history, the counter of each row and the number of tenures are at most the number of turns.
 pub all_counted : (h : List Turn) → AreCounted h
 all_counted h = record {
   counters = λ key. omega (arith, counter_few (journal h) key, turns_few h);

@@ -1,4 +1,5 @@
--- The closed history of a drill.
+-- What is true of the history of a drill whose threads have ended: it is short, its clock is low, and its commands for
+-- the stream service are those of the generator.
 use Rattle.std.proofs.Common.{◌≡◌, ℕ, zero, suc, ◌+◌, ◌*◌, ◌<◌, ◌≤◌, false, List, [], ◌∷◌, ◌++◌, length, map, Option}
 use Rattle.std.proofs.Common.{Some, None, refl, sym, ap}
 use Rattle.std.proofs.Common.{subst, ◌∙◌, arith, append_assoc, le_refl, length-append, length-take, take_all}
@@ -29,22 +30,26 @@ use Rattle.kcl_drill_laws.specs.Closed.{AreDrillTurns, IsClosed, IsDrillCommand,
 use Rattle.kcl_drill_laws.specs.Closed.{all_accounts}
 use Rattle.kcl_drill_laws.proofs.Accounts.{all_turns, clock_by, count_of, few_turns}
 
--- ---- The turns of commands
+-- ---- The commands of turns
 
+-- The commands as turns of one actor have these commands.
 commands_of : (by : ℕ) (cs : List Command) → commands_in (map (turn_of by) cs) ≡ cs
 commands_of by [] = refl
 commands_of by (c ∷ cs) = ap (λ xs. c ∷ xs) (commands_of by cs)
 
+-- If `P` is true of each command as a turn, it is true of each of the turns.
 all_asked : (P : Turn → Type 0) (by : ℕ) (cs : List Command) → AllByRecursion (λ what. P (turn_of by what)) cs
     → AllByRecursion P (map (turn_of by) cs)
 all_asked P by [] are = tt
 all_asked P by (c ∷ cs) are = (are.0, all_asked P by cs are.1)
 
+-- If `P` is true of each element of a list and of `x`, it is true of each element of the list with `x` at its end.
 all_last : (P : Command → Type 0) (xs : List Command) (x : Command) → AllByRecursion P xs → P x
     → AllByRecursion P (xs ++ x ∷ [])
 all_last P [] x are is = (is, tt)
 all_last P (y ∷ xs) x are is = (are.0, all_last P xs x are.1 is)
 
+-- If `P` is true of each element of a list, it is true of each element of the reversed list.
 all_reverse : (P : Command → Type 0) (xs : List Command) → AllByRecursion P xs → AllByRecursion P (reverse xs)
 all_reverse P [] are = tt
 all_reverse P (x ∷ xs) are =
@@ -55,12 +60,14 @@ always : (P : Command → Type 0) (xs : List Command) → ((what : Command) → 
 always P [] is = tt
 always P (x ∷ xs) is = (is x, always P xs is)
 
+-- If the commands `more` are ones that a drill may give, they still are with the command of a plan in front.
 plan_is : (o : Option Plan) (more : List Command) → AllByRecursion IsDrillCommand more
     → AllByRecursion IsDrillCommand (with_plan o more)
 plan_is None more are = are
 plan_is (Some (Split x)) more are = (tt, are)
 plan_is (Some (Merge x y)) more are = (tt, are)
 
+-- The commands of a generator after CreateStream are ones that a drill may give (`IsDrillCommand`).
 records_are : (i left x : ℕ) (opens : Opens) → AllByRecursion IsDrillCommand (from_record i left x opens)
 records_are i zero x opens = tt
 records_are i (suc left) x opens = (
@@ -69,14 +76,18 @@ records_are i (suc left) x opens = (
       (records_are (i + 1) left (draw x) (opens_then opens (plan (i + 1) (draw x) opens))),
 )
 
--- ---- The turns of members
+-- ---- The turns of the members
 
+-- If turns are on leases at their moments and are at most `n`, then what is true of each turn on leases up to `n` ticks
+-- is true of each of them.
 at_most : (P : Turn → Type 0) (n : ℕ) (turns : List Turn) → length turns ≤ n → AreOnLeasesAt 50 turns
     → ((t : Turn) → t.at ≤ n * 50 → is_service t.what ≡ false → P t) → AllByRecursion P turns
 at_most P n [] few on is = tt
 at_most P n (t ∷ turns) few on is =
     (is t (omega (arith, few, on.0.0)) on.0.1, at_most P n turns (omega arith) on.1 is)
 
+-- What is true of each turn on leases up to the moment of the last turn that a member may make is true of each turn of
+-- each member.
 member_turns : (P : Turn → Type 0) (records : ℕ) (members : List Account) → records ≤ 1000000
     → AllByRecursion (IsMemberAccount records) members
     → ((t : Turn) → t.at ≤ 30600 * 50 → is_service t.what ≡ false → P t)
@@ -87,6 +98,7 @@ member_turns P records (a ∷ rest) limit ran is = (
   member_turns P records rest limit ran.1 is,
 )
 
+-- The members together have at most 30,600 turns for each of them.
 members_count : (records : ℕ) (members : List Account) → records ≤ 1000000 → AllByRecursion (IsFew records) members
     → count_of members ≤ length members * 30600
 members_count records [] limit ran = omega arith
@@ -94,6 +106,7 @@ members_count records (a ∷ rest) limit ran =
     let more = members_count records rest limit ran.1 in
     omega (arith, ran.0, limit, more)
 
+-- The accounts of members whose runs have ended have few enough turns (`IsFew`).
 are_few : (records : ℕ) (members : List Account) → AllByRecursion (IsMemberAccount records) members
     → AllByRecursion (IsFew records) members
 are_few records [] ran = tt
@@ -101,10 +114,12 @@ are_few records (a ∷ rest) ran = (ran.0.most, are_few records rest ran.1)
 
 -- ---- The number of commands
 
+-- The command of a plan makes a list of commands at most one longer.
 with_one : (o : Option Plan) (more : List Command) → length (with_plan o more) ≤ length more + 1
 with_one None more = omega arith
 with_one (Some p) more = omega arith
 
+-- A generator gives at most two commands for each record after CreateStream.
 pub few_commands : (i left x : ℕ) (opens : Opens) → length (from_record i left x opens) ≤ 2 * left
 few_commands i zero x opens = omega arith
 few_commands i (suc left) x opens =
@@ -116,13 +131,13 @@ few_commands i (suc left) x opens =
 length_asked : (by : ℕ) (cs : List Command) → length (turns_of by cs) ≡ length cs
 length_asked by cs = length-map (reverse cs) (turn_of by) ∙ length-reverse cs
 
--- The commands that were begun are no more than all.
+-- If the turns are those of the first `n` commands, they are at most as many as the commands.
 few_begun : (by n : ℕ) (cs : List Command) (own : List Turn) → own ≡ turns_of by (take n cs) → length own ≤ length cs
 few_begun by n cs own e =
     let asked : length own ≡ length (take n cs) = ap length e ∙ length_asked by (take n cs) in
     omega (arith, asked, length-take n cs)
 
--- ---- A history that was stopped
+-- ---- A drill whose threads may have ended early
 
 begun : (cs : List Command) (p : Standing) → HasAsked cs p → HasBegun cs p
 begun cs p asked = (
@@ -151,8 +166,9 @@ is_short_stopped number records root feeder members h is =
     let few = few_commands 0 records number first_open in
     omega (arith, all, first, others, ran, few, is.few, is.limit)
 
--- ---- The closed history
+-- ---- A drill whose threads ended without an error
 
+-- If an actor has no turn in a history, it has none in what the history goes on from.
 none_before : (n : ℕ) (front seen : List Turn) → turns_by n (front ++ seen) ≡ [] → turns_by n seen ≡ []
 none_before n front seen none =
     let total : length (turns_by n front ++ turns_by n seen) ≡ 0 =
@@ -161,12 +177,15 @@ none_before n front seen none =
 
 module _ (number records : ℕ) (root feeder : Standing) (members : List Account) (h : List Turn)
     (is : IsClosed number records root feeder members h) where
+  -- The command of the root, which makes the stream.
   abbrev create : Command
   create = command.Create drill_name FIRST_SHARDS
 
+  -- The commands of the feeder.
   abbrev rest : List Command
   rest = from_record 0 records number first_open
 
+  -- The feeder made no turn before the root's.
   none_older : (own : List Turn) → feeder.own ≡ own → turns_by feeder.by is.fed.after.older ≡ []
   none_older [] e =
       let front = is.seen.0 ++ (is.fed.after.newer ++ root.own) in
@@ -177,6 +196,7 @@ module _ (number records : ℕ) (root feeder : Standing) (members : List Account
       none_before feeder.by front is.fed.after.older (ap (turns_by feeder.by) (sym whole) ∙ is.own.1.0 ∙ e)
   none_older (t ∷ own) e = is.fed.after.none (omega (arith, ap length e))
 
+  -- If the turn is by neither the root nor the feeder, it is on leases.
   abbrev IsOther : Turn → Type 0
   IsOther turn = (turn.by == root.by) ≡ false → (turn.by == feeder.by) ≡ false → is_service turn.what ≡ false
 
@@ -186,6 +206,8 @@ module _ (number records : ℕ) (root feeder : Standing) (members : List Account
   not_feeder : (what : Command) → IsOther (turn_of feeder.by what)
   not_feeder what a b = let t = sym b ∙ is_itself feeder.by in absurd cc
 
+  -- Each turn of the history is the root's turn, a command of the feeder as its turn, or a turn of a member. If `P` is
+  -- true of all these, it is true of each turn.
   each_turn : (P : Turn → Type 0) → P (turn_of root.by create)
       → AllByRecursion (λ what. P (turn_of feeder.by what)) rest
       → AllByRecursion (λ a. AllByRecursion P a.turns) members → AllByRecursion P h
@@ -197,8 +219,11 @@ module _ (number records : ℕ) (root feeder : Standing) (members : List Account
 
   leased : (P : Turn → Type 0) → ((t : Turn) → t.at ≤ 30600 * 50 → is_service t.what ≡ false → P t)
       → AllByRecursion (λ a. AllByRecursion P a.turns) members
+  -- What is true of each turn on leases up to the moment of the last turn that a member may make is true of each turn
+  -- of each member.
   leased P of = member_turns P records members is.limit is.ran of
 
+  -- The root made the first command and the feeder the others, in order and after it (`IsFed`).
   pub is_fed : IsFed number records root.by feeder.by h
   is_fed =
       record {
@@ -219,6 +244,7 @@ module _ (number records : ℕ) (root feeder : Standing) (members : List Account
             (leased IsOther (λ t below service a b. service));
       }
 
+  -- The history has fewer than 2^32 turns.
   pub is_short : length h < 2 ^ 32
   is_short = is_short_stopped number records root feeder members h (record {
     limit = is.limit;
@@ -229,6 +255,7 @@ module _ (number records : ℕ) (root feeder : Standing) (members : List Account
     own = is.own;
   })
 
+  -- The clock of the history is below 24 hours, so nothing is trimmed.
   pub is_below : clock h < LEAST_RETENTION
   is_below =
       let most = clock_by 1530000 h
@@ -236,11 +263,13 @@ module _ (number records : ℕ) (root feeder : Standing) (members : List Account
       (leased (λ t. t.at ≤ 1530000) (λ t below service. below))) in
       omega arith
 
+  -- The turns of the members are ones that a drill may make.
   horizons : (xs : List Account) → AllByRecursion (IsMemberAccount records) xs
       → AllByRecursion (λ a. AreDrillTurns a.turns) xs
   horizons [] ran = tt
   horizons (a ∷ xs) ran = (ran.0.horizon, horizons xs ran.1)
 
+  -- All turns of the history are ones that a drill may make (`AreDrillTurns`).
   pub are_drill_turns : AreDrillTurns h
   are_drill_turns = each_turn (λ t. IsDrillCommand t.what) tt (records_are 0 records number first_open)
       (horizons members is.ran)

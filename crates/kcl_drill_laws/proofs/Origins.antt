@@ -1,4 +1,4 @@
--- The origin of the rows that the commands of a drill make is the trim horizon.
+-- Each row in the journal of a drill was made with the origin TRIM_HORIZON.
 use Rattle.std.proofs.Common.{◌≡◌, ◌⊎◌, inl, inr, ℕ, Bool, true, false, List, [], ◌∷◌, Option, Some, None, refl, ap}
 use Rattle.std.specs.Prelude.{if◌then◌else◌}
 use Rattle.std.specs.List.{AllByRecursion}
@@ -21,35 +21,40 @@ use Rattle.kds_defs.proofs.Walk.{IsAdded, Alone, each_journal}
 use Rattle.kcl_laws.specs.RowLines.{IsToldRow, Making, last_bound, making}
 use Rattle.kcl_drill_laws.specs.Closed.{AreDrillTurns, AreFromHorizon, IsDrillCommand}
 
--- The origin of a row that the line makes is the trim horizon.
+-- If the entry makes a row, the row has the origin TRIM_HORIZON.
 abbrev IsSoMade : Entry → Type 0
 IsSoMade (entry.LeaseMade key from) = from ≡ origin.TrimHorizon
 IsSoMade _ = Unit {0}
 
+-- Each of the lines that makes a row gives it the origin TRIM_HORIZON.
 abbrev AreSoMade : List Line → Type 0
 AreSoMade ls = AllByRecursion (λ line. IsSoMade line.what) ls
 
--- ---- What a command adds
+-- ---- The lines that a command adds
 
+-- If a row is asked to begin at TRIM_HORIZON, it does.
 pub counts_so : (log : Journal) (key : ShardRef) (from : Origin) → from ≡ origin.TrimHorizon
     → counting_origin log key from ≡ origin.TrimHorizon
 counts_so log key from is =
     cond_both (follows_parent log key) origin.TrimHorizon from (λ o. o ≡ origin.TrimHorizon) (λ follows. refl)
     (λ new. is)
 
+-- A line that a command of a drill adds gives a row that it makes the origin TRIM_HORIZON.
 command_adds : (log : Journal) (c by : ℕ) (what : Command) (line : Line) → IsAdded log c by what line
     → IsDrillCommand what → IsSoMade line.what
 command_adds log c by _ _ (Alone _ _ _ (walks.Makes key from)) is = counts_so log key from is
 command_adds log c by _ _ _ is = tt
 
--- ---- The journal
+-- ---- All lines of the journal
 
+-- Each line that the history of a drill leaves gives a row that it makes the origin TRIM_HORIZON.
 journal_so : (h : List Turn) → AreDrillTurns h → AreSoMade (journal h)
 journal_so h are =
     each_journal (λ line. IsSoMade line.what) (λ turn. IsDrillCommand turn.what)
     (λ log c turn is line added. command_adds log c turn.by turn.what line added is)
     h are
 
+-- The origin is None or TRIM_HORIZON.
 IsNoneOrSo : Option Origin → Type 0
 IsNoneOrSo o = (o ≡ None) ⊎ (o ≡ Some origin.TrimHorizon)
 
@@ -64,18 +69,24 @@ after_so (entry.LeaseMade k from) key o is before = either_so (same_key k key) (
 after_so (entry.LeaseCut k counter) key o is before = either_so (same_key k key) None o (inl refl) before
 after_so _ key o is before = before
 
+-- If each line that makes a row gives it the origin TRIM_HORIZON, then the origin of each key's row is this one, or
+-- None.
 origin_so : (log : Journal) (key : ShardRef) → AreSoMade log → IsNoneOrSo (origin_of log key)
 unfolding IsNoneOrSo
 origin_so [] key are = inl refl
 origin_so (line ∷ log) key are = after_so line.what key (origin_of log key) are.0 (origin_so log key are.1)
 
--- What the law `rows` says.
+-- The first of two laws that the lemmas take as given: a key for which no row was made, or whose row was removed, has
+-- no row.
 abbrev pub Removes : Type 0
 Removes = (log : Journal) (key : ShardRef) → making (last_bound log key) ≡ None → row log key ≡ None
 
+-- The second of these laws: a row that was made is as the lines about it determine (`IsToldRow`).
 abbrev pub Makes : Type 0
 Makes = (log : Journal) (key : ShardRef) (m : Making) → making (last_bound log key) ≡ Some m → IsToldRow log key m
 
+-- If a key has the row `r`, this row was made, so its origin isn't None. So it is TRIM_HORIZON. `m` is how the row was
+-- made, if it was.
 by_making : (log : Journal) (key : ShardRef) (r : Row) → Removes → Makes → IsNoneOrSo (origin_of log key)
     → row log key ≡ Some r → (m : Option Making)
     → making (last_bound log key) ≡ m → origin_of log key ≡ Some origin.TrimHorizon
@@ -84,6 +95,7 @@ by_making log key r removes makes (inr is) there m e = is
 by_making log key r removes makes (inl none) there None e = let gone = removes log key e in absurd cc
 by_making log key r removes makes (inl none) there (Some m) e = let told = (makes log key m e).origin in absurd cc
 
+-- After the history of a drill, each row was made with the origin TRIM_HORIZON (`AreFromHorizon`).
 pub from_horizon : Removes → Makes → (h : List Turn) → AreDrillTurns h → AreFromHorizon (journal h)
 from_horizon removes makes h are key r there =
     by_making (journal h) key r removes makes (origin_so (journal h) key (journal_so h are)) there

@@ -1,4 +1,4 @@
--- The parents of a shard were closed when it was made.
+-- In a legal journal, the parents of each shard are closed shards with smaller numbers (`AreParentsClosed`).
 use Rattle.std.proofs.Common.{◌≡◌, ℕ, zero, suc, ◌+◌, ◌<◌, Bool, true, false, List, [], ◌∷◌, ◌++◌, length, Option, Some}
 use Rattle.std.proofs.Common.{None, refl, subst, arith}
 use Rattle.std.specs.Prelude.{◌==◌, slice_get, if◌then◌else◌}
@@ -21,8 +21,9 @@ use Rattle.kds_defs.proofs.Decisions.{passes, holds_so}
 use Rattle.kds_defs.proofs.Numbers.{length-closed}
 use Rattle.kcl_drill_laws.specs.Parents.{AreParentsClosed, IsParentClosed}
 
--- ---- Closed shards stay closed
+-- ---- A closed shard stays closed
 
+-- A shard that is closed stays closed if another one is closed.
 closed_stays : (n p : ℕ) (closing : Closing) (xs : List ShardState) → is_closed_at (slice_get xs p) ≡ true
     → is_closed_at (slice_get (with_closed n closing xs) p) ≡ true
 closed_stays n p closing [] is = is
@@ -31,25 +32,27 @@ closed_stays zero (suc p) closing (x ∷ xs) is = is
 closed_stays (suc n) zero closing (x ∷ xs) is = is
 closed_stays (suc n) (suc p) closing (x ∷ xs) is = closed_stays n p closing xs is
 
+-- A shard that is closed stays closed if shards are added at the end.
 closed_more : (xs ys : List ShardState) (p : ℕ) → is_closed_at (slice_get xs p) ≡ true
     → is_closed_at (slice_get (xs ++ ys) p) ≡ true
 closed_more [] ys p is = absurd cc
 closed_more (x ∷ xs) ys zero is = is
 closed_more (x ∷ xs) ys (suc p) is = closed_more xs ys p is
 
--- A shard in the list is closed once it has a closing.
+-- A shard of the list is closed after it was given a closing.
 closed_now : (n : ℕ) (closing : Closing) (xs : List ShardState) → n < length xs
     → is_closed_at (slice_get (with_closed n closing xs) n) ≡ true
 closed_now n closing [] below = absurd (omega arith)
 closed_now zero closing (x ∷ xs) below = refl
 closed_now (suc n) closing (x ∷ xs) below = closed_now n closing xs (omega arith)
 
+-- If the shard `n` of a list is open, its number is below the number of shards.
 below_length : (n : ℕ) (xs : List ShardState) → is_open_at (slice_get xs n) ≡ true → n < length xs
 below_length n [] is = absurd cc
 below_length zero (x ∷ xs) is = omega arith
 below_length (suc n) (x ∷ xs) is = let e = below_length n xs is in omega arith
 
--- ---- The shards of a journal
+-- ---- The shards of a stream
 
 parent_in : (xs ys : List ShardState) (n : ℕ) (o : Option ℕ)
     → ((p : ℕ) → is_closed_at (slice_get xs p) ≡ true → is_closed_at (slice_get ys p) ≡ true) → IsParentClosed xs n o
@@ -57,12 +60,16 @@ parent_in : (xs ys : List ShardState) (n : ℕ) (o : Option ℕ)
 parent_in xs ys n None keeps is = tt
 parent_in xs ys n (Some p) keeps is = (is.0, keeps p is.1)
 
+-- The parent and the adjacent parent of the shard `x`, as far as it has them, are closed shards of `all` with smaller
+-- numbers.
 abbrev IsIn : List ShardState → ShardState → Type 0
 IsIn all x = IsParentClosed all x.no x.parent × IsParentClosed all x.no x.adjacent
 
+-- The parents of each of the shards `xs` are closed shards of `all` with smaller numbers (`IsIn`).
 abbrev AreIn : List ShardState → List ShardState → Type 0
 AreIn all xs = AllByRecursion (IsIn all) xs
 
+-- If each closed shard of `all` is closed in `all'`, parents that are closed in `all` are closed in `all'`.
 all_in : (all all' xs : List ShardState)
     → ((p : ℕ) → is_closed_at (slice_get all p) ≡ true → is_closed_at (slice_get all' p) ≡ true)
     → AreIn all xs → AreIn all' xs
@@ -70,17 +77,19 @@ all_in all all' xs keeps are =
     all_weaker (IsIn all) (IsIn all')
     (λ x is. (parent_in all all' x.no x.parent keeps is.0, parent_in all all' x.no x.adjacent keeps is.1)) xs are
 
+-- Closing a shard changes no shard's parents.
 all_closed : (all : List ShardState) (n : ℕ) (closing : Closing) (xs : List ShardState) → AreIn all xs
     → AreIn all (with_closed n closing xs)
 all_closed all n closing [] are = tt
 all_closed all zero closing (x ∷ xs) are = (are.0, are.1)
 all_closed all (suc n) closing (x ∷ xs) are = (are.0, all_closed all n closing xs are.1)
 
+-- The shards of a new stream have no parents.
 all_first : (all : List ShardState) (n start : ℕ) (ranges : List Span) → AreIn all (first_shards n start ranges)
 all_first all n start [] = tt
 all_first all n start (r ∷ rs) = ((tt, tt), all_first all (n + 1) start rs)
 
--- The parents are closed after a split.
+-- After a split of a shard, the parents of each shard are still closed, if they were before.
 split_closed : (xs : List ShardState) (sh at start : ℕ) (closing : Closing) → sh < length xs → AreParentsClosed xs
     → AreParentsClosed (split_shards sh at closing start xs)
 split_closed xs sh at start closing below are =
@@ -93,7 +102,7 @@ split_closed xs sh at start closing below are =
     (all_closed xs sh closing xs are))
     (((below, closed), tt), (((omega arith, closed), tt), tt))
 
--- The parents are closed after a merge.
+-- After a merge of two shards, the parents of each shard are still closed, if they were before.
 merged_closed : (xs : List ShardState) (sh other start : ℕ) (closing : Closing) → sh < length xs → other < length xs
     → AreParentsClosed xs → AreParentsClosed (merged_shards sh other closing start xs)
 merged_closed xs sh other start closing below below' are =
@@ -115,12 +124,13 @@ choice : (b : Bool) (xs ys : List ShardState) → (b ≡ true → AreParentsClos
 choice true xs ys new old = new refl
 choice false xs ys new old = old
 
--- The number of an open shard of the stream is below the number of its shards.
+-- The number of an open shard of a stream is below the number of the stream's shards.
 open_below : (log : Journal) (stream s sh : ℕ) → (stream == s) ≡ true → is_open_at (shard_at log stream sh) ≡ true
     → sh < length (shards log s)
 open_below log stream s sh same is =
     below_length sh (shards log s) (subst (λ t. is_open_at (shard_at log t sh) ≡ true) (equal_so stream s same) is)
 
+-- After the line of an accepted command, the parents of each shard of a stream are still closed, if they were before.
 parents_by : (log : Journal) (line : Line) (e : Entry) (reply : Reply) (s start : ℕ)
     → told log line e ≡ Accepted (line ∷ []) reply → AreParentsClosed (shards log s)
     → AreParentsClosed (shards_after line e s start (shards log s))
@@ -143,6 +153,7 @@ parents_by log line (entry.Merged stream sh other number child) reply s start h 
     (open_below log stream s sh same two.0) (open_below log stream s other same two.1) old) old
 parents_by log line _ reply s start h old = old
 
+-- In a legal journal, the parents of each shard are closed shards with smaller numbers (`AreParentsClosed`).
 pub parents_closed : (log : Journal) → IsLegal log → (s : ℕ) → AreParentsClosed (shards log s)
 parents_closed [] legal s = tt
 parents_closed (line ∷ log) legal s =

@@ -1,4 +1,5 @@
--- Each turn adds at most 500 records.
+-- Each turn adds at most 500 records, which is how many one PutRecords may put. So a shard has at most 500 records for
+-- each turn (`AreFewRecords`).
 use Rattle.std.proofs.Common.{◌≡◌, ℕ, ◌+◌, ◌≤◌, List, [], ◌∷◌, ◌++◌, length, refl, arith, ◌*◌, suc}
 use Rattle.std.specs.List.{AllByRecursion}
 use Rattle.std.specs.Prelude.{Result, ◌==◌, ◌&&◌}
@@ -21,21 +22,24 @@ use Rattle.kds_defs.specs.StreamCommands.{put_line}
 use Rattle.kds_defs.proofs.Walk.{Outcome, Refuses, Answers, Adds, Stores, Scales, each_step, walk}
 use Rattle.kcl_drill_laws.specs.Parents.{AreFewRecords}
 
--- The number is 1 for a line of a record, and 0 for any other line.
+-- The number 1 for the entry of a put, and 0 for any other entry.
 abbrev weight : Entry → ℕ
 weight (entry.Put stream shard number hash bytes key_bytes) = 1
 weight _ = 0
 
+-- The number of puts among the lines.
 abbrev puts : List Line → ℕ
 puts [] = 0
 puts (line ∷ ls) = weight line.what + puts ls
 
+-- If lines are added to a journal, it has as many puts as they and it have together.
 puts_with : (ls : List Line) (log : Journal) → puts (with_lines ls log) ≡ puts ls + puts log
 puts_with [] log = omega arith
 puts_with (line ∷ ls) log = let n = puts_with ls (line ∷ log) in omega arith
 
 -- ---- The lines of a decision
 
+-- A put of several items adds at most as many puts as there are items.
 few_puts : (items : List NewItem) (log : Journal) (c by s : ℕ) → puts (put_lines log c by s items) ≤ length items
 few_puts [] log c by s = omega arith
 few_puts (item ∷ items) log c by s =
@@ -53,6 +57,7 @@ one : (e : Entry) → weight e + 0 ≤ 500
 one (entry.Put stream shard number hash bytes key_bytes) = omega arith
 one _ = omega arith
 
+-- A command whose values are in the ranges of the API adds at most 500 puts.
 few : (log : Journal) (c by : ℕ) (what : Command) (lines : List Line) (answer : Result Reply Refusal)
     → Outcome log c by what lines answer
     → IsLawfulCommand what → puts lines ≤ 500
@@ -70,6 +75,7 @@ decided_few : (log : Journal) (c by : ℕ) (what : Command) → IsLawfulCommand 
     → puts (lines_of (decide log c by what)) ≤ 500
 decided_few log c by what lawful = few log c by what _ _ (walk log c by what) lawful
 
+-- A history leaves at most 500 puts for each of its turns.
 turns_few : (h : List Turn) → IsHistory h → puts (journal h) ≤ 500 * length h
 turns_few [] lawful = omega arith
 turns_few (turn ∷ h) lawful =
@@ -79,6 +85,7 @@ turns_few (turn ∷ h) lawful =
 
 -- ---- The records of a shard
 
+-- A line adds at most one record to a shard if it is a put, and none if it isn't.
 records_by : (l : Line) (e : Entry) (s sh n : ℕ) (rs : List Logged) → length rs ≤ n
     → length (records_after l e s sh rs) ≤ weight e + n
 records_by l (entry.Put stream shard number hash bytes key_bytes) s sh n rs le =
@@ -93,9 +100,11 @@ records_by l (entry.Put stream shard number hash bytes key_bytes) s sh n rs le =
     (λ here. omega (arith, length_push rs r, le)) (λ elsewhere. omega arith)
 records_by l _ s sh n rs le = omega arith
 
+-- A shard has at most as many records as the journal has puts.
 records_few : (log : Journal) (s sh : ℕ) → length (records log s sh) ≤ puts log
 records_few [] s sh = omega arith
 records_few (l ∷ log) s sh = records_by l l.what s sh (puts log) (records log s sh) (records_few log s sh)
 
+-- After each history, a shard has at most 500 records for each turn (`AreFewRecords`).
 pub few_records : (h : List Turn) → IsHistory h → AreFewRecords h
 few_records h lawful s sh = omega (arith, records_few (journal h) s sh, turns_few h lawful)

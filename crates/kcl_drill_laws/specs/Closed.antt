@@ -1,5 +1,6 @@
--- The history of a drill's hall, once all its passes were joined and the hall was closed. Lists of turns have the
--- newest first.
+-- The history of a drill once its threads have ended. The root makes the stream, the feeder puts the records, and the
+-- members are the workers. Each of them made its turns with a pass of its own. An account has the number of a pass and
+-- the turns that it made. Lists of turns have the newest first.
 use Rattle.std.specs.Prelude.{◌≡◌, ℕ, ◌+◌, ◌*◌, ◌/◌, ◌≤◌, ◌==◌, false, List, ◌∷◌, length, Some}
 use Rattle.std.specs.List.{AllByRecursion}
 use Rattle.kds_defs.specs.declared.command.Command.{Command}
@@ -19,7 +20,8 @@ use Rattle.kcl_live.specs.Records.{AreOnLeasesAt}
 use Rattle.kcl_drill_threads.specs.Feeding.{HasFed, HasFedSoFar}
 use Rattle.kcl_drill.specs.declared.limits.TheConstants.{MEMBER_TURNS, MOST_RECORDS, MOST_WORKERS, RECORDS_A_TURN, TICK}
 
--- The command is one of a generator's or is on leases, and the origin of a row that it makes is the trim horizon.
+-- The command is one that a drill may give: the commands of the generator, and those on leases. A row that it makes
+-- must have the origin TRIM_HORIZON.
 abbrev pub IsDrillCommand : Command → Type 0
 IsDrillCommand (command.Create name count) = Unit {0}
 IsDrillCommand (command.Put name item) = Unit {0}
@@ -28,15 +30,16 @@ IsDrillCommand (command.Merge name sh other) = Unit {0}
 IsDrillCommand (command.MakeLease key from) = from ≡ origin.TrimHorizon
 IsDrillCommand what = is_service what ≡ false
 
--- `IsDrillCommand` holds for the command of each turn.
+-- Each turn has a command that a drill may give (`IsDrillCommand`).
 abbrev pub AreDrillTurns : List Turn → Type 0
 AreDrillTurns h = AllByRecursion (λ turn. IsDrillCommand turn.what) h
 
--- The account has at most the number of turns that a member may have in a drill of `records` records.
+-- The account has at most the number of turns that a member may make in a drill with `records` records.
 abbrev pub IsFew : ℕ → Account → Type 0
 IsFew records a = length a.turns ≤ 3 * (MEMBER_TURNS + records / RECORDS_A_TURN)
 
--- The turns of a member are on leases, each a tick after the one before, and there are no more than `IsFew` allows.
+-- The account is as that of a member whose run has ended: its turns are on leases, the k-th is at k ticks, and they are
+-- few enough (`IsFew`). The rows that they make have the origin TRIM_HORIZON.
 pub record IsMemberAccount (records : ℕ) (a : Account) : Type 0 where
   pub moments : AreOnLeasesAt TICK a.turns
   pub most : IsFew records a
@@ -71,11 +74,11 @@ pub record IsStopped (number records : ℕ) (root feeder : Standing) (members : 
   pub all : AreAllBy (all_accounts root feeder members) h
   pub own : IsSplitInto (all_accounts root feeder members) h
 
--- The turns are lawful turns on leases, of the actor `by` at the moment `at`.
+-- The turns `more` are lawful turns on leases, all of the actor `by` and at the moment `at`.
 abbrev pub AreLeased : ℕ → ℕ → List Turn → Type 0
 AreLeased by at more =
     AllByRecursion (λ turn. (turn.by ≡ by) × (turn.at ≡ at) × (is_service turn.what ≡ false) × IsLawful turn) more
 
--- The origin of each row is the trim horizon.
+-- Each row in the journal `log` was made with the origin TRIM_HORIZON.
 abbrev pub AreFromHorizon : Journal → Type 0
 AreFromHorizon log = (key : ShardRef) (r : Row) → row log key ≡ Some r → origin_of log key ≡ Some origin.TrimHorizon

@@ -1,4 +1,5 @@
--- A tenure that its actor alone uses: how far it has come, and its row (Kinesis Client Library, leases).
+-- A tenure that is used by its actor alone: how far it has come with its reads, and its row (Kinesis Client Library,
+-- leases). A tenure is one worker's hold on a lease, and a row is the item of the lease in the lease table.
 use Rattle.std.specs.Prelude.{ℕ, ◌≡◌, ◌+◌, ◌≤◌, ◌==◌, Bool, true, false, nat_le, nat_lt, List, [], ◌∷◌, ◌++◌, drop}
 use Rattle.std.specs.Prelude.{length, Some}
 use Rattle.kds_base.specs.declared.lease_key.Checkpoint.{Checkpoint}
@@ -19,9 +20,9 @@ use Rattle.kds_defs.specs.Records.{batch, numbers_of, place_after}
 use Rattle.kds_defs.specs.Shards.{shard_at}
 use Rattle.kds_defs.specs.StreamCommands.{last_number}
 
--- A tenure of a key by an actor: the position after its reads, the position after those that are given, the reads that
--- wait to be given, and whether the last given one ended the shard. The counter, the checkpoint and the floor are those
--- of its row.
+-- How far the tenure of a key has come. `position` is the position after its reads, `done` is the position after those
+-- that are given, and `waiting` are the reads that wait to be given. `ended` says whether the last given one ended the
+-- shard. The counter, the checkpoint and the floor are those of its row.
 pub record Holding : Type 0 where
   pub by : ℕ
   pub key : ShardRef
@@ -34,7 +35,7 @@ pub record Holding : Type 0 where
   pub checkpoint : Checkpoint
   pub floor : ℕ
 
--- The row of the tenure's key names the tenure, and has the counter, the checkpoint and the floor of `x`.
+-- The key's row in the journal names the tenure, and has the counter, the checkpoint and the floor of `x`.
 pub record HasRow (log : Journal) (x : Holding) : Type 0 where
   pub now : Row
   pub there : row log x.key ≡ Some now
@@ -43,7 +44,8 @@ pub record HasRow (log : Journal) (x : Holding) : Type 0 where
   pub checkpoint : now.checkpoint ≡ x.checkpoint
   pub floor : now.floor ≡ x.floor
 
--- The tenure is the actor's, was opened, and has come as far as `x` says.
+-- In the journal, the tenure is the actor's and of the key, its shard was opened, and it has read and given as far as
+-- `x` says.
 pub record HasCome (log : Journal) (x : Holding) : Type 0 where
   pub state : TenureState
   pub begun : tenure log x.tenure ≡ Some state
@@ -57,82 +59,99 @@ pub record HasCome (log : Journal) (x : Holding) : Type 0 where
   pub waits : drop state.given state.reads ≡ x.waiting
   pub last : last_ended (given_reads state) ≡ x.ended
 
+-- In the journal `log`, the tenure has come as far as `x` says (`HasCome`), and its row is as `x` says (`HasRow`).
 pub record Holds (log : Journal) (x : Holding) : Type 0 where
   pub tenure : HasCome log x
   pub row : HasRow log x
 
--- ---- What the tenure may do
+-- ---- What the tenure and its row allow
 
--- The target is a number that was given and isn't below the least one that is allowed, and the row isn't at the end. Or
--- the target is the end, and the end was given.
+-- The tenure may mark its row at the target. A sequence number `q` must be below the position after the given reads and
+-- at or above the least number that the row allows, and the row must not be at SHARD_END. For the shard's end, the last
+-- given read must have ended the shard.
 abbrev pub MayMark : Holding → Target → Type 0
 MayMark x (target.At q) = (is_end x.checkpoint ≡ false) × (nat_le x.done q ≡ false)
     × (nat_lt q (least x.checkpoint x.floor) ≡ false)
 MayMark x target.End = x.ended ≡ true
 
--- The row `r` can be taken: it isn't at its end, and neither its counter nor the number of tenures is spent.
+-- The row `r` can be taken: its checkpoint isn't SHARD_END, and neither its counter nor the number of tenures so far is
+-- the last number.
 abbrev pub MayTake : Journal → Row → Type 0
 MayTake log r = (is_end r.checkpoint ≡ false) × ((r.counter == last_number) ≡ false)
     × ((taken_count log == last_number) ≡ false)
 
--- No parent of the key's shard is unread.
+-- The parents of the key's shard stand in the way of no opening: each of them was read to its end, or isn't listed at
+-- the clock `c`.
 abbrev pub ArePast : Journal → ℕ → ShardRef → Type 0
 ArePast log c key = (next : Decision) → past_parents log c key.stream (shard_at log key.stream key.shard) next ≡ next
 
--- ---- The lines of the tenure
+-- ---- The lines that the tenure's commands leave
 
+-- The line of a take at the clock `c`: the actor `by` takes the row `r` of the key for the worker `owner`, which begins
+-- the next tenure.
 abbrev pub taken_line : Journal → ℕ → ℕ → ShardRef → Row → ℕ → Line
 taken_line log c by key r owner = plain_line c by (entry.Taken key (taken_count log + 1) (r.counter + 1) owner)
 
+-- The line by which the newest tenure opens its shard, at the clock `c` by the actor `by`.
 abbrev pub opened_line : Journal → ℕ → ℕ → Line
 opened_line log c by = plain_line c by (entry.Opened (taken_count log + 1))
 
+-- The line of the read `r` of the tenure, at the clock `c`. `limit` is the most records that it may return.
 abbrev pub read_line : ℕ → Holding → ℕ → ReadDone → Line
 read_line c x limit r = plain_line c x.by (entry.Read x.tenure limit r.ended r.numbers)
 
+-- The line by which the tenure gives its first read that waits, at the clock `c`.
 abbrev pub given_line : ℕ → Holding → Line
 given_line c x = plain_line c x.by (entry.Given x.tenure)
 
+-- The line by which the tenure marks its row at the target `to`, at the clock `c`. It raises the row's counter by one.
 abbrev pub marked_line : ℕ → Holding → Target → Line
 marked_line c x to = plain_line c x.by (entry.Marked x.tenure (x.counter + 1) to)
 
--- The decision on a read at the tenure's position.
+-- The decision on a Read of the tenure at its position, for at most `limit` records: it is accepted, with the batch at
+-- this position.
 abbrev pub read_here : Journal → ℕ → Holding → ℕ → Decision
 read_here log c x limit =
     read_reply log c x.by x.tenure limit x.key (batch log c x.key.stream x.key.shard x.place limit)
     (place_after x.place (numbers_of (batch log c x.key.stream x.key.shard x.place limit)))
 
--- ---- The answers to the tenure's commands
+-- ---- The answers to the commands
 
+-- The Take of the row `r` by the actor `by` for the worker `owner` is accepted, and begins the next tenure at the row's
+-- checkpoint.
 abbrev pub IsTakenSo : Journal → ℕ → ℕ → ℕ → ShardRef → Row → Type 0
 IsTakenSo log c by owner key r =
     take_lease log c by key r.counter owner
     ≡ Accepted (taken_line log c by key r owner ∷ []) (reply.Taken (taken_count log + 1) (r.counter + 1) r.checkpoint)
 
--- The shard of the key is listed, and no parent of it is unread.
+-- The shard of the key can be opened: it is listed, and its parents stand in the way of no opening (`ArePast`).
 abbrev pub MayOpen : Journal → ℕ → ShardRef → Type 0
 MayOpen log c key = (is_listed_key log c key ≡ true) × ArePast log c key
 
--- The opening is accepted right after the take, which was at the clock `d`.
+-- Right after the take of the row `r` at the clock `d`, the opening of the shard at the clock `c` is accepted.
 abbrev pub IsOpenedSo : Journal → ℕ → ℕ → ℕ → ℕ → ShardRef → Row → Type 0
 IsOpenedSo log c d by owner key r =
     open_shard (taken_line log d by key r owner ∷ log) c by (taken_count log + 1)
     ≡ Accepted (opened_line log c by ∷ []) reply.Done
 
+-- A Read of the tenure at its position is accepted with the batch there, as `read_here` defines.
 abbrev pub IsReadSo : Journal → ℕ → Holding → ℕ → Type 0
 IsReadSo log c x limit = read log c x.by x.tenure x.place limit ≡ read_here log c x limit
 
+-- The Give of the read `r`, the first that waits, is accepted, and returns the position after this read.
 abbrev pub IsGivenSo : Journal → ℕ → Holding → ReadDone → Type 0
 IsGivenSo log c x r =
     give log c x.by x.tenure ≡ Accepted (given_line c x ∷ []) (reply.Given (place_after x.done r.numbers))
 
+-- The Mark of the row at the target `to` is accepted, and raises the row's counter by one.
 abbrev pub IsMarkedSo : Journal → ℕ → Holding → Target → Type 0
 IsMarkedSo log c x to =
     mark log c x.by x.tenure x.counter to ≡ Accepted (marked_line c x to ∷ []) (reply.Counter (x.counter + 1))
 
--- ---- How far the tenure has come then
+-- ---- How far the tenure has come after each command
 
--- The tenure after it was taken from the row `r` and opened.
+-- The tenure after it was taken from the row `r` and opened: its position is where reading begins for the row's
+-- checkpoint, and no read waits.
 abbrev pub begun_from : Journal → ℕ → ShardRef → Row → Holding
 begun_from log by key r =
     record {
@@ -148,11 +167,14 @@ begun_from log by key r =
       floor = r.floor;
     }
 
+-- The tenure `x` after the read `r`, which is the last of those that wait to be given.
 abbrev pub after_read : Holding → ReadDone → Holding
 after_read x r = record x { place = place_after x.place r.numbers; waiting = x.waiting ++ (r ∷ []) }
 
+-- The tenure `x` after the read `r` was given, and the reads `rest` still wait to be given.
 abbrev pub after_give : Holding → ReadDone → List ReadDone → Holding
 after_give x r rest = record x { done = place_after x.done r.numbers; waiting = rest; ended = r.ended }
 
+-- The tenure `x` after its row was marked at the target `to`.
 abbrev pub after_mark : Holding → Target → Holding
 after_mark x to = record x { counter = x.counter + 1; checkpoint = checkpoint_at to }

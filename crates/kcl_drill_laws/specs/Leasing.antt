@@ -1,4 +1,4 @@
--- Turns on leases after a history.
+-- What turns on leases leave unchanged: the streams of the journal.
 use Rattle.std.specs.Prelude.{ℕ, ◌≡◌, false, List}
 use Rattle.std.specs.List.{AllByRecursion}
 use Rattle.kds_defs.specs.declared.command.Turn.{Turn}
@@ -8,11 +8,12 @@ use Rattle.kds_defs.specs.Records.{next_number, records}
 use Rattle.kds_defs.specs.Shards.{shards}
 use Rattle.kds_defs.specs.Streams.{hours, is_live, live_streams, stream_named, trim_floor}
 
--- None of the turns is for the stream service.
+-- Each of the turns is on leases, and not for the stream service.
 abbrev pub AreOnLeases : List Turn → Type 0
 AreOnLeases more = AllByRecursion (λ turn. is_service turn.what ≡ false) more
 
--- The two journals have the same streams, with the same shards, records, numbers and retention.
+-- The two journals have the same live streams, found by the same names. Each stream has the same shards, records, next
+-- sequence number and retention in both.
 pub record HasSameStreams (log log' : Journal) : Type 0 where
   pub live : live_streams log ≡ live_streams log'
   pub named : (name : List ℕ) → stream_named log name ≡ stream_named log' name
@@ -21,7 +22,7 @@ pub record HasSameStreams (log log' : Journal) : Type 0 where
   pub next : (s : ℕ) → next_number log s ≡ next_number log' s
   pub hours : (s : ℕ) → hours log s ≡ hours log' s
 
--- The same streams are live in the two journals, and the same is trimmed of them at the clock `c`.
+-- In both journals, the same streams are live, and each stream has the same trim floor at the clock `c`.
 pub record HasSameFloors (c : ℕ) (log log' : Journal) : Type 0 where
   pub live : (s : ℕ) → is_live log s ≡ is_live log' s
   pub floors : (s : ℕ) → trim_floor log c s ≡ trim_floor log' c s

@@ -1,4 +1,4 @@
--- The accounts of the workers of a drill.
+-- The accounts of the workers of a drill, and the numbers of their passes.
 use Rattle.std.proofs.Common.{◌≡◌, ℕ, zero, suc, ◌+◌, ◌<◌, ◌≤◌, List, [], ◌∷◌, ◌++◌, length, map, refl, ap, ◌∙◌, arith}
 use Rattle.std.specs.Prelude.{flat_map}
 use Rattle.std.specs.List.{All, AllByRecursion}
@@ -12,7 +12,7 @@ use Rattle.kcl_drill_laws.specs.Closed.{all_accounts}
 use Rattle.kcl_live.specs.declared.crew.Member.{Member}
 use Rattle.kcl_drill_run.specs.Running.{HavePasses, account_in, accounts_in}
 
--- The numbers of the accounts are those from the first argument on.
+-- The accounts have the numbers from `from` on, in order.
 abbrev pub CountFrom : ℕ → List Account → Type 0
 CountFrom from [] = Unit {0}
 CountFrom from (a ∷ xs) = (a.by ≡ from) × CountFrom (from + 1) xs
@@ -26,10 +26,12 @@ module _ {M P F G : Type 0} (hall : Place) where
       ap (λ (xs : List Account). (account m.pass.by m.pass.own ∷ xs) ++ flat_map accounts_in ms) are.0.alone
       ∙ ap (λ (xs : List Account). account m.pass.by m.pass.own ∷ xs) (each_alone (from + 1) ms are.1)
 
+  -- If the workers' passes have the numbers from `from` on, so have their accounts.
   pub counted : (from : ℕ) (ms : List (Member M P F G)) → HavePasses hall from ms → CountFrom from (map account_in ms)
   counted from [] are = tt
   counted from (m ∷ ms) are = (are.0.by, counted (from + 1) ms are.1)
 
+  -- If the workers' passes are those of the hall, each of them belongs to the hall.
   pub all_there : (from : ℕ) (ms : List (Member M P F G)) → HavePasses hall from ms
       → All (λ m. m.pass.hall ≡ hall.id) ms
   all_there from [] are k d below = absurd (omega arith)
@@ -37,17 +39,20 @@ module _ {M P F G : Type 0} (hall : Place) where
   all_there from (m ∷ ms) are (suc k) d below = all_there (from + 1) ms are.1 k d (omega arith)
 
 module _ {M P F G : Type 0} where
+  -- There are as many accounts as workers.
   pub count_accounts : (ms : List (Member M P F G)) → length (map account_in ms) ≡ length ms
   count_accounts [] = refl
   count_accounts (m ∷ ms) = ap suc (count_accounts ms)
 
+  -- What is true of the account of each worker is true of each account.
   pub of_accounts : (Q : Account → Type 0) (ms : List (Member M P F G)) → AllByRecursion (λ m. Q (account_in m)) ms
       → AllByRecursion Q (map account_in ms)
   of_accounts Q [] of = tt
   of_accounts Q (m ∷ ms) of = (of.0, of_accounts Q ms of.1)
 
--- ---- Each number exists
+-- ---- Each number of a pass has an account
 
+-- If accounts have the numbers from `from` on, each number from `from` on, as far as there are accounts, has one.
 has_some : (from n : ℕ) (xs : List Account) → CountFrom from xs → from ≤ n → n < from + length xs → 0 < times n xs
 has_some from n [] are least most = absurd (omega arith)
 has_some from n (a ∷ xs) are least most =

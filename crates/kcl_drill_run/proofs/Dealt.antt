@@ -1,4 +1,5 @@
--- How the passes of a new hall are dealt out.
+-- The passes of a new hall are dealt out: the first to the root, the second to the feeder, and the others to the
+-- workers (`AreDealt`).
 use Rattle.std.proofs.Common.{◌≡◌, ℕ, zero, suc, ◌+◌, ◌≤◌, List, [], ◌∷◌, ◌++◌, length, refl, sym, ap, subst, ◌∙◌}
 use Rattle.std.proofs.Common.{arith}
 use Rattle.std.specs.Prelude.{slice_index_or}
@@ -29,7 +30,7 @@ module _ {M G : Type 0} where
   as_many name (x ∷ ps) [] are = absurd are
   as_many name (x ∷ ps) (y ∷ ms) are = ap suc (as_many (name + 1) ps ms are.1)
 
--- ---- The first two passes, and the others
+-- ---- The first two passes and the others
 
 first_two : (hall : Place) (n : ℕ) → new_passes hall 1 (n + 2) ≡ new_pass hall.id 1 ∷ new_pass hall.id 2
     ∷ new_passes hall 3 n
@@ -46,6 +47,7 @@ pub record IsTaken (from left : List Standing) (x : Standing) : Type 0 where
 
 module _ (hall : Place) (workers : ℕ) (all some rest : List Standing)
     (new : all ≡ new_passes hall 1 (workers + 2)) where
+  -- The passes are the first, the second, and those from 3 on.
   are_all : all ≡ new_pass hall.id 1 ∷ new_pass hall.id 2 ∷ new_passes hall 3 workers
   are_all = new ∙ first_two hall workers
 
@@ -57,6 +59,8 @@ module _ (hall : Place) (workers : ℕ) (all some rest : List Standing)
       are_rest : rest ≡ new_passes hall 3 workers
       are_rest = second.left_are ∙ ap (λ xs. remove xs 0) are_some
 
+      -- If the root and the feeder have the passes that were taken, and the workers have those that are left, then the
+      -- passes are dealt out (`AreDealt`).
       pub dealt : (p : Participants) → p.root ≡ root → p.feeder ≡ feeder → AreMembersOf 1 rest p.members.items
           → hall.passes ≡ workers + 2 → workers ≤ 64
           → AreDealt hall p × (length p.members.items ≡ workers)

@@ -1,4 +1,5 @@
--- From a drill's history to its text.
+-- From the history of a drill to its text: the shards can be drained, and then the summary is the text that the drill
+-- should print.
 use Rattle.std.proofs.Common.{◌≡◌, ℕ, ◌<◌, ◌≤◌, ◌^◌, max, false, List, [], ◌∷◌, ◌++◌, length, Option, Some, None, refl}
 use Rattle.std.proofs.Common.{sym, ap, subst, ◌∙◌, append_assoc}
 use Rattle.std.proofs.Common.{arith}
@@ -20,30 +21,35 @@ use Rattle.kcl_drill_laws.specs.Closed.{AreFromHorizon, AreLeased}
 use Rattle.kcl_drill_drain.specs.Draining.{CanDrain}
 use Rattle.kcl_drill_drain.specs.Leased.{HasDrained}
 
--- ---- If the floor is 0, nothing is below it
+-- ---- At the trim floor 0, nothing is trimmed or expired
 
 not_below : (n floor : ℕ) → floor ≡ 0 → nat_lt n floor ≡ false
 not_below n floor is = grind (arith, nat_tests)
 
+-- If the floor is 0, each record arrived at or above it.
 all_above : (floor : ℕ) (rs : List Logged) → floor ≡ 0 → AreAbove floor rs
 all_above floor [] is = tt
 all_above floor (r ∷ rs) is = (not_below r.arrival floor is, all_above floor rs is)
 
+-- If the floor is 0, no shard was closed below it.
 not_closed : (floor : ℕ) (o : Option Closing) → floor ≡ 0 → was_closed_below floor o ≡ false
 not_closed floor None is = refl
 not_closed floor (Some closing) is = not_below closing.clock floor is
 
+-- If the floor is 0, none of the shards was closed below it.
 none_closed : (floor : ℕ) (xs : List ShardState) → floor ≡ 0
     → AllByRecursion (λ (x : ShardState). is_closed_below floor x ≡ false) xs
 none_closed floor [] is = tt
 none_closed floor (x ∷ xs) is = (not_closed floor x.closing is, none_closed floor xs is)
 
--- The clock stays the same after a moment that isn't later.
+-- If the moment `at` is 0, the greater of the clock `c` and `at` is `c`.
 same_clock : (c at : ℕ) → at ≡ 0 → max c at ≡ c
 same_clock c at is = omega arith
 
 module _ (untrimmed : (h : List Turn) (c s : ℕ) → IsHistory h → clock h ≤ c → c < LEAST_RETENTION
     → trim_floor (journal h) c s ≡ 0) where
+  -- The history of a drill can be drained at the moment 0, if it has fewer than 2^32 turns and each row was made with
+  -- the origin TRIM_HORIZON.
   pub can_drain : (h : List Turn) (number records at : ℕ) → at ≡ 0 → IsDrill h number records → length h < 2 ^ 32
       → AreFromHorizon (journal h) → CanDrain h at
   can_drain h number records at zero is few horizon =
@@ -59,7 +65,8 @@ module _ (untrimmed : (h : List Turn) (c s : ℕ) → IsHistory h → clock h �
         horizon = horizon;
       }
 
--- What the laws say of a drill's history.
+-- Three laws about the history of a drill that the lemmas take as given: further turns on leases leave it one, its
+-- summary can be made, and once its shards are drained, the summary is the text that the drill should print.
 pub record HasLaws : Type 0 where
   pub drill : (number records by at : ℕ) (more h : List Turn) → IsDrill h number records → at ≤ clock h
       → AreLeased by at more
@@ -68,19 +75,22 @@ pub record HasLaws : Type 0 where
   pub text : (h : List Turn) (number records : ℕ) → IsDrill h number records → AreDrained (journal h) (clock h)
       → summary_text (journal h) (clock h) ≡ drill_text number records
 
--- The machine's history can be summed once it was drained, and its summary is the drill's text.
+-- The machine has answered a history and then only turns that read. The summary of this history can be made (`CanSum`),
+-- and it is the text that the drill should print.
 pub record IsReady (stands : List Turn → Type 0) (by at number records : ℕ) : Type 0 where
   pub turns : List Turn
   pub read : HasRead stands by at turns
   pub can : CanSum turns (max (clock turns) at)
   pub text : summary_text (journal turns) (max (clock turns) at) ≡ drill_text number records
 
--- A machine that stands for a history with further turns, and then answers turns that only read, stands for the history
--- with all these turns.
+-- If a machine has answered the history `h`, then the turns `more`, and then turns that only read, it has answered `h`
+-- and some turns after it.
 pub later : (stands : List Turn → Type 0) (by at : ℕ) (h more : List Turn) → HasRead stands by at (more ++ h)
     → (all : List Turn) × stands (all ++ h)
 later stands by at h more r = (r.more ++ more, subst stands (sym (append_assoc r.more more h)) r.stands_now)
 
+-- If the machine has drained the shards of a drill's history, the summary can be made, and it is the text that the
+-- drill should print (`IsReady`).
 pub ready : (laws : HasLaws) (stands : List Turn → Type 0) (h : List Turn) (number records by at then : ℕ) → at ≡ 0
     → then ≡ 0 → IsDrill h number records
     → HasDrained stands by at h → IsReady stands by then number records

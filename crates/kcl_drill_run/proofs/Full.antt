@@ -1,4 +1,5 @@
--- If a turn found the hall's history full, its pass has seen as many turns as can be counted.
+-- If a thread of a drill ended with the error Spent, a pass is full: it has seen 2^64 - 1 turns. A pass that has seen
+-- fewer than 2^32 turns isn't full.
 use Rattle.std.proofs.Common.{◌≡◌, ◌⊎◌, inl, inr, ℕ, suc, List, [], ◌∷◌, length, refl, subst, arith, Err}
 use Rattle.std.specs.Prelude.{IfErr}
 use Rattle.std.specs.List.{AllByRecursion}
@@ -45,14 +46,17 @@ crowd_full before p e err is =
 -- ---- The workers
 
 module _ {M P F G : Type 0} (stands : P → List Call → Type 0) (turns : ℕ) where
+  -- If the run of a worker was cut short by Spent, its pass is full.
   cut_full : (a : Member M P F G) → WasCut stands a.worker a.pass failed.Spent → IsFull a.pass
   cut_full a (inl call) = absurd (no_memory call.error)
   cut_full a (inr (inl turn)) = turn.spent.0 refl
   cut_full a (inr (inr answer)) = absurd (no_memory answer.error)
 
+  -- If the run of a worker ended with Spent, its pass is full.
   one_full : (b a : Member M P F G) → HasEnded stands turns 50 b a → a.outcome ≡ Err failed.Spent → IsFull a.pass
   one_full b a ended is = cut_full a (subst (λ o. IfErr o (WasCut stands a.worker a.pass)) is ended.err)
 
+  -- If at least one worker ended with Spent, the pass of at least one worker is full.
   pub members_full : (e : TurnErr) (before after : List (Member M P F G)) → e ≡ failed.Spent
       → length after ≡ length before
       → HaveEnded stands turns before after → SomeFailed e after → SomeIsFull after
@@ -64,17 +68,19 @@ module _ {M P F G : Type 0} (stands : P → List Call → Type 0) (turns : ℕ) 
       inr (members_full e before after is (omega arith) (λ i m below. ended (suc i) m (omega arith))
       more)
 
--- ---- Passes that have seen few turns aren't full
+-- ---- Passes that have seen few turns
 
 few_not_full : (p : Standing) → IsShort p → IsFull p → ⊥
 few_not_full p short full = absurd (omega arith)
 
+-- If the passes of all workers have seen fewer than 2^32 turns each, none of them is full.
 members_not_full : {M P F G : Type 0} (ms : List (Member M P F G)) → AllByRecursion (λ m. IsShort m.pass) ms
     → SomeIsFull ms → ⊥
 members_not_full [] short full = full
 members_not_full (m ∷ ms) short (inl one) = few_not_full m.pass short.0 one
 members_not_full (m ∷ ms) short (inr more) = members_not_full ms short.1 more
 
+-- If all passes of a drill have seen fewer than 2^32 turns each, none of them is full.
 pub not_full : (p : Participants) → AreShort p → AreFull p → ⊥
 not_full p short (inl root) = few_not_full p.root short.root root
 not_full p short (inr (inl feeder)) = few_not_full p.feeder short.feeder feeder

@@ -1,4 +1,4 @@
--- Passes that are taken in, one after another.
+-- The passes of the workers are joined into the root's pass, one after another.
 use Rattle.std.proofs.Common.{◌≡◌, suc, List, ◌∷◌, ◌++◌, sym, ap, subst, ◌∙◌, arith, append_assoc}
 use Rattle.std.specs.Prelude.{flat_map}
 use Rattle.std.specs.List.{All}
@@ -7,6 +7,8 @@ use Rattle.kcl_live.specs.declared.crew.Member.{Member}
 use Rattle.kcl_drill_run.specs.Running.{accounts_in}
 
 module _ {M P F G : Type 0} where
+  -- `old` are the accounts joined so far, and `items` are the workers that remain, of which `m` is the first. After the
+  -- pass of `m` was joined, the accounts joined so far, `now`, and those of the other workers are still all accounts.
   pub joined_more : (old now total : List Account) (m : Member M P F G) (rest items : List (Member M P F G))
       → now ≡ old ++ accounts_in m → items ≡ m ∷ rest
       → old ++ flat_map accounts_in items ≡ total → now ++ flat_map accounts_in rest ≡ total
@@ -16,6 +18,7 @@ module _ {M P F G : Type 0} where
       ∙ ap (λ ms. old ++ flat_map accounts_in ms) (sym step)
       ∙ before
 
+  -- What is true of each of the workers that remain is true of each of them after the first.
   pub all_rest : (Q : Member M P F G → Type 0) (m : Member M P F G) (rest items : List (Member M P F G))
       → items ≡ m ∷ rest → All Q items → All Q rest
   all_rest Q m rest items step all = λ k d below. (subst (All Q) step all) (suc k) d (omega arith)

@@ -1,4 +1,5 @@
--- What the threads of a drill have done.
+-- What the threads of a drill have done when they have ended, derived from the contracts of the functions that run
+-- them.
 use Rattle.std.proofs.Common.{◌≡◌, ◌⊎◌, inl, inr, ℕ, zero, suc, ◌+◌, ◌≤◌, List, [], ◌∷◌, length, sym, ap, subst, ◌∙◌}
 use Rattle.std.proofs.Common.{arith, Result, Ok, Err}
 use Rattle.std.specs.Prelude.{◌/◌, IfErr, IsOk, OnOk}
@@ -24,20 +25,23 @@ use Rattle.kcl_drill_run.specs.Participants.{AreDealt, AreMembersOf, IsMemberOf,
 use Rattle.kcl_drill_run.specs.Running.{HasPass, HavePasses, HaveRun, HaveStopped, account_in}
 use Rattle.kcl_drill_run.specs.declared.participants.Participants.{Participants}
 
--- What the law `horizon` says.
+-- A law that the lemmas take as given: if a worker's settings have the origin TRIM_HORIZON, its turns are ones that a
+-- drill may make (`AreDrillTurns`).
 abbrev pub FromHorizon : Type 0
 FromHorizon = (by : ℕ) (made : WorkerMade) (past : WorkerPast) → made.settings.from ≡ origin.TrimHorizon
     → AreDrillTurns (turns_in by made past)
 
+-- If a result is Ok, what holds if it is Ok holds.
 of_ok : {A E : Type 0} (r : Result A E) (X : Type 0) → IsOk r → OnOk r X → X
 of_ok (Ok a) X is x = x
 of_ok (Err e) X is x = absurd cc
 
--- What follows from how a call ended.
+-- If `X` holds if the result is Ok, so does `Y`, which follows from `X`.
 pub then_ok : {A E : Type 0} (r : Result A E) (X Y : Type 0) → (X → Y) → OnOk r X → OnOk r Y
 then_ok (Ok a) X Y f x = f x
 then_ok (Err e) X Y f x = tt
 
+-- If `P` holds of the error of a result, so does `Q`, which follows from `P`.
 pub then_err : {A E : Type 0} (r : Result A E) (P Q : E → Type 0) → ((e : E) → P e → Q e) → IfErr r P → IfErr r Q
 then_err (Ok a) P Q f p = tt
 then_err (Err e) P Q f p = f e p
@@ -56,10 +60,12 @@ module _ {M G : Type 0} (hall : Place) where
       all_ready (name + 1) (from + 1) n ms are.1 k d (omega arith)
 
   module _ (records : ℕ) where
-    -- The worker ran, or is as it was.
+    -- The run of the worker `b` has ended and left `a`, or `a` is `b`, as if the run wasn't begun.
     abbrev EndedOrNot : Member M Stock Kind G → Member M Stock Kind G → Type 0
     EndedOrNot b a = HasEnded StockStandsFor (200 + records / 100) 50 b a ⊎ (a ≡ b)
 
+    -- If the run of a worker has ended or wasn't begun, the worker has the pass of the hall that it had, and made few
+    -- enough turns (`IsFew`).
     one_passed : (name from : ℕ) (b a : Member M Stock Kind G) → IsMemberOf name (new_pass hall.id from) b
         → EndedOrNot b a
         → HasPass hall from a × IsFew records (account_in a)
@@ -82,6 +88,8 @@ module _ {M G : Type 0} (hall : Place) where
           omega arith,
         )
 
+    -- If the run of each worker has ended or wasn't begun, the workers have the passes of the hall that they had, and
+    -- each made few enough turns (`IsFew`).
     pub all_passed : (name from n : ℕ) (before after : List (Member M Stock Kind G))
         → AreMembersOf name (new_passes hall from n) before
         → length after ≡ length before
@@ -98,6 +106,7 @@ module _ {M G : Type 0} (hall : Place) where
         ((one.0, more.0), (one.1, more.1))
 
     module _ (law : FromHorizon) where
+      -- If the run of a worker ended without an error, the worker's account is as it should be (`IsMemberAccount`).
       one_made : (name from : ℕ) (b a : Member M Stock Kind G) → IsMemberOf name (new_pass hall.id from) b
           → IsOk a.outcome
           → HasEnded StockStandsFor (200 + records / 100) 50 b a → IsMemberAccount records (account_in a)
@@ -111,6 +120,7 @@ module _ {M G : Type 0} (hall : Place) where
             horizon = subst AreDrillTurns (sym run.driven.own_are) (law a.pass.by a.worker.made run.past made);
           }
 
+      -- If the run of each worker ended without an error, each worker's account is as it should be (`IsMemberAccount`).
       pub all_made : (name from n : ℕ) (before after : List (Member M Stock Kind G))
           → AreMembersOf name (new_passes hall from n) before
           → length after ≡ length before → AllEnded after
@@ -132,6 +142,8 @@ module _ (hall : Place) (number records : ℕ) (before after : Participants) (de
     (limit : records ≤ 1000000)
     (root : IsKept before.root after.root) (feeder : IsKept before.feeder after.feeder)
     (same : length after.members.items ≡ length before.members.items) where
+  -- If the root and the feeder each made their commands up to some command, and the run of each worker has ended or
+  -- wasn't begun, then the threads have ended as `HaveStopped` says.
   pub have_stopped : HasFedSoFar number records after.root after.feeder
       → HaveEndedOrNot StockStandsFor (200 + records / 100) before.members.items after.members.items
       → HaveStopped hall number records after
@@ -158,10 +170,14 @@ module _ (hall : Place) (number records : ℕ) (before after : Participants) (de
 
   module _ (fed : HasFed number records after.root after.feeder)
       (ended : HaveEnded StockStandsFor (200 + records / 100) before.members.items after.members.items) where
+    -- If the root and the feeder made all their commands, and the run of each worker has ended, the threads have ended
+    -- as `HaveStopped` says.
     pub have_stopped_all : HaveStopped hall number records after
     have_stopped_all = have_stopped (fed_so_far number records after.root after.feeder fed)
         (λ i m below. inl (ended i m below))
 
+    -- If, in addition, the run of each worker ended without an error, the threads have ended without an error
+    -- (`HaveRun`).
     pub have_run : (law : FromHorizon) → AllEnded after.members.items → HaveRun hall number records after
     have_run law ran = record {
       stopped = have_stopped_all;

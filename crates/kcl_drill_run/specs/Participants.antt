@@ -1,4 +1,5 @@
--- Who takes part in a drill.
+-- Who takes part in a drill: the root, which makes the stream, the feeder, which puts the records, and the members,
+-- which are workers. Each of them has a pass, which is its access to the hall.
 use Rattle.std.specs.Prelude.{◌≡◌, ℕ, ◌+◌, ◌≤◌, List, [], ◌∷◌, length, map}
 use Rattle.std.specs.List.{range_with_len}
 use Rattle.kcl_defs.specs.Workers.{usual_settings}

@@ -1,4 +1,6 @@
--- What the threads of a drill have done, and what its machine then stands for.
+-- What the threads of a drill have done when they have ended, and which history the drill's machine then stands for.
+-- The root makes the stream, the feeder puts the records, and the members are workers. Each has a pass, which is its
+-- access to the hall.
 use Rattle.std.specs.Prelude.{◌≡◌, ◌⊎◌, ℕ, ◌+◌, ◌^◌, ◌<◌, ◌≤◌, List, [], ◌∷◌, ◌++◌, length, flat_map}
 use Rattle.std.specs.List.{AllByRecursion}
 use Rattle.kds_defs.specs.declared.command.Turn.{Turn}
@@ -16,7 +18,7 @@ use Rattle.kds_turn.specs.declared.pass.TurnErr.{TurnErr}
 use Rattle.kcl_drill_run.specs.Ends.{SomeFailed}
 use Rattle.kcl_drill_run.specs.declared.participants.Participants.{Participants}
 
--- The number and the turns of a worker's pass.
+-- The account of a worker: the number of its pass, and the turns that it made.
 abbrev pub account_in : {M P F G : Type 0} → Member M P F G → Account
 account_in m = account m.pass.by m.pass.own
 
@@ -50,22 +52,23 @@ pub record HaveRun (hall : Place) (number records : ℕ) (p : Participants) : Ty
   pub fed : HasFed number records p.root p.feeder
   pub made : AllByRecursion (λ m. IsMemberAccount records (account_in m)) p.members.items
 
--- The reason why the threads stopped early: the root or the feeder failed, or a worker ended by an error.
+-- The reason for the error `e` with which the threads stopped early: the root or the feeder failed with it, or at least
+-- one worker did.
 abbrev pub HaveFailed : Participants → Participants → TurnErr → Type 0
 HaveFailed before after e = IsCrowdErr before.root after.root after.feeder e ⊎ SomeFailed e after.members.items
 
--- ---- How many turns the passes have seen
+-- ---- How many turns a pass has seen
 
 -- The pass has seen as many turns as can be counted.
 abbrev pub IsFull : Standing → Type 0
 IsFull p = length p.seen + 1 ≡ 2 ^ 64
 
--- The pass of a worker is full.
+-- The pass of at least one of the workers is full (`IsFull`).
 abbrev pub SomeIsFull : {M P F G : Type 0} → List (Member M P F G) → Type 0
 SomeIsFull [] = ⊥
 SomeIsFull (m ∷ ms) = IsFull m.pass ⊎ SomeIsFull ms
 
--- One of the passes is full.
+-- The pass of the root, of the feeder, or of at least one of the workers is full (`IsFull`).
 abbrev pub AreFull : Participants → Type 0
 AreFull p = IsFull p.root ⊎ IsFull p.feeder ⊎ SomeIsFull p.members.items
 
@@ -73,15 +76,15 @@ AreFull p = IsFull p.root ⊎ IsFull p.feeder ⊎ SomeIsFull p.members.items
 abbrev pub IsShort : Standing → Type 0
 IsShort p = length p.seen < 2 ^ 32
 
--- Each of the passes has seen fewer than 2^32 turns.
+-- The passes of the root, the feeder and each worker have seen fewer than 2^32 turns each.
 pub record AreShort (p : Participants) : Type 0 where
   pub root : IsShort p.root
   pub feeder : IsShort p.feeder
   pub members : AllByRecursion (λ m. IsShort m.pass) p.members.items
 
--- ---- The end of the hall
+-- ---- The end of the hall: all passes are joined into one
 
--- The numbers and the turns of a worker's pass and of the passes that were joined into it.
+-- The accounts of a worker's pass and of the passes that were joined into it.
 abbrev pub accounts_in : {M P F G : Type 0} → Member M P F G → List Account
 accounts_in m = accounts_of m.pass
 
@@ -95,8 +98,8 @@ pub record HasTaken (p : Participants) (last : Standing) : Type 0 where
   pub seen : Continues last.seen p.feeder.seen
   pub seen_members : AllByRecursion (λ m. Continues last.seen m.pass.seen) p.members.items
 
--- The machine stands for a drill's history, which has fewer than 2^32 turns, and in which the origin of each row is the
--- trim horizon.
+-- The machine `w` stands for the history `turns` of the drill with the number `number` and `records` records
+-- (`IsDrill`). This history has fewer than 2^32 turns, and each row was made with the origin TRIM_HORIZON.
 pub record HasDrilled (number records : ℕ) (w : WorldValue) : Type 0 where
   pub turns : List Turn
   pub stands : StandsFor w turns

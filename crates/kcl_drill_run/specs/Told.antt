@@ -1,4 +1,4 @@
--- What the end of a drill tells of the output.
+-- What a drill has written to its output when it ended with a status.
 use Rattle.std.specs.Prelude.{ℕ, List, []}
 use Rattle.std.specs.declared.option.Option.{Option}
 use Rattle.std.specs.Io.KnownBytes.{Appends}
@@ -7,8 +7,8 @@ use Rattle.kds_ends.specs.declared.status.Status.{Status}
 use Rattle.kds_ends.specs.declared.status.Status.TheVariants.{Done, Write, Memory}
 use Rattle.kcl_drill.specs.Summed.{drill_text}
 
--- With Done the text of the drill was written, with Write a prefix of it, and with Memory nothing. A drill ends with no
--- other status.
+-- The sink held `held` before the drill, and holds `now` after it. With Done, the text of the drill was added, with
+-- Write a prefix of this text, and with Memory nothing. A drill ends with no other status.
 abbrev pub DrillTells : Status → ℕ → ℕ → Option (List ℕ) → Option (List ℕ) → Type 0
 DrillTells Done number records held now = Appends held now (drill_text number records)
 DrillTells Write number records held now = AppendsFront held now (drill_text number records)

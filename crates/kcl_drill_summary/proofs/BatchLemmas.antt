@@ -1,4 +1,5 @@
--- What is left of rising records after a batch.
+-- A batch and what is left after it: if records have rising sequence numbers, a batch from their front and the records
+-- from the position after it on are all of them.
 use Rattle.std.proofs.Common.{◌≡◌, ℕ, zero, suc, ◌+◌, ◌-◌, ◌<◌, ◌≤◌, Bool, true, false, List, [], ◌∷◌, ◌++◌, map, refl}
 use Rattle.std.proofs.Common.{sym, ap, ◌∙◌, arith}
 use Rattle.std.specs.Prelude.{not, nat_le, nat_lt, ◌&&◌, cond, if◌then◌else◌}
@@ -11,22 +12,25 @@ use Rattle.kcl_laws.specs.Recorded.{IsSized}
 use Rattle.kcl_drill_summary.specs.Counting.{AreAbove}
 use Rattle.kcl_drill.specs.Summed.{bytes_of}
 
+-- Each of the records has a bounded size (`IsSized`).
 abbrev pub AreSized : List Logged → Type 0
 AreSized rs = AllByRecursion IsSized rs
 
--- The numbers of the records rise from the first argument on.
+-- The sequence numbers of the records rise strictly, and the first is at or above the first argument.
 abbrev pub IsUp : ℕ → List Logged → Type 0
 IsUp p [] = Unit {0}
 IsUp p (r ∷ rs) = (p ≤ r.seq) × IsUp (r.seq + 1) rs
 
--- The records from a number on.
+-- Those of the records whose sequence number is `p` or greater.
 abbrev pub from : ℕ → List Logged → List Logged
 from p rs = filter (λ (r : Logged). nat_le p r.seq) rs
 
+-- If the numbers of records rise from `m` on, they rise from each smaller number on.
 pub up_weaker : (p m : ℕ) (rs : List Logged) → p ≤ m → IsUp m rs → IsUp p rs
 up_weaker p m [] le up = tt
 up_weaker p m (r ∷ rs) le up = (omega (arith, le, up.0), up.1)
 
+-- If the numbers of records rise from `m` on, so do those of the records from `p` on.
 pub up_kept : (p m : ℕ) (rs : List Logged) → IsUp m rs → IsUp m (from p rs)
 up_kept p m [] up = tt
 up_kept p m (r ∷ rs) up =
@@ -39,10 +43,12 @@ up_head : (p : ℕ) (r : Logged) (rs : List Logged) (b : Bool) → nat_le p r.se
 up_head p r rs true is up rest = (le_so p r.seq is, up_kept p (r.seq + 1) rs up)
 up_head p r rs false is up rest = rest
 
+-- If the numbers of records rise, those of the records from `p` on rise from `p` on.
 pub up_from : (p m : ℕ) (rs : List Logged) → IsUp m rs → IsUp p (from p rs)
 up_from p m [] up = tt
 up_from p m (r ∷ rs) up = up_head p r rs (nat_le p r.seq) refl up.1 (up_from p (r.seq + 1) rs up.1)
 
+-- If the numbers of records rise from `p` on, all of them are from `p` on.
 pub all_from : (p : ℕ) (rs : List Logged) → IsUp p rs → from p rs ≡ rs
 all_from p [] up = refl
 all_from p (r ∷ rs) up =
@@ -69,7 +75,8 @@ part_head p r rs bs true le up above rest =
     (sym (is_above place r.seq (omega arith)))
 part_head p r rs bs false le up above rest = sym (all_from p (r ∷ rs) (le, up))
 
--- A batch and the records from the place after it on are all records.
+-- If the numbers of records rise from `p` on, they are a batch from their front, and then the records from the position
+-- after it on.
 pub parts : (limit room p : ℕ) (rs : List Logged) → IsUp p rs
     → rs ≡ beginning limit room rs ++ from (place_after p (numbers_of (beginning limit room rs))) rs
 parts zero room p rs up = sym (all_from p rs up)
@@ -93,18 +100,21 @@ from_twice p place [] le = refl
 from_twice p place (r ∷ rs) le =
     twice_head p place r rs le (nat_le p r.seq) (nat_le place r.seq) refl refl (from_twice p place rs le)
 
--- If no record is trimmed, the records that are left are those from a number on.
+-- If no record is trimmed, the records that are left from a position on are all records from this position on.
 pub left_all : (floor p : ℕ) (rs : List Logged) → AreAbove floor rs → left_among floor p rs ≡ from p rs
 left_all floor p [] are = refl
 left_all floor p (r ∷ rs) are =
     ap (λ b. cond (not b && nat_le p r.seq) (r ∷ left_among floor p rs) (left_among floor p rs)) are.0
     ∙ ap (λ xs. cond (nat_le p r.seq) (r ∷ xs) xs) (left_all floor p rs are.1)
 
--- ---- If a read comes no further, nothing is left
+-- ---- If a read doesn't move the position on, nothing is left
 
+-- If all records have bounded sizes, so have those from `p` on.
 pub sized_from : (p : ℕ) (rs : List Logged) → AreSized rs → AreSized (from p rs)
 sized_from p rs are = all_filter IsSized (λ (r : Logged). nat_le p r.seq) rs are
 
+-- If a batch of at least one record from the front of the records doesn't move the position `p` on, there are no
+-- records. A record always fits into a batch.
 pub stuck : (limit p : ℕ) (rs : List Logged) → IsUp p rs → AreSized rs
     → nat_lt p (place_after p (numbers_of (beginning (suc limit) 10485760 rs))) ≡ false → rs ≡ []
 stuck limit p [] up are is = refl
@@ -121,12 +131,14 @@ stuck limit p (r ∷ rs) up are is =
         no : (p q : ℕ) → p < q → nat_lt p q ≡ false → ⊥
         no p q below h = grind (arith, nat_tests)
 
--- ---- Counts
+-- ---- Payload bytes
 
+-- Two lists of records have as many payload bytes together as each for itself.
 pub bytes_append : (xs ys : List Logged) → bytes_of (xs ++ ys) ≡ bytes_of xs + bytes_of ys
 bytes_append [] ys = omega arith
 bytes_append (x ∷ xs) ys = let n = bytes_append xs ys in omega arith
 
+-- A record keeps its payload bytes in an answer of the service.
 pub bytes_stored : (rs : List Logged) → bytes_of (map logged (map stored rs)) ≡ bytes_of rs
 bytes_stored [] = refl
 bytes_stored (r ∷ rs) = let n = bytes_stored rs in omega arith

@@ -1,4 +1,5 @@
--- After one more read, what is counted and what is left are still all records.
+-- After each read of a shard, the records counted so far and those that are left make up all records of the shard
+-- (`GoesOn`).
 use Rattle.std.proofs.Common.{◌≡◌, ℕ, ◌+◌, ◌*◌, ◌<◌, ◌≤◌, ◌^◌, Bool, true, false, List, [], ◌∷◌, ◌++◌, length, map}
 use Rattle.std.proofs.Common.{Option, Some, None, refl, sym, ap, subst, ◌∙◌, arith}
 use Rattle.std.specs.Prelude.{not, nat_lt, if◌then◌else◌, Result, Ok}
@@ -30,35 +31,43 @@ use Rattle.kcl_drill_summary.proofs.BatchLemmas.{AreSized, IsUp, from, up_from, 
 use Rattle.kcl_drill_summary.proofs.BatchLemmas.{sized_from, stuck, up_weaker, all_from}
 use Rattle.kcl_drill_summary.proofs.BatchLemmas.{bytes_append, bytes_stored}
 
--- ---- What holds of the records of each shard
+-- ---- Facts about the records of each shard
 
+-- If sequence numbers rise from `p` on and stay below `q`, they rise from `p` on (`IsUp`).
 pub up_rising : (p : ℕ) (rs : List Logged) (q : ℕ) → RiseBetween p rs q → IsUp p rs
 up_rising p [] q is = tt
 up_rising p (r ∷ rs) q is = (is.0, up_rising (r.seq + 1) rs q is.1)
 
+-- The sequence numbers of a shard's records rise.
 up_drawn : (log : Journal) (s sh : ℕ) → AreDrawn log s sh → IsUp 0 (records log s sh)
 up_drawn log s sh is = up_weaker 0 (start_of (shard_at log s sh)) (records log s sh) (omega arith) (up_rising _ _ _ is)
 
+-- If sequence numbers rise from `p` on and stay below `q`, there are at most as many records as numbers between them.
 few_between : (p : ℕ) (rs : List Logged) (q : ℕ) → RiseBetween p rs q → p + length rs ≤ q
 few_between p [] q is = omega arith
 few_between p (r ∷ rs) q is = let n = few_between (r.seq + 1) rs q is.1 in omega (arith, n, is.0)
 
+-- Records of bounded sizes have at most 10,485,760 payload bytes for each of them.
 pub bytes_few : (rs : List Logged) → AreSized rs → bytes_of rs ≤ 10485760 * length rs
 bytes_few [] are = omega arith
 bytes_few (r ∷ rs) are = let n = bytes_few rs are.1 in omega (arith, n, are.0.0, are.0.1)
 
+-- A shard that can be counted has fewer than 2^64 records.
 few_records : (log : Journal) (c s sh : ℕ) → CanCount log c s sh → length (records log s sh) < 2 ^ 64
 few_records log c s sh can = let n = few_between _ _ _ can.drawn in omega (arith, n, can.fits)
 
+-- The records of a shard that can be counted have fewer than 2^128 payload bytes.
 few_bytes : (log : Journal) (c s sh : ℕ) → CanCount log c s sh → bytes_of (records log s sh) < 2 ^ 128
 few_bytes log c s sh can = let n = few_records log c s sh can in let m = bytes_few (records log s sh) can.sized in
     omega arith
 
--- ---- The answer
+-- ---- The answer to GetRecords
 
 young : (c issued : ℕ) → issued ≡ c → is_old c issued ≡ false
 young c issued is = grind (arith, nat_tests)
 
+-- If the shard of an iterator can be counted, and the iterator was made at this clock, GetRecords answers with the
+-- batch at its position.
 pub replied : (log : Journal) (c : ℕ) (iter : Iter) (limit : ℕ) → CanCount log c iter.stream iter.shard
     → iter ≡ iterator_at c iter.stream iter.shard iter.position →
     get_records log c iter limit
@@ -69,8 +78,9 @@ replied log c iter limit can is =
     ∙ passed_if refusal.NoStream (not (is_live log iter.stream)) _ (ap not can.live)
     ∙ passed_if refusal.NoShard (not (is_listed log c iter.stream iter.shard)) _ (ap not can.listed)
 
--- ---- What is left
+-- ---- The records that are left
 
+-- The records of such a shard that are left from a position on are all its records from this position on.
 pub left_is : (log : Journal) (c s sh p : ℕ) → CanCount log c s sh → left_from log c s sh p ≡ from p (records log s sh)
 left_is log c s sh p can =
     ap (λ b. if b then left_among (trim_floor log c s) p (records log s sh) else []) can.live
@@ -80,17 +90,22 @@ none_so : (rs : List Logged) → are_none rs ≡ true → rs ≡ []
 none_so [] is = refl
 none_so (r ∷ rs) is = absurd cc
 
--- ---- The sums
+-- ---- The counts
 
+-- `new` is the sum of `old` and `more`, if this sum is below `bound`.
 abbrev Adds : ℕ → ℕ → ℕ → ℕ → Type 0
 Adds bound old more new = old + more < bound → new ≡ old + more
 
+-- If `old`, `more` and `rest` make up `all`, which is below the bound, and `more` was added to `old`, then the new
+-- count and `rest` make up `all`.
 total : (bound old more rest all new : ℕ) → old + (more + rest) ≡ all → all < bound → Adds bound old more new
     → new + rest ≡ all
 total bound old more rest all new is few adds =
     let n = adds (omega arith) in
     omega arith
 
+-- If the counts and the records `ls` that are left make up all records, they still do after the first ones of `ls`,
+-- `bs`, were counted too. `rest` is then left.
 pub counts_on : (count bytes count' bytes' : ℕ) (ls bs rest all : List Logged) → CountsTo count bytes ls all
     → ls ≡ bs ++ rest → length all < 2 ^ 64 → bytes_of all < 2 ^ 128
     → Adds (2 ^ 64) count (length (map stored bs)) count'
@@ -104,6 +119,7 @@ counts_on count bytes count' bytes' ls bs rest all counts are few few_bytes adds
       (subst (λ n. Adds (2 ^ 128) bytes n bytes') (bytes_stored bs) adds_bytes);
 }
 
+-- If nothing is left, the counts are those of all records.
 all_counted : (count bytes : ℕ) (rest all : List Logged) → rest ≡ [] → CountsTo count bytes rest all
     → (count ≡ length all) × (bytes ≡ bytes_of all)
 all_counted count bytes rest all none counts = (
@@ -114,7 +130,7 @@ all_counted count bytes rest all none counts = (
     zeros : (n m k : ℕ) → m ≡ 0 → n + m ≡ k → n ≡ k
     zeros n m k is so = omega arith
 
--- ---- A read
+-- ---- One read
 
 ended : (log : Journal) (c s sh p place count bytes count' bytes' : ℕ) (next' : Option Iter) → CanCount log c s sh
     → ends_at log c s sh place ≡ true → CountsTo count' bytes' (from place (records log s sh)) (records log s sh)
@@ -139,6 +155,8 @@ goes_on log c s sh p place count' bytes' next' false can above stops counts is =
     subst (GoesOn log c s sh count' bytes') (sym is)
     (all_counted count' bytes' (from place (records log s sh)) (records log s sh) (stops above) counts)
 
+-- After one more GetRecords whose batch was counted (`Absorbs`), the counts and what is left still make up all records
+-- of the shard (`GoesOn`).
 pub read_on : (log : Journal) (c by : ℕ) (iter : Iter) (count bytes count' bytes' : ℕ) (next' : Option Iter)
     (a : Result Reply Refusal) → CanCount log c iter.stream iter.shard
     → GoesOn log c iter.stream iter.shard count bytes (Some iter)
@@ -196,6 +214,7 @@ read_on log c by iter count bytes count' bytes' next' a can goes is absorbs =
 
 -- ---- From the first record on
 
+-- At the iterator at the beginning of a shard that can be counted, nothing is counted, and all records are left.
 pub begins : (log : Journal) (c s sh : ℕ) (iter : Iter) → CanCount log c s sh → iter ≡ iterator_at c s sh 0
     → GoesOn log c s sh 0 0 (Some iter)
 begins log c s sh iter can is =

@@ -1,4 +1,5 @@
--- Turns that only read leave the journal as it is, and are answered as if there were no reads before them.
+-- Turns that only read leave the journal as it is. So a command after them is answered as it would be right after the
+-- history before them.
 use Rattle.std.proofs.Common.{◌≡◌, ℕ, true, List, [], ◌∷◌, ◌++◌, refl, ap, ◌∙◌, arith}
 use Rattle.std.specs.Prelude.{max, Result, Ok, Err, IfOk, OnErr}
 use Rattle.kds_defs.specs.declared.command.Command.{Command}
@@ -10,7 +11,7 @@ use Rattle.kds_defs.specs.Journal.{Journal, Line, with_lines}
 use Rattle.kds_defs.proofs.Walk.{Outcome, Refuses, Answers, Adds, Creates, walk}
 use Rattle.kcl_drill_summary.specs.Reading.{AreReads, HasRead, is_reading}
 
--- A turn that only reads adds no line.
+-- A command that only reads adds no line.
 none_by : (log : Journal) (c by : ℕ) (what : Command) (lines : List Line) (answer : Result Reply Refusal)
     → Outcome log c by what lines answer
     → is_reading what ≡ true → lines ≡ []
@@ -25,6 +26,7 @@ no_lines log c by what is = none_by log c by what _ _ (walk log c by what) is
 clocks : (m c at now : ℕ) → at ≡ now → max c now ≡ max m now → max (max c at) now ≡ max m now
 clocks m c at now is so = omega arith
 
+-- After turns that only read, the journal is the one before them, and so is the greater of the clock and their moment.
 pub leaves : (by at : ℕ) (more h : List Turn) → AreReads by at more → (journal (more ++ h) ≡ journal h)
     × (max (clock (more ++ h)) at ≡ max (clock h) at)
 leaves by at [] h are = (refl, refl)
@@ -35,9 +37,11 @@ leaves by at (turn ∷ more) h are =
       clocks (clock h) (clock (more ++ h)) turn.at at are.0.1 rest.1,
     )
 
+-- The command `what` as a turn of the actor `by` at the moment `at`.
 abbrev pub turn_of : ℕ → ℕ → Command → Turn
 turn_of by at what = record { by = by; at = at; what = what }
 
+-- The answer to a command after turns that only read is that after the history `h` before them.
 pub answer_is : (by at : ℕ) (more h : List Turn) (what : Command) → AreReads by at more
     → answer (more ++ h) (turn_of by at what) ≡ answer_of (decide (journal h) (max (clock h) at) by what)
 answer_is by at more h what are =
@@ -45,6 +49,8 @@ answer_is by at more h what are =
     ap (λ log. answer_of (decide log (max (clock (more ++ h)) at) by what)) l.0
     ∙ ap (λ c. answer_of (decide (journal h) c by what)) l.1
 
+-- If a call returned the answer to a command after turns that only read, this is the answer right after the history
+-- `h`.
 pub asked : {E : Type 0} (stands : List Turn → Type 0) (stands' : List Turn → Type 0) (by at : ℕ) (h : List Turn)
     (what : Command) (r : Result (Result Reply Refusal) E) → (has : HasRead stands by at h)
     → IfOk r (λ a. (a ≡ answer (has.more ++ h) (turn_of by at what)) × stands' (turn_of by at what ∷ (has.more ++ h)))
@@ -52,7 +58,8 @@ pub asked : {E : Type 0} (stands : List Turn → Type 0) (stands' : List Turn �
 asked stands stands' by at h what (Ok a) has is = is.0 ∙ answer_is by at has.more h what has.are
 asked stands stands' by at h what (Err e) has is = tt
 
--- Whatever came of the turn, the machine has read.
+-- If a machine has answered only turns that read since the history `h`, this is still true after one more, whether it
+-- was answered or memory ran out.
 pub has_read : {E : Type 0} (stands : List Turn → Type 0) (stands' : List Turn → Type 0) (by at : ℕ) (h : List Turn)
     (what : Command) (r : Result (Result Reply Refusal) E) → is_reading what ≡ true → (has : HasRead stands by at h)
     → IfOk r (λ a. (a ≡ answer (has.more ++ h) (turn_of by at what)) × stands' (turn_of by at what ∷ (has.more ++ h)))

@@ -1,4 +1,4 @@
--- The first row of a key among all rows is the key's row.
+-- The first row with a key among all rows of the journal (`rows`) is the row of this key (`row`).
 use Rattle.std.proofs.Common.{◌≡◌, ◌+◌, Bool, true, false, List, [], ◌∷◌, Option, Some, None, refl, sym, ap, ◌∙◌}
 use Rattle.std.specs.Prelude.{cond, ◌||◌, if◌then◌else◌}
 use Rattle.std.specs.Option.{option_map}
@@ -18,7 +18,7 @@ mapped : (f : Row → Row) (o : Option Row) (y : Row) → option_map f o ≡ Som
 mapped f None y h = absurd cc
 mapped f (Some x) y h = (x, refl, cc)
 
--- ---- A row has its key
+-- ---- The row of a key has this key
 
 changed : (f : Row → Row) (b : Bool) (o : Option Row) (key : ShardRef) (r : Row) → ((x : Row) → (f x).key ≡ x.key)
     → ((x : Row) → o ≡ Some x → x.key ≡ key) → (if b then option_map f o else o) ≡ Some r → r.key ≡ key
@@ -36,6 +36,7 @@ cut : (b : Bool) (o : Option Row) (key : ShardRef) (r : Row) → ((x : Row) → 
 cut true o key r old there = absurd cc
 cut false o key r old there = old r there
 
+-- If a row has its key before a line, the row after the line has it too.
 keyed_after : (log : Journal) (line : Line) (e : Entry) (key : ShardRef) (o : Option Row) (r : Row)
     → ((x : Row) → o ≡ Some x → x.key ≡ key) → row_after log line e key o ≡ Some r → r.key ≡ key
 keyed_after log line (entry.LeaseMade k from) key o r old there =
@@ -51,16 +52,19 @@ keyed_after log line (entry.Marked tenure counter to) key o r old there =
     changed (marked_row to) (is_key (key_of log tenure) key) o key r (λ x. refl) old there
 keyed_after log line _ key o r old there = old r there
 
+-- The row of a key has this key.
 keyed : (log : Journal) (key : ShardRef) (r : Row) → row log key ≡ Some r → r.key ≡ key
 keyed [] key r there = absurd cc
 keyed (line ∷ log) key r there = keyed_after log line line.what key (row log key) r (keyed log key) there
 
--- ---- Among the keys
+-- ---- The key of a row is among the keys of all rows
 
+-- Whether the key is one of the keys in the list.
 abbrev is_in : ShardRef → List ShardRef → Bool
 is_in key [] = false
 is_in key (k ∷ ks) = same_key k key || is_in key ks
 
+-- The key is in the list with `k` added exactly if it is `k` or was in the list.
 in_with : (key k : ShardRef) (ks : List ShardRef) → is_in key (with_key k ks) ≡ (same_key k key || is_in key ks)
 in_with key k [] = refl
 in_with key k (j ∷ ks) = either (is_before k j) (in_with key k ks)
@@ -75,6 +79,7 @@ in_with key k (j ∷ ks) = either (is_before k j) (in_with key k ks)
     either true rest = refl
     either false rest = ap (λ b. same_key j key || b) rest ∙ swap (same_key j key) (same_key k key) (is_in key ks)
 
+-- A key other than `k` that is in the list is still in it after `k` was taken out.
 in_without : (key k : ShardRef) (ks : List ShardRef) → same_key k key ≡ false → is_in key ks ≡ true
     → is_in key (without_key k ks) ≡ true
 in_without key k [] other is = absurd cc
@@ -118,11 +123,12 @@ in_by log line (entry.Marked tenure counter to) key o r ks so there =
     some_if (marked_row to) o (is_key (key_of log tenure) key) r _ so there
 in_by log line _ key o r ks so there = so r there
 
+-- If a key has a row, it is among the keys of all rows.
 in_keys : (log : Journal) (key : ShardRef) (r : Row) → row log key ≡ Some r → is_in key (row_keys log) ≡ true
 in_keys [] key r there = absurd cc
 in_keys (line ∷ log) key r there = in_by log line line.what key (row log key) r (row_keys log) (in_keys log key) there
 
--- ---- The first row
+-- ---- The first row with the key
 
 none_either : (b : Bool) (o : Option Row) → o ≡ None → (if b then o else None) ≡ o
 none_either true o is = refl
@@ -142,6 +148,8 @@ first_head log k key ks (Some r) false is same rest =
     let has : same_key r.key key ≡ false = ap (λ j. same_key j key) (keyed log k r is) ∙ same in
     ap (λ b. cond b (Some r) (row_in (rows_at log ks) key)) has ∙ rest
 
+-- The first of the rows of the keys `ks` that has the key `key` is the row of this key, if the key is among `ks`.
+-- Otherwise there is none.
 first_among : (log : Journal) (ks : List ShardRef) (key : ShardRef)
     → row_in (rows_at log ks) key ≡ (if is_in key ks then row log key else None)
 first_among log [] key = refl

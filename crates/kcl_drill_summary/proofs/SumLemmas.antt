@@ -1,4 +1,5 @@
--- What is told of the shards of a drill is its summary.
+-- The entries that the code makes for the shards of the drill's stream, one key after another, are what the summary
+-- says of these shards.
 use Rattle.std.proofs.Common.{◌≡◌, ℕ, ◌+◌, ◌<◌, zero, suc, arith, Bool, true, false, List, [], ◌∷◌, ◌++◌, length, map}
 use Rattle.std.proofs.Common.{drop, get_or, Option, Some, None, refl, sym, ap, subst, ◌∙◌}
 use Rattle.std.specs.Prelude.{◌==◌, cond}
@@ -17,12 +18,14 @@ use Rattle.kcl_drill_summary.specs.declared.counting.Count.{Count}
 use Rattle.kcl_drill_summary.specs.Counting.{CountsKey, of_stream, row_in, summed_key, told_of}
 use Rattle.kcl_drill_summary.proofs.RowLookups.{row_found}
 
+-- What is true of each element of a list is true of the element at the index `i`.
 pub all_at : {A : Type 0} (P : A → Type 0) (xs : List A) (i : ℕ) (x : A) → i < length xs → x ≡ get_or xs i x
     → AllByRecursion P xs → P x
 all_at P [] i x below is h = absurd (omega arith)
 all_at P (y ∷ ys) zero x below is h = subst P (sym is) h.0
 all_at P (y ∷ ys) (suc i) x below is h = all_at P ys i x (omega arith) is h.1
 
+-- The entry of a summary for the shard `n`.
 abbrev sum : ℕ → ℕ → ℕ → Checkpoint → Summed
 sum n count bytes at = record { no = n; count = count; bytes = bytes; checkpoint = at }
 
@@ -30,13 +33,16 @@ same_sum : (n count count' bytes bytes' : ℕ) (at at' : Checkpoint) → count �
     → sum n count bytes at ≡ sum n count' bytes' at'
 same_sum n count count' bytes bytes' at at' p q r = λ i. record { no = n; count = p i; bytes = q i; checkpoint = r i }
 
--- What is told of the first key: its sum, if the key is of the stream.
+-- What the summary says of the shard of the key, as a list, if the key belongs to the stream `s`. Otherwise it is
+-- empty.
 abbrev first_of : Journal → ℕ → ShardRef → List Summed
 first_of log s key = map (summed_key log) (of_stream s (key ∷ []))
 
 same_stream : (a b : ℕ) → (a == b) ≡ true → b ≡ a
 same_stream a b h = grind (arith, nat_tests)
 
+-- If `found` is the right count for the key (`CountsKey`), and `at` is the checkpoint of the key's row, then the code
+-- makes the entry that the summary has for this key (`first_of`).
 pub told_is : (log : Journal) (s : ℕ) (key : ShardRef) (among : List Row) (found : Option Count) (at : Checkpoint)
     → among ≡ rows log → CountsKey log s key found → at ≡ checkpoint_in (row_in among key)
     → told_of key found at ≡ first_of log s key
@@ -49,6 +55,7 @@ told_is log s key among (Some n) at are counts is =
     (is ∙ ap (λ xs. checkpoint_in (row_in xs key)) are ∙ ap checkpoint_in (row_found log key)))
     ∙ ap (λ b. map (summed_key log) (cond b (key ∷ []) [])) (sym counts.0)
 
+-- What the summary says of some keys is what it says of the first one, and then of the others.
 first_rest : (log : Journal) (s : ℕ) (key : ShardRef) (keys : List ShardRef)
     → map (summed_key log) (of_stream s (key ∷ keys)) ≡ first_of log s key ++ map (summed_key log) (of_stream s keys)
 first_rest log s key keys = either (key.stream == s)
@@ -58,6 +65,8 @@ first_rest log s key keys = either (key.stream == s)
     either true = refl
     either false = refl
 
+-- `so_far` are the entries of the keys before the index `i`. With the entry of the key at `i`, they are `now`. These
+-- and what the summary says of the keys after it are still all that the summary says.
 pub told_more : (log : Journal) (s : ℕ) (so_far now : List Summed) (keys : List ShardRef) (i : ℕ) (key : ShardRef)
     (found : Option Count) (at : Checkpoint) → i < length keys → key ≡ get_or keys i key
     → told_of key found at ≡ first_of log s key → now ≡ so_far ++ told_of key found at

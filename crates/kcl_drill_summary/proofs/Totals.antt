@@ -1,4 +1,5 @@
--- The shards of a stream have together fewer records than the stream's next number.
+-- The shards of a stream have fewer records together than the stream's next sequence number, so their total fits into
+-- 64 bits.
 use Rattle.std.proofs.Common.{◌≡◌, ℕ, ◌+◌, ◌*◌, ◌<◌, ◌≤◌, ◌^◌, Bool, true, false, List, [], ◌∷◌, ◌++◌, length, refl, ap}
 use Rattle.std.proofs.Common.{arith}
 use Rattle.std.specs.Prelude.{◌==◌, ◌&&◌, if◌then◌else◌}
@@ -14,28 +15,32 @@ use Rattle.kcl_drill.specs.Summed.{bytes_of}
 use Rattle.kcl_drill_summary.proofs.BatchLemmas.{AreSized}
 use Rattle.kcl_drill_summary.proofs.CountLemmas.{bytes_few}
 
--- The number of records of the shards.
+-- The number of records of these shards of the stream `s` together.
 abbrev pub records_in : Journal → ℕ → List ℕ → ℕ
 records_in log s [] = 0
 records_in log s (sh ∷ shs) = length (records log s sh) + records_in log s shs
 
+-- The number of payload bytes of these shards of the stream `s` together.
 abbrev pub bytes_in : Journal → ℕ → List ℕ → ℕ
 bytes_in log s [] = 0
 bytes_in log s (sh ∷ shs) = bytes_of (records log s sh) + bytes_in log s shs
 
--- ---- One more line
+-- ---- After one more line
 
--- The sum of a function over a list of numbers.
+-- The sum of the values of `f` over a list of numbers.
 abbrev sums : (ℕ → ℕ) → List ℕ → ℕ
 sums f [] = 0
 sums f (x ∷ xs) = f x + sums f xs
 
+-- The number 1 for true, and 0 for false.
 abbrev bit : Bool → ℕ
 bit b = if b then 1 else 0
 
+-- The number 1 if `n` is the shard `sh`, and 0 otherwise.
 abbrev one_at : ℕ → ℕ → ℕ
 one_at sh n = bit (sh == n)
 
+-- If `g` is `f` plus 1 at `sh` alone, and `sh` is below all numbers of the list, both have the same sum over it.
 none_above : (f g : ℕ → ℕ) (sh m : ℕ) (xs : List ℕ) → sh < m → RiseFrom m xs → ((n : ℕ) → g n ≡ f n + one_at sh n)
     → sums g xs ≡ sums f xs
 none_above f g sh m [] below rise is = refl
@@ -50,6 +55,8 @@ none_above f g sh m (x ∷ xs) below rise is =
     apart : sh < x → one_at sh x ≡ 0
     apart h = ap bit (other h)
 
+-- If `g` is `f` plus 1 at `sh` alone, and the numbers of the list rise, the sum of `g` is at most 1 more than that of
+-- `f`.
 one_more : (f g : ℕ → ℕ) (sh m : ℕ) (xs : List ℕ) → RiseFrom m xs → ((n : ℕ) → g n ≡ f n + one_at sh n)
     → sums g xs ≤ sums f xs + 1
 one_more f g sh m [] rise is = omega arith
@@ -72,6 +79,7 @@ lengths_if : (b : Bool) (before : List Logged) (r : Logged) → length (if b the
 lengths_if true before r = length-append before (r ∷ [])
 lengths_if false before r = omega arith
 
+-- A line adds to the records of these shards together at most as many as it takes sequence numbers of the stream.
 more_by : (line : Line) (log : Journal) (e : Entry) (s m : ℕ) (shs : List ℕ) → RiseFrom m shs
     → sums (λ sh. length (records_after line e s sh (records log s sh))) shs ≤ draws e s
     + sums (λ sh. length (records log s sh)) shs
@@ -101,18 +109,21 @@ none_yet : (s : ℕ) (shs : List ℕ) → sums (λ sh. length (records [] s sh))
 none_yet s [] = refl
 none_yet s (sh ∷ shs) = let rest = none_yet s shs in omega arith
 
+-- The shards of a stream have fewer records together than the stream's next sequence number.
 below_next : (log : Journal) (s m : ℕ) (shs : List ℕ) → RiseFrom m shs
     → sums (λ sh. length (records log s sh)) shs < next_number log s
 below_next [] s m shs rise = omega (arith, none_yet s shs)
 below_next (line ∷ log) s m shs rise =
     omega (arith, more_by line log line.what s m shs rise, below_next log s m shs rise)
 
+-- If the next sequence number is at most the last number, these shards have fewer than 2^64 records together.
 pub few_in : (log : Journal) (s m : ℕ) (shs : List ℕ) → next_number log s ≤ last_number → RiseFrom m shs
     → records_in log s shs < 2 ^ 64
 few_in log s m shs fits rise = omega (arith, in_sums log s shs, below_next log s m shs rise, fits)
 
--- ---- Bytes
+-- ---- Payload bytes
 
+-- The records of these shards have together at most 10,485,760 payload bytes for each record.
 pub few_bytes_in : (log : Journal) (s : ℕ) (shs : List ℕ) → ((sh : ℕ) → AreSized (records log s sh))
     → bytes_in log s shs ≤ 10485760 * records_in log s shs
 few_bytes_in log s [] sized = omega arith

@@ -1,4 +1,5 @@
--- What is counted of a shard, and what is told of all shards.
+-- How the records of a shard are counted, read by read, and how the counts of all shards make up the summary of a
+-- drill.
 use Rattle.std.specs.Prelude.{ℕ, ◌≡◌, ◌+◌, ◌<◌, ◌≤◌, ◌^◌, ◌==◌, true, false, nat_lt, if◌then◌else◌, List, [], ◌∷◌}
 use Rattle.std.specs.Prelude.{length, Option, Some, None, Result, Ok}
 use Rattle.std.specs.List.{AllByRecursion, filter, find}
@@ -25,21 +26,25 @@ use Rattle.kcl_drill.specs.Generated.{drill_name}
 use Rattle.kcl_drill.specs.Summed.{Summed, summed, sum_of, bytes_of}
 use Rattle.kcl_drill_summary.specs.declared.counting.Count.{Count}
 
--- `count` records with `bytes` payload bytes, together with the records `rest`, are all the records.
+-- The counts `count` and `bytes` are right so far: with the number and the payload bytes of the records `rest`, which
+-- aren't counted yet, they are those of the records `all`.
 pub record CountsTo (count bytes : ℕ) (rest all : List Logged) : Type 0 where
   pub records : count + length rest ≡ length all
   pub payload : bytes + bytes_of rest ≡ bytes_of all
 
--- The iterator where reading goes on, if it is above the position `position`.
+-- The iterator `next` from which reading goes on, if there is one and its position is above `position`. Otherwise None,
+-- so that reading ends.
 abbrev pub next_above : ℕ → Option Iter → Option Iter
 next_above position None = None
 next_above position (Some next) = if nat_lt position next.position then Some next else None
 
--- The records arrived at or above the floor.
+-- Each of the records arrived at or above the floor, so none is trimmed.
 abbrev pub AreAbove : ℕ → List Logged → Type 0
 AreAbove floor rs = AllByRecursion (λ (r : Logged). nat_lt r.arrival floor ≡ false) rs
 
--- The shard is listed, and nothing of it is trimmed. The other parts hold for each shard in a history.
+-- The records of the shard `sh` of the stream `s` can be counted at the clock `c`: the stream is live, the shard is
+-- listed, and none of its records is trimmed. Their sequence numbers rise and are at most the last number, and their
+-- sizes are bounded.
 pub record CanCount (log : Journal) (c s sh : ℕ) : Type 0 where
   pub live : is_live log s ≡ true
   pub listed : is_listed log c s sh ≡ true
@@ -48,49 +53,54 @@ pub record CanCount (log : Journal) (c s sh : ℕ) : Type 0 where
   pub fits : next_number log s ≤ last_number
   pub sized : AllByRecursion IsSized (records log s sh)
 
--- Where reading of a shard goes on after `count` records with `bytes` payload bytes. The records from there on are
--- left, and none is left if reading goes on nowhere.
+-- Reading the shard `sh` of the stream `s` goes on at the iterator `next`, after `count` records with `bytes` payload
+-- bytes. These and the records that are left from `next` on make up all records of the shard (`CountsTo`). Without an
+-- iterator (None), the counts are those of all records of the shard.
 abbrev pub GoesOn : Journal → ℕ → ℕ → ℕ → ℕ → ℕ → Option Iter → Type 0
 GoesOn log c s sh count bytes None = (count ≡ length (records log s sh)) × (bytes ≡ bytes_of (records log s sh))
 GoesOn log c s sh count bytes (Some next) =
     (next ≡ iterator_at c s sh next.position)
     × CountsTo count bytes (left_from log c s sh next.position) (records log s sh)
 
--- The iterator of an answer, if it is of the stream `s`.
+-- The iterator in the answer to GetShardIterator, if the answer has one and it is one of the stream `s`.
 abbrev pub iterator_in : Result Reply Refusal → ℕ → Option Iter
 iterator_in (Ok (reply.Iterator iter)) s = if iter.stream == s then Some iter else None
 iterator_in _ s = None
 
--- The count is that of the key's shard, and there is one exactly if the key is of the stream `s`.
+-- What was counted for the key is right. If the key belongs to the stream `s`, the count is that of the records of its
+-- shard and of their payload bytes. If it doesn't, there is no count (None).
 abbrev pub CountsKey : Journal → ℕ → ShardRef → Option Count → Type 0
 CountsKey log s key None = (key.stream == s) ≡ false
 CountsKey log s key (Some n) =
     ((key.stream == s) ≡ true) × (n.count ≡ length (records log s key.shard))
     × (n.bytes ≡ bytes_of (records log s key.shard))
 
--- Each of the keys that is of the stream `s` can be counted.
+-- The records of the shard of each key that belongs to the stream `s` can be counted (`CanCount`).
 abbrev pub AreCountable : Journal → ℕ → ℕ → List ShardRef → Type 0
 AreCountable log c s keys =
     AllByRecursion (λ (key : ShardRef). (key.stream == s) ≡ true → CanCount log c s key.shard) keys
 
--- The keys that are of the stream `s`.
+-- Those of the keys that belong to the stream `s`.
 abbrev pub of_stream : ℕ → List ShardRef → List ShardRef
 of_stream s keys = filter (λ (key : ShardRef). key.stream == s) keys
 
--- What is told of the shard with a key.
+-- What a summary says of the shard of the key: its number, the counts of its records and payload bytes, and the
+-- checkpoint of its row.
 abbrev pub summed_key : Journal → ShardRef → Summed
 summed_key log key = summed key.shard (records log key.stream key.shard) (checkpoint_in (row log key))
 
--- A shard is told with its count and its checkpoint, if it was counted.
+-- The entry of a summary that the code makes for the shard of the key, as a list: the count `n` with the checkpoint
+-- `at`, or nothing if the shard wasn't counted.
 abbrev pub told_of : ShardRef → Option Count → Checkpoint → List Summed
 told_of key None at = []
 told_of key (Some n) at = record { no = key.shard; count = n.count; bytes = n.bytes; checkpoint = at } ∷ []
 
--- The sums over the shards are below 2^128.
+-- For all shards of the summary together, the number of records and the number of payload bytes are below 2^128.
 abbrev pub AreFew : List Summed → Type 0
 AreFew xs = (sum_of (λ x. x.count) xs < 2 ^ 128) × (sum_of (λ x. x.bytes) xs < 2 ^ 128)
 
--- The drill's stream is live, and nothing of it is trimmed.
+-- The history `h` is lawful, and after it the drill's stream is live (it is `stream`). At the clock `c`, none of its
+-- records is trimmed.
 pub record CanSum (h : List Turn) (c : ℕ) : Type 0 where
   pub lawful : IsHistory h
   pub stream : ℕ

@@ -1,4 +1,6 @@
--- What the steps of a summary promise for any machine.
+-- What each step of a summary does on any machine. `stands` says which histories the machine stands for before the
+-- step. The actor of all commands is `by`, and their moment is `at`. A step promises nothing if memory runs out, so
+-- that `result` is an error.
 use Rattle.std.specs.Prelude.{ℕ, ◌≡◌, ◌+◌, ◌<◌, ◌^◌, ◌==◌, true, max, List, length, map, Option, Some, Result, Ok, IfOk}
 use Rattle.kds_base.specs.declared.lease_key.ShardRef.{ShardRef}
 use Rattle.kds_defs.specs.declared.command.Turn.{Turn}
@@ -22,7 +24,9 @@ use Rattle.kcl_drill_summary.specs.Counting.{AreCountable, CanCount, CountsKey, 
 use Rattle.kcl_drill_summary.specs.Counting.{summed_key}
 use Rattle.kcl_drill_summary.specs.Reading.{HasRead}
 
--- What a batch makes of a count, and where reading goes on.
+-- `a` is the answer to a read at `position`. If it has a batch, `count'` and `bytes'` are the counts with the batch
+-- added, as long as these sums are below 2^64 and 2^128. `next'` is the iterator from which reading goes on
+-- (`next_above`).
 abbrev pub Absorbs : ℕ → ℕ → ℕ → Result Reply Refusal → ℕ → ℕ → Option Iter → Type 0
 Absorbs count bytes position a count' bytes' next' =
     (batch : List Stored) (next : Option Iter) (behind : ℕ) (children : List Shard)
@@ -31,7 +35,9 @@ Absorbs count bytes position a count' bytes' next' =
     × (bytes + bytes_of (map logged batch) < 2 ^ 128 → bytes' ≡ bytes + bytes_of (map logged batch))
     × (next' ≡ next_above position next)
 
--- After one more read, what is counted and what is left are still all the records of the iterator's shard.
+-- The step reads once from the iterator `iter`, after `count` was counted. If the counts and what is left from `iter`
+-- on make up all records of the shard (`GoesOn`), the new counts and what is left still do. `result` has them, and the
+-- iterator from which reading goes on.
 abbrev pub ReadsOn : {E : Type 0} → (List Turn → Type 0) → ℕ → ℕ → Iter → Count → Result (Count × Option Iter) E
     → Type 0
 ReadsOn stands by at iter count result =
@@ -39,7 +45,8 @@ ReadsOn stands by at iter count result =
     → GoesOn (journal h) (max (clock h) at) iter.stream iter.shard count.count count.bytes (Some iter)
     → IfOk result (λ r. GoesOn (journal h) (max (clock h) at) iter.stream iter.shard r.0.count r.0.bytes r.1)
 
--- From the beginning of a shard on, all its records and their payload bytes are counted.
+-- The step counts a shard, if the iterator `from` is at its beginning and its records can be counted. `result` has the
+-- number of all its records and of their payload bytes.
 abbrev pub CountsFrom : {E : Type 0} → (List Turn → Type 0) → ℕ → ℕ → Iter → Result Count E → Type 0
 CountsFrom stands by at from result =
     (h : List Turn) → HasRead stands by at h → CanCount (journal h) (max (clock h) at) from.stream from.shard
@@ -47,15 +54,16 @@ CountsFrom stands by at from result =
     → IfOk result (λ n. (n.count ≡ length (records (journal h) from.stream from.shard))
     × (n.bytes ≡ bytes_of (records (journal h) from.stream from.shard)))
 
--- The shard of a key is counted if the key is of the drill's stream.
+-- The step counts the shard of the key, if the key belongs to the drill's stream. `result` has its count (`CountsKey`).
+-- If the key belongs to another stream, it has none.
 abbrev pub FindsCount : {E : Type 0} → (List Turn → Type 0) → ℕ → ℕ → ShardRef → Result (Option Count) E → Type 0
 FindsCount stands by at key result =
     (h : List Turn) (s : ℕ) → HasRead stands by at h → stream_named (journal h) drill_name ≡ Some s
     → ((key.stream == s) ≡ true → CanCount (journal h) (max (clock h) at) s key.shard)
     → IfOk result (λ found. CountsKey (journal h) s key found)
 
--- The machine has read, `among` are all rows, and the shards of those keys that are of the drill's stream can be
--- counted.
+-- The summary of the drill's stream, `s`, can be made from the history `h`: the machine has only read since `h`,
+-- `among` are all rows after it, and the shards of those `keys` that belong to `s` can be counted.
 pub record CanTell (stands : List Turn → Type 0) (by at : ℕ) (h : List Turn) (s : ℕ) (keys : List ShardRef)
     (among : List Row) : Type 0 where
   pub read : HasRead stands by at h
@@ -63,6 +71,6 @@ pub record CanTell (stands : List Turn → Type 0) (by at : ℕ) (h : List Turn)
   pub named : stream_named (journal h) drill_name ≡ Some s
   pub countable : AreCountable (journal h) (max (clock h) at) s keys
 
--- What is told are the shards of those keys that are of the stream `s`.
+-- `xs` is what the summary says of the shards of those keys that belong to the stream `s`, in the order of the keys.
 abbrev pub IsTold : Journal → ℕ → List ShardRef → List Summed → Type 0
 IsTold log s keys xs = xs ≡ map (summed_key log) (of_stream s keys)

@@ -1,4 +1,5 @@
--- The turns of a root and of a feeder.
+-- The turns of a drill's root and feeder. The root makes the generator's first command as its only turn, and the feeder
+-- makes the others, one after another.
 use Rattle.std.proofs.Common.{◌≡◌, ◌⊎◌, inl, inr, ℕ, ◌<◌, Bool, true, false, List, [], ◌∷◌, ◌++◌, length, refl, sym, ap}
 use Rattle.std.proofs.Common.{subst, ◌∙◌, arith, append_assoc, Result, Ok, Err}
 use Rattle.std.specs.Prelude.{take, drop, IfErr, OnErr, OnOk}
@@ -122,7 +123,7 @@ feed_err all coming before a b e inv (inl (is, same)) =
     inl (is, subst (λ (p : Standing). (p.own ≡ []) ⊎ IsAtOwn p) (sym same) inv.last)
 feed_err all coming before a b e inv (inr is) = inr is
 
--- ---- What is then said of the whole
+-- ---- The feeder's turns as a whole
 
 pub feeds_some : (all coming : List Command) (before a b : Standing) (e : TurnErr) → IsFeeding all coming before a
     → IsKept a b → b.own ≡ a.own → IsAskErr a b e → Feeds {A = Unit {0}} all before b (Err e)
@@ -135,7 +136,7 @@ feeds_some all coming before a b e inv next own is =
       err = feed_err all coming before a b e inv is;
     }
 
--- ---- The root and the feeder
+-- ---- The root and the feeder together
 
 pub after_feeding : (root mid feeder : Standing) → IsAfter root mid → IsKept mid feeder
     → (0 < length feeder.own → turns_by feeder.by mid.seen ≡ []) → IsAfter root feeder

@@ -1,4 +1,4 @@
--- Passes that take commands one after another.
+-- A pass that makes commands one after another: what it has seen, and which of the commands it has made.
 use Rattle.std.proofs.Common.{◌≡◌, ℕ, ◌+◌, List, [], ◌∷◌, ◌++◌, length, map, refl, sym, ap, ◌∙◌, arith, length-append}
 use Rattle.std.specs.Prelude.{cond, take}
 use Rattle.std.proofs.lemmas.List.{reverse-append}
@@ -12,9 +12,9 @@ use Rattle.kds_turn.specs.Passes.{Standing}
 use Rattle.kds_turn.proofs.Turns.{continues_all, no_length}
 use Rattle.kcl_drill_threads.specs.Asking.{HasAsked, HasBegun, IsKept, turn_of, turns_of}
 
--- ---- Lists of turns of which one goes on with another
+-- ---- Turns of an actor in a history and in a longer one
 
--- An actor without turns had none before.
+-- If an actor has no turn in the history `h`, it has none in what a pass has seen of `h`.
 pub none_before : (n : ℕ) (h seen : List Turn) → Continues h seen → turns_by n h ≡ [] → turns_by n seen ≡ []
 none_before n h seen c none =
     let cut : turns_by n h ≡ turns_by n c.0 ++ turns_by n seen =
@@ -31,7 +31,7 @@ none_before_one n turn place by one =
     let count = ap length two in
     no_length (turns_by n place) (omega arith)
 
--- ---- Passes that were kept
+-- ---- A pass later
 
 pub kept_same : (p : Standing) → IsKept p p
 kept_same p = record { hall = refl; by = refl; joined = refl; seen = ([], refl) }
@@ -45,7 +45,7 @@ kept_all a b c p q =
       seen = continues_all c.seen b.seen a.seen q.seen p.seen;
     }
 
--- ---- Commands that were asked
+-- ---- The commands that a pass has made
 
 pub asked_more : (made : List Command) (what : Command) (a b : Standing) → b.by ≡ a.by → HasAsked made a
     → b.own ≡ turn_of a.by what ∷ a.own → HasAsked (made ++ what ∷ []) b

@@ -1,4 +1,5 @@
--- Passes that take a generator's commands as their turns, at moment 0. Each list of turns has the newest turn first.
+-- A pass makes the commands of a drill's generator as its turns, all at the moment 0. A pass is one thread's access to
+-- the hall. Lists of turns have the newest first.
 use Rattle.std.specs.Prelude.{◌≡◌, ◌⊎◌, ◌↔◌, ℕ, ◌+◌, ◌^◌, Bool, true, false, List, [], ◌∷◌, length, map, reverse, take}
 use Rattle.std.specs.Prelude.{Result}
 use Rattle.kds_defs.specs.declared.command.Command.{Command}
@@ -18,11 +19,11 @@ pub record IsKept (before after : Standing) : Type 0 where
   pub joined : after.joined ≡ before.joined
   pub seen : Continues after.seen before.seen
 
--- The command as a turn of the actor `by` at moment 0.
+-- The command `what` as a turn of the actor `by` at the moment 0.
 abbrev pub turn_of : ℕ → Command → Turn
 turn_of by what = record { by = by; at = 0; what = what }
 
--- The commands as turns of the actor `by` at moment 0, one after another.
+-- The commands as turns of the actor `by` at the moment 0. The last command is the newest turn, so it comes first.
 abbrev pub turns_of : ℕ → List Command → List Turn
 turns_of by commands = map (turn_of by) (reverse commands)
 

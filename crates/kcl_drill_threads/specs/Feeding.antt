@@ -1,4 +1,5 @@
--- What the passes `root` and `feeder` of a drill have done. Each list of turns has the newest turn first.
+-- What the root and the feeder of a drill have done with their passes. The root makes the stream, and the feeder gives
+-- the other commands of the generator. Lists of turns have the newest first.
 use Rattle.std.specs.Prelude.{◌≡◌, ◌⊎◌, ℕ, ◌<◌, List, [], ◌∷◌, ◌++◌, length, take, drop, Result, IfErr, OnErr, OnOk}
 use Rattle.kds_defs.specs.declared.command.Command.{Command}
 use Rattle.kds_defs.specs.declared.command.Turn.{Turn}

@@ -1,4 +1,5 @@
--- What was given in a tenure whose row a hand-off has freed is marked.
+-- If a hand-off has freed its row, everything that was given in its tenure is at or below the row's checkpoint, and
+-- isn't read again in a later tenure.
 use Rattle.std.proofs.Common.{◌≡◌, ℕ, ◌+◌, ◌≤◌, true, List, [], ◌∷◌, ◌++◌, take, drop, Option, Some, None, refl, sym}
 use Rattle.std.proofs.Common.{ap, subst, ◌∙◌, arith, inl, inr}
 use Rattle.std.proofs.Common.{append_assoc}
@@ -39,6 +40,7 @@ use Rattle.kcl_hand.proofs.Serving.{all_served, joint_ok}
 
 -- ---- The greatest of rising numbers is the last one
 
+-- The sequence numbers of the records `rs`.
 abbrev numbers : List Stored → List ℕ
 numbers rs = map (λ r. r.seq) rs
 
@@ -81,7 +83,7 @@ rise_given T rise =
     (subst (RiseFrom 0) (ap all_numbers (sym (take-append-drop T.given T.reads))
     ∙ numbers-append (given_reads T) (drop T.given T.reads)) rise)
 
--- ---- What is marked
+-- ---- What was given is marked
 
 less_up : (n q : ℕ) (c : Checkpoint) → n ≤ q → IsUpTo q c → IsUpTo n c
 less_up n q TrimHorizon le up = up
@@ -119,7 +121,7 @@ one_marked by h lawful x step lease marked T r begun own there = λ n given.
     lease begun there marked
     (subst (RiseFrom 0) done rise) (subst (IsAmong n) done (read_among n (given_reads T) given))
 
--- The tenure is the actor's.
+-- The tenure of a consumer that belongs to a tenure of the actor `by` is that of the actor.
 own_tenure : (by : ℕ) (h : List Turn) (made : Tenancy) (T : TenureState) → tenure (journal h) made.tenure ≡ Some T
     → IsOfTenure by h made → (T.by == by) ≡ true
 own_tenure by h made T begun of =
@@ -142,6 +144,8 @@ each_handed by h lawful [] ok steps served = tt
 each_handed by h lawful (x ∷ xs) ok steps served =
     (one_handed by h lawful x ok.0 steps.0 served.0, each_handed by h lawful xs ok.1 steps.1 served.1)
 
+-- Let the turns of the actor `by` be the commands of the joint record. Then for each hand-off that has freed its row,
+-- what was handed over is given, and what was given is at or below the row's checkpoint (`IsHandedOffIfFreed`).
 pub all_handed : (by : ℕ) (h : List Turn) (made : WorkerMade) (past : JointPast) → IsHistory h → AreOrderly made past
     → AreToldIn by h made past → AllByRecursion (IsHandedOffIfFreed by h) (hands_after made past)
 all_handed by h made past lawful orderly told =
@@ -178,6 +182,8 @@ each_again by h before lawful [] all = tt
 each_again by h before lawful (x ∷ xs) all =
     (one_again by h before lawful x all.0, each_again by h before lawful xs all.1)
 
+-- Let the turns of the actor `by` in `before` be the commands of the joint record. Then for each hand-off that has
+-- freed its row, what was given in its tenure isn't read in a tenure of its key that begins right after `before`.
 pub all_again : (by : ℕ) (h before : List Turn) (made : WorkerMade) (past : JointPast) → IsHistory h → IsHistory before
     → AreOrderly made past → AreToldIn by before made past
     → AllByRecursion (IsNeverReadAgain by h before) (hands_after made past)

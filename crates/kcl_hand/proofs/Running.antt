@@ -1,4 +1,4 @@
--- A hand-off that is run to its end.
+-- A hand-off that is run has ended after three commands at the latest.
 use Rattle.std.proofs.Common.{◌≡◌, ℕ, zero, suc, ◌≤◌, List, [], ◌∷◌, ◌++◌, length, Option, Some, None, refl, sym, ap}
 use Rattle.std.proofs.Common.{subst, ◌∙◌, arith}
 use Rattle.std.specs.Prelude.{IsSome, Result}
@@ -27,18 +27,22 @@ use Rattle.kcl_hand.specs.Standing.{IsGoing, IsLeaving, turns_left}
 use Rattle.kcl_hand.proofs.Handings.{answered_few, at_its_consumer, answered_leaves, called_few, called_leaves, few}
 use Rattle.kcl_hand.proofs.Handings.{freed_few, freed_goes, goes, lost_leaves, marked_few, marked_goes}
 
--- ---- The last of several hand-offs
+-- ---- The hand-off that began last
 
+-- If the hand-off `x` is added at the end, the command at its index is its own next command.
 pub command_last : (hands : List HandOff) (x : HandOff)
     → command_in (length hands) (hands ++ (x ∷ [])) ≡ hand_command x.held x.made (state_of x)
 command_last [] x = refl
 command_last (y ∷ ys) x = command_last ys x
 
+-- If the hand-off `x` is added at the end, an event at its index happens to it and to no other.
 pub event_last : (hands : List HandOff) (x : HandOff) (event : HandEvent)
     → with_hand_event (length hands) event (hands ++ (x ∷ [])) ≡ hands ++ (record x { since = event ∷ x.since } ∷ [])
 event_last [] x event = refl
 event_last (y ∷ ys) x event = ap (λ xs. y ∷ xs) (event_last ys x event)
 
+-- After a release and the events `since` of its hand-off, this hand-off is the last of all, and the others are
+-- unchanged.
 pub hands_with : (key : ShardRef) (made : WorkerMade) (past : JointPast) (r : Release)
     → released key (worker_in made past) ≡ Some r → (since : HandPast)
     → hands_after made (with_hand key since made past) ≡ hands_after made past ++ (hand_of r since ∷ [])
@@ -47,7 +51,7 @@ hands_with key made past r which (event ∷ since) =
     ap (with_hand_event (length (hands_after made past)) event) (hands_with key made past r which since)
     ∙ event_last (hands_after made past) (hand_of r since) event
 
--- The answered command of the hand-off is the newest one of the worker and its hand-offs.
+-- When the newest hand-off takes the answer to its next command, this command and its answer are added as the newest.
 pub deals_with_hand : (key : ShardRef) (made : WorkerMade) (past : JointPast) (r : Release)
     → released key (worker_in made past) ≡ Some r → (since : HandPast) (what : Command) (answer : Result Reply Refusal)
     → hand_command r.held r.known.made (state_of (hand_of r since)) ≡ Some what
@@ -60,18 +64,22 @@ deals_with_hand key made past r which since what answer is =
 
 -- ---- The hand-off ends
 
+-- A call or command of the consumer comes next in the state `s` of a hand-off exactly as long as the consumer isn't
+-- over. The consumer, whose stage is `stage`, gives its last batch, leaves or is over. At most `n` turns are left.
 pub record IsOnWay (s : HandState) (stage : Stage) (n : ℕ) : Type 0 where
   pub going : IsGoing s.stand stage
   pub leaving : IsLeaving stage
   pub few_left : turns_left s.stand stage ≤ n
 
+-- The hand-off `x` is on its way to its end, with at most `n` turns left (`IsOnWay`).
 abbrev OnWay : HandOff → ℕ → Type 0
 OnWay x n = IsOnWay (state_of x) (stage_after x.made (state_of x).past) n
 
 Q : HandOff → ℕ → HandState → Type 0
 Q x n s = IsOnWay s (stage_after x.made s.past) n × (due_call (stage_after x.made s.past) ≡ None)
 
--- The due call is made at the consumer.
+-- If a processor call is due, the hand-off is still on its way to its end after this call (`IsOnWay`), with no more
+-- turns left, and no further call is due.
 called_here : (x : HandOff) (n : ℕ) (s : HandState) → IsOnWay s (stage_after x.made s.past) n
     → IsSome (due_call (stage_after x.made s.past)) → s.stand ≡ stand.Consumer
     → Q x n (called_at x.held x.made ask.None s stand.Consumer)
@@ -99,7 +107,7 @@ called_way x n w (Some due) e =
     subst (λ k. Q x n (called_at x.held x.made ask.None (state_of x) k)) (sym at)
     (called_here x n (state_of x) w is_due at)
 
--- If no call is due and no command comes next, the hand-off has ended.
+-- If no processor call is due and no command comes next, the hand-off has ended.
 stops : (x : HandOff) (stage : Stage) (s : Stand) → IsGoing s stage → IsLeaving stage → due_call stage ≡ None
     → command_at x.held x.made stage s ≡ None → IsSome (left_at s)
 stops x (Giving reach waiting asked lost) stand.Consumer going l due none = absurd cc
@@ -110,7 +118,7 @@ stops x stage (stand.Mark q) going l due none = absurd cc
 stops x stage (stand.Free counter) going l due none = absurd cc
 stops x stage (stand.Ended left) going l due none = refl
 
--- After an answer, fewer turns are left.
+-- After the answer to the next command, the hand-off is on its way to its end with one turn less.
 answered_way : (x : HandOff) (n : ℕ) (s : HandState) (st : Stand) (what : Command) (a : Result Reply Refusal)
     → s.stand ≡ st → IsOnWay s (stage_after x.made s.past) (suc n) → due_call (stage_after x.made s.past) ≡ None
     → command_at x.held x.made (stage_after x.made s.past) st ≡ Some what
@@ -144,7 +152,7 @@ answered_way x n s (stand.Free counter) what a at w due is =
     }
 answered_way x n s (stand.Ended left) what a at w due is = absurd cc
 
--- If no turn is left, the hand-off has ended.
+-- If a hand-off has no turn left, it has ended.
 none_left : (s : Stand) (stage : Stage) → turns_left s stage ≤ 0 → IsSome (left_at s)
 none_left (stand.Ended left) stage l = refl
 none_left stand.Consumer (Giving reach waiting asked lost) l = absurd (omega arith)
@@ -178,6 +186,7 @@ ends (suc n) at by h x w =
     due_none x None e = e
     due_none x (Some due) e = e
 
+-- The run of a hand-off that begins with the release `r` ends: after at most three commands the hand-off has ended.
 pub all_end : (at by : ℕ) (h : List Turn) (r : Release)
     → IsSome (hand_left (state_of (hand_run at by h (hand_of r [])).hand))
 all_end at by h r =

@@ -1,4 +1,5 @@
--- The processors of a worker, and of what it released, in a history.
+-- The processors of a worker, and of the hand-offs of the leases that it released, are called for the given reads of
+-- their tenures in a history.
 use Rattle.std.proofs.Common.{◌≡◌, ℕ, zero, suc, ◌+◌, ◌≤◌, true, List, [], ◌∷◌, ◌++◌, Option, Some, None, refl, sym}
 use Rattle.std.proofs.Common.{subst, ◌∙◌, arith}
 use Rattle.std.specs.Prelude.{map}
@@ -105,6 +106,8 @@ own_waits hands w (Some p) h = own p.chore h
 
 -- ---- The record
 
+-- Each tenure has at most one consumer, of the worker or of a hand-off, all records agree with the commands `deals`
+-- (`JointFine`), and no Give of any consumer was refused.
 pub record JointOk (deals : List Deal) (hands : List HandOff) (w : WorkerState) : Type 0 where
   pub fine : JointFine deals hands w
   pub unrefused : AreUnrefused w.consumers w.retired
@@ -156,6 +159,9 @@ hand_ok n event hands w deals may taken ok = record {
       (all_left (InStep deals) (map known_in hands) w.retired ok.fine.good.over) ok.handed;
 }
 
+-- After a joint record of calls that meet their preconditions, each tenure has at most one consumer, all records agree
+-- with the commands, and no Give was refused (`JointOk`). Each tenure that an answer began must be new, and each
+-- refused Give must have had no read to give.
 pub joint_ok : (made : WorkerMade) (past : JointPast) → AreOrderly made past → AreNewTenures (joint_deals made past)
     → AreGivesTaken (joint_deals made past)
     → JointOk (joint_deals made past) (hands_after made past) (worker_in made past)
@@ -180,9 +186,10 @@ joint_ok made (Of_hand n event ∷ past) orderly new taken =
     hand_ok n event hands (worker_in made past) deals orderly.0 taken
     (joint_ok made past orderly.1 (new_hand event o deals new) (taken_hand event o deals taken))
 
--- ---- What follows
+-- ---- The calls of the processors
 
--- What holds of a hand-off's calls, given the commands of all.
+-- The calls of the hand-off's processor fit the reads and gives of its tenure among `deals` (`IsLife`). Once the
+-- hand-off's consumer is over, each batch that the processor was handed is given.
 abbrev IsHandLife : List Deal → HandOff → Type 0
 IsHandLife deals x =
     IsLifeAmong deals x.made (calls_after x.made (state_of x).past)
@@ -198,6 +205,9 @@ hands_live deals (x ∷ xs) s u = (
   hands_live deals xs s.1 u.1,
 )
 
+-- The calls of each processor, of the worker and of its hand-offs, fit the reads and gives of its tenure among `deals`
+-- (`IsLife`). If the consumer is retired, or is that of a hand-off and over, each batch that the processor was handed
+-- is given.
 pub record AreAllAlive (deals : List Deal) (hands : List HandOff) (w : WorkerState) : Type 0 where
   pub consumers : AllByRecursion (λ k. IsLifeAmong deals k.made (calls_after k.made k.past)) w.consumers
   pub retired : AllByRecursion
@@ -214,6 +224,8 @@ all_alive deals hands w ok = record {
   handed = hands_live deals hands (all_left (InStep deals) (map known_in hands) w.retired ok.fine.good.over) ok.handed;
 }
 
+-- If commands of the actor `by` began the tenures of all hand-offs, and the calls of their processors fit the actor's
+-- reads and gives (`IsHandLife`), the hand-offs are served (`IsHandServed`).
 pub hands_served : (by : ℕ) (h : List Turn) (hands : List HandOff) → AllByRecursion (IsBegunHand (deals_of by h)) hands
     → AllByRecursion (IsHandLife (deals_of by h)) hands → AllByRecursion (IsHandServed by h) hands
 hands_served by h [] begun all = tt
@@ -221,6 +233,8 @@ hands_served by h (x ∷ xs) begun all =
     let t = of_tenancy by h x.made begun.0 in
     (record { calls = (t, all.0.0); whole = λ over. (t, all.0.1 over) }, hands_served by h xs begun.1 all.1)
 
+-- If the turns of the actor `by` in the history `h` are the commands of the joint record, the processors of the worker
+-- and of its hand-offs were called for the given reads of their tenures (`AreAllServed`).
 pub all_served : (by : ℕ) (h : List Turn) (made : WorkerMade) (past : JointPast) → AreOrderly made past
     → AreToldIn by h made past → AreAllServed by h made past
 all_served by h made past orderly told =

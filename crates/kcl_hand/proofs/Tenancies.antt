@@ -1,4 +1,5 @@
--- What the consumers of a worker, and of what it released, are made with was begun by the worker's commands.
+-- The tenure of each consumer of a worker, and of each hand-off of a lease that it released, was begun by a command of
+-- the worker.
 use Rattle.std.proofs.Common.{◌≡◌, ℕ, zero, suc, List, [], ◌∷◌, ◌++◌, Option, Some, None, refl, sym, subst, inr}
 use Rattle.std.specs.Prelude.{Result}
 use Rattle.std.specs.List.{AllByRecursion}
@@ -17,11 +18,11 @@ use Rattle.kcl_hand.specs.Joints.{HandOff, JointPast, Of_hand, Of_worker, begun,
 use Rattle.kcl_hand.specs.Joints.{hands_after, joint_deals, with_hand_event, worker_in}
 use Rattle.kcl_hand.proofs.Jointly.{found_all, release_is}
 
--- The consumer of a hand-off was begun by one of the commands `deals`.
+-- One of the commands `deals` began the tenure of the hand-off `x`.
 abbrev pub IsBegunHand : List Deal → HandOff → Type 0
 IsBegunHand deals x = IsBegunIn deals x.made
 
--- Each consumer of the worker and of the hand-offs was begun by one of the commands `deals`.
+-- The commands `deals` began the tenures of all consumers of the worker, retired or not, and of all hand-offs.
 pub record AreAllBegun (deals : List Deal) (hands : List HandOff) (w : WorkerState) : Type 0 where
   pub worker : AreBegun deals w
   pub handed : AllByRecursion (IsBegunHand deals) hands
@@ -97,6 +98,8 @@ hand_begun n (Hand_answered answer) (Some what) deals hands w b =
 
 -- ---- The record
 
+-- After each joint record, its answered commands began the tenures of all consumers of the worker and of all hand-offs
+-- (`AreAllBegun`).
 pub all_begun : (made : WorkerMade) (past : JointPast)
     → AreAllBegun (joint_deals made past) (hands_after made past) (worker_in made past)
 all_begun made [] = record { worker = record { live = tt; over = tt; waits = tt }; handed = tt }

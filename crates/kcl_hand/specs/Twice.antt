@@ -1,4 +1,5 @@
--- What was given in a tenure and is marked isn't read in a later tenure of the key.
+-- When a record isn't read twice: what was given in a tenure and is at or below the row's checkpoint isn't read in a
+-- later tenure of the key. After a hand-off that freed its row, this is so for everything that was given in its tenure.
 use Rattle.std.specs.Prelude.{ℕ, ◌≡◌, ◌≤◌, List, Some}
 use Rattle.kds_base.specs.declared.lease_key.Checkpoint.{Checkpoint}
 use Rattle.kds_base.specs.declared.lease_key.Checkpoint.TheVariants.{TrimHorizon, At, ShardEnd}
@@ -14,18 +15,19 @@ use Rattle.kcl_hand.specs.declared.stand.Left.TheVariants as left
 use Rattle.kcl_hand.specs.declared.stand.Stand.TheVariants as stand
 use Rattle.kcl_hand.specs.Joints.{HandOff, known_in, state_of}
 
--- The number `n` is at or below the checkpoint.
+-- The number `n` is at or below the checkpoint. Each number is at or below the shard's end, and none is at or below the
+-- trim horizon.
 abbrev pub IsUpTo : ℕ → Checkpoint → Type 0
 IsUpTo n TrimHorizon = ⊥
 IsUpTo n (At q) = n ≤ q
 IsUpTo n ShardEnd = Unit {0}
 
--- Each number in the given reads of the tenure is at or below the checkpoint.
+-- Each sequence number in the given reads of the tenure `T` is at or below the checkpoint.
 abbrev pub IsMarked : TenureState → Checkpoint → Type 0
 IsMarked T checkpoint = (n : ℕ) → IsRead n (given_reads T) → IsUpTo n checkpoint
 
--- The tenure `u` has the state `U`. Right before the line by which it began, the tenure `t` had the state `T` and the
--- same key, and each number in the given reads of `T` was at or below the row's checkpoint.
+-- The tenure `u` has the state `U`. Right before the line that began it, the tenure `t` had the state `T` and the key
+-- of `U`, and each sequence number in the given reads of `T` was at or below the checkpoint of this key's row.
 pub record FollowsMarked (log : Journal) (t u : ℕ) (T U : TenureState) : Type 0 where
   pub begun : Told
   pub began : taking log u ≡ Some begun
@@ -34,27 +36,28 @@ pub record FollowsMarked (log : Journal) (t u : ℕ) (T U : TenureState) : Type 
   pub of_key : T.key ≡ U.key
   pub marked : IsMarked T (checkpoint_in (row begun.before T.key))
 
--- No number in the given reads of `T` is in a read of `U`.
+-- No sequence number in the given reads of the tenure `T` is in a read of the tenure `U`.
 abbrev pub IsReadOnce : TenureState → TenureState → Type 0
 IsReadOnce T U = (n : ℕ) → IsRead n (given_reads T) → IsRead n U.reads → ⊥
 
 -- ---- A hand-off that freed its row
 
--- No batch of the hand-off's consumer waits to be given, and each number in the given reads of its tenure is at or
--- below the row's checkpoint.
+-- Each batch that the processor of the hand-off `x` was handed is given. Each sequence number in the given reads of its
+-- tenure is at or below the checkpoint of the row of the tenure's key.
 pub record IsHandedOff (by : ℕ) (h : List Turn) (x : HandOff) : Type 0 where
   pub whole : IsServedWhole by h (known_in x)
   pub marked : (T : TenureState) (r : Row) → tenure (journal h) x.made.tenure ≡ Some T → row (journal h) T.key ≡ Some r
       → IsMarked T r.checkpoint
 
--- `IsHandedOff` holds if the hand-off has freed its row.
+-- If the hand-off `x` has freed its row, each batch that its processor was handed is given, and what was given in its
+-- tenure is at or below the row's checkpoint (`IsHandedOff`).
 abbrev pub IsHandedOffIfFreed : ℕ → List Turn → HandOff → Type 0
 IsHandedOffIfFreed by h x = (counter : ℕ) → (state_of x).stand ≡ stand.Ended (left.Handed counter) → IsHandedOff by h x
 
 -- ---- A later tenure
 
--- The tenure `u` has the state `U`. Right before the line by which it began, the journal was that of the turns
--- `before`, and the tenure's key had a row.
+-- In the history `h`, the tenure `u` has the state `U`. Right before the line that began it, the journal was that of
+-- the turns `before`, and the key of `U` had a row.
 pub record BeginsAfter (h before : List Turn) (u : ℕ) (U : TenureState) : Type 0 where
   pub begun : Told
   pub began : taking (journal h) u ≡ Some begun
@@ -63,8 +66,8 @@ pub record BeginsAfter (h before : List Turn) (u : ℕ) (U : TenureState) : Type
   pub taken : Row
   pub there : row (journal before) U.key ≡ Some taken
 
--- If the hand-off has freed its row, no number in the given reads of its tenure after the turns `before` is in a read
--- of a tenure of the key that begins then.
+-- If the hand-off `x` has freed its row, then what was given in its tenure by the end of the turns `before` isn't read
+-- in any tenure of the same key that begins right after these turns.
 abbrev pub IsNeverReadAgain : ℕ → List Turn → List Turn → HandOff → Type 0
 IsNeverReadAgain by h before x = (counter : ℕ) → (state_of x).stand ≡ stand.Ended (left.Handed counter)
     → (u : ℕ) (T U : TenureState) → tenure (journal before) x.made.tenure ≡ Some T → BeginsAfter h before u U

@@ -1,4 +1,5 @@
--- Each line of a journal has one text.
+-- Each line of a journal has just one text: what is read as a line is the text of this line, and the text of a line is
+-- read as this line.
 use Rattle.std.proofs.Common.{◌≡◌, ℕ, ◌<◌, ◌^◌, List, ◌∷◌, ◌++◌, true, Option, Some, None, refl, sym, ap, ◌∙◌, arith}
 use Rattle.std.proofs.Common.{codes, decimal, subst}
 use Rattle.std.specs.Prelude.{option_map}
@@ -31,11 +32,14 @@ worker_is n v = (v.0, omega (arith, v.1))
 is_worker : (n : ℕ) → IsWorkerNo n → IsWorker n
 is_worker n v = (v.0, omega (arith, v.1))
 
--- ---- A word, and what follows it
+-- ---- The first word of an entry, and what follows it
 
+-- A text in this version can have the entry `e`, and the text of `e` is the word `word`, a space and then `text`.
 abbrev Spells : ℕ → List ℕ → List ℕ → Entry → Type 0
 Spells version word text e = IsTellable version e × (word ++ 32 ∷ text ≡ entry_text version e)
 
+-- If the values after the word are read as they are written (`IsForm`), then an entry that is made from such values has
+-- this word and this text (`Spells`).
 spelled : {A : Type 0} {V : A → Type 0} {f : List ℕ → Option A} {s : A → List ℕ} → (version : ℕ) (w word : List ℕ)
     → IsForm V f s → (to : A → Entry)
     → ((a : A) → V a → Spells version w (s a) (to a)) → (text : List ℕ) (e : Entry) → bytes_eq word w ≡ true
@@ -49,6 +53,7 @@ spelled {A} {V} {f} {s} version w word form to each text e same h =
     subst (λ (z : List ℕ). Spells version z text (to m.0)) (sym ((bytes_eq-Decides word w).0 same)) at_w in
     subst (λ (z : Entry). Spells version word text z) m.2 at_word
 
+-- What is read as an entry of a lease is the text of this entry.
 lease_spells : (v : ℕ) (word text : List ℕ) (e : Entry) → lease_by word text ≡ Some e → Spells v word text e
 lease_spells v word text e h =
     choose (bytes_eq word (codes "lease")) _ _ e h (spelled v (codes "lease") word row_form _ (λ a v. (v, refl)) text e)
@@ -71,6 +76,7 @@ lease_spells v word text e h =
     (spelled v (codes "cut") word cut_form _ (λ a v. (v, refl)) text e)
     (λ h. absurd (cc))))))))))
 
+-- What is read as an entry is the text of this entry.
 by_spells : (v : ℕ) (word text : List ℕ) (e : Entry) → entry_by v word text ≡ Some e → Spells v word text e
 by_spells v word text e h =
     choose (bytes_eq word (codes "made")) _ _ e h (spelled v (codes "made") word made_form _ (λ a v. (v, refl)) text e)
@@ -88,10 +94,11 @@ by_spells v word text e h =
     (spelled v (codes "enforced") word enforced_form _ (λ a v. (v.0, refl)) text e)
     (lease_spells v word text e)))))))
 
--- The entry that follows the actor.
+-- The entry as which a text is read, its first word included. The text has no clock and no actor.
 abbrev reading : ℕ → List ℕ → Option Entry
 reading v text = field text >>= λ p. entry_by v p.0 p.1
 
+-- The text of an entry that a text in this version can have is read as this entry.
 what_again : (v : ℕ) (e : Entry) → IsTellable v e → reading v (entry_text v e) ≡ Some e
 what_again v (entry.Made s name count) t =
     ap (λ o. option_map (λ a. entry.Made a.0 a.1.0 a.1.1) o) (made_form.again (s, (name, count)) t)
@@ -128,12 +135,12 @@ what_again v (entry.Marked n counter to) t =
 what_again v (entry.LeaseCut key counter) t =
     ap (λ o. option_map (λ a. entry.LeaseCut a.0 a.1) o) (cut_form.again (key, counter) t)
 
--- ---- Lines
+-- ---- Lines with an entry
 
 abbrev actor_form : IsForm (IsWithin 0 greatest32) (within_of 0 greatest32) decimal
 actor_form = within_form 0 greatest32 (omega arith)
 
--- A text that is read as a line is the spelling of this line.
+-- A text that is read as a line is the text of this line, and a text in this version can have this line.
 pub entry_spells : (v : ℕ) (text : List ℕ) (line : EntryLine) → entry_of v text ≡ Some line → IsEntryLine v line
     × (text ≡ entry_spelling v line)
 unfolding entry_of
@@ -159,12 +166,13 @@ entry_spells v text line h =
     ∙ ap (λ z. decimal d.0 ++ 32 ∷ z) (ff.0 ∙ k.1)) in
     subst (λ (z : EntryLine). IsEntryLine v z × (text ≡ entry_spelling v z)) same (valid, spelt)
 
+-- If reading on after `o` gives the value `y`, then reading on and applying `g` to it gives `g y`.
 bound_again : {A B C : Type 0} (o : Option A) (f : A → Option B) (g : B → C) (y : B) → (o >>= f) ≡ Some y
     → (o >>= λ x. f x >>= λ z. Some (g z)) ≡ Some (g y)
 bound_again None f g y h = absurd (cc)
 bound_again (Some x) f g y h = ap (λ (w : _). w >>= λ z. Some (g z)) h
 
--- The spelling of a line is read as this line.
+-- The text of a line that a text in this version can have is read as this line.
 pub entry_again : (v : ℕ) (line : EntryLine) → IsEntryLine v line → entry_of v (entry_spelling v line) ≡ Some line
 unfolding entry_of
 entry_again v line t =
@@ -179,8 +187,9 @@ entry_again v line t =
     ) (bound_again (field (entry_text v line.what)) (λ p. entry_by v p.0 p.1) make line.what
     (what_again v line.what t.what))
 
--- ---- The last line
+-- ---- The last line of a text
 
+-- A text that is read as the last line is the text of this line, and its clock is below 2^62.
 pub end_spells : (text : List ℕ) (clock : ℕ) → end_of text ≡ Some clock → (clock < 2 ^ 62) × (text ≡ end_spelling clock)
 unfolding end_of
 end_spells text clock h =
@@ -195,16 +204,19 @@ end_spells text clock h =
     ))
     (λ h. absurd (cc))
 
+-- The text of the last line with a clock below 2^62 is read as this line.
 pub end_again : (clock : ℕ) → clock < 2 ^ 62 → end_of (end_spelling clock) ≡ Some clock
 unfolding end_of
 end_again clock small = moment_form.again clock small
 
+-- A text that is read as the last line isn't read as a line with an entry.
 pub end_apart : (v : ℕ) (text : List ℕ) (clock : ℕ) → end_of text ≡ Some clock → entry_of v text ≡ None
 unfolding entry_of
 end_apart v text clock h = ap (entry_of v) (end_spells text clock h).1
 
--- ---- The first line
+-- ---- The first line of a text
 
+-- The heading is read neither as a line with an entry nor as the last line.
 pub heading_apart : (v : ℕ) → (entry_of v heading ≡ None) × (end_of heading ≡ None)
 unfolding entry_of end_of
 heading_apart v = (refl, refl)

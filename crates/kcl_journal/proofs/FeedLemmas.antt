@@ -1,4 +1,4 @@
--- No line of a journal has a line feed in it.
+-- The text of no line of a journal contains a line feed.
 use Rattle.std.proofs.Common.{◌≡◌, ℕ, ◌<◌, ◌^◌, List, [], ◌∷◌, ◌++◌, Bool, true, false, refl, arith, rules, codes}
 use Rattle.std.proofs.Common.{decimal}
 use Rattle.std.specs.Prelude.{◌==◌, not}
@@ -21,16 +21,19 @@ use Rattle.kcl_journal.specs.Entries.{switch_text}
 use Rattle.kcl_journal.specs.Ranges.{AreSizesBy, Is64, IsEntryLine, IsTellable}
 use Rattle.kcl_journal.proofs.TextForms.{hash_without, name_without}
 
+-- Whether the byte `b` isn't a line feed.
 abbrev not_feed : ℕ → Bool
 not_feed b = not (b == 10)
 
--- A fixed word has no line feed in it.
+-- A fixed word without a line feed, as a test finds it, contains none.
 word : (text : List ℕ) → list_all not_feed text ≡ true → Lacks 10 text
 word text h = kind_lacks not_feed 10 text refl h
 
+-- A fixed word and then a text without a line feed contain none.
 after : (a b : List ℕ) → list_all not_feed a ≡ true → Lacks 10 b → Lacks 10 (a ++ b)
 after a b h l = lacks-append 10 a b (word a h) l
 
+-- Two texts without a line feed, with a space between them, contain none.
 spaced : (a b : List ℕ) → Lacks 10 a → Lacks 10 b → Lacks 10 (a ++ 32 ∷ b)
 spaced a b l m = lacks-append 10 a (32 ∷ b) l (refl, m)
 
@@ -68,6 +71,7 @@ batch : (ns : List ℕ) → AllByRecursion Is64 ns → Lacks 10 (numbers_text ns
 batch [] v = tt
 batch (n ∷ ns) v = lacks-append 10 (32 ∷ decimal n) (numbers_text ns) (refl, number n v.0) (batch ns v.1)
 
+-- The text of an entry contains no line feed.
 what_lacks : (v : ℕ) (e : Entry) → IsTellable v e → Lacks 10 (entry_text v e)
 what_lacks v (entry.Gone s) t = after (codes "gone ") _ refl (number s t)
 what_lacks v _ t = search (
@@ -86,10 +90,12 @@ what_lacks v _ t = search (
   lacks-append,
 )
 
+-- The text of a line with an entry contains no line feed.
 pub entry_lacks : (v : ℕ) (line : EntryLine) → IsEntryLine v line → Lacks 10 (entry_spelling v line)
 entry_lacks v line t =
     spaced (decimal line.clock) _ (number line.clock (omega (arith, t.clock)))
     (spaced (decimal line.by) _ (number line.by (omega (arith, t.by))) (what_lacks v line.what t.what))
 
+-- The text of the last line contains no line feed.
 pub end_lacks : (clock : ℕ) → clock < 2 ^ 62 → Lacks 10 (end_spelling clock)
 end_lacks clock small = after (codes "end ") (decimal clock) refl (number clock (omega arith))

@@ -1,4 +1,4 @@
--- The words of a text, which are separated by single spaces.
+-- The words of a text, which are its parts between single spaces, and the batch of a read, which is a list of words.
 use Rattle.std.proofs.Common.{◌≡◌, ℕ, ◌<◌, List, [], ◌∷◌, ◌++◌, length, map, arith, Bool, true, false, Option, Some}
 use Rattle.std.proofs.Common.{None, refl, sym, ap, ◌∙◌, codes, decimal, subst}
 use Rattle.std.proofs.lemmas.List.{append_assoc, append-nil, length-append}
@@ -14,15 +14,18 @@ use Rattle.kcl_script_fields.proofs.RawLemmas.{choose}
 use Rattle.kcl_journal.specs.Ranges.{Is64}
 use Rattle.kcl_journal.specs.Entries.{words, numbers_of, ended_of, ended_text, numbers_text, batch_from, batch_of}
 
+-- If `a` contains no space, the words of `a`, a space and `b` are `a` and the words of `b`.
 pub words_found : (a b : List ℕ) → Lacks 32 a → words (a ++ 32 ∷ b) ≡ a ∷ words b
 words_found [] b n = refl
 words_found (x ∷ a) b n = rw (n.0, words_found a b n.1) refl
 
+-- A text without a space is its only word.
 pub words_whole : (a : List ℕ) → Lacks 32 a → words a ≡ a ∷ []
 words_whole [] n = refl
 words_whole (x ∷ a) n = rw (n.0, words_whole a n.1) refl
 
--- The parts of a text after the byte `b`, which isn't a space, was put before the text.
+-- The part of a text up to its first space and the part after it, after the byte `b`, which isn't a space, was put
+-- before the text. It is None if the text has no space.
 abbrev onto : ℕ → Option (List ℕ × List ℕ) → Option (List ℕ × List ℕ)
 onto b o = option_map (λ (q : List ℕ × List ℕ). let p : List ℕ × List ℕ = (b ∷ q.0, q.1) in p) o
 
@@ -37,19 +40,22 @@ nowhere_cases : (c : Bool) (b : ℕ) (bs : List ℕ) → (b == 32) ≡ c → (pa
 nowhere_cases true b bs c f h = absurd (cc)
 nowhere_cases false b bs c f h = (c, f (nowhere_rest b (parted 32 bs) h))
 
+-- A text without a first space contains none.
 pub nowhere_lacks : (text : List ℕ) → parted 32 text ≡ None → Lacks 32 text
 nowhere_lacks [] h = tt
 nowhere_lacks (b ∷ bs) h = nowhere_cases (b == 32) b bs refl (nowhere_lacks bs) h
 
+-- If a text has a first space, its words are the part before this space and the words of the part after it.
 pub words_parted : (text : List ℕ) (p : List ℕ × List ℕ) → parted 32 text ≡ Some p → words text ≡ p.0 ∷ words p.1
 words_parted text p h =
     let s = parted_spells 32 text p h in
     ap words s.0 ∙ words_found p.0 p.1 s.1
 
+-- If a text has no first space, it is its only word.
 pub words_nowhere : (text : List ℕ) → parted 32 text ≡ None → words text ≡ text ∷ []
 words_nowhere text h = words_whole text (nowhere_lacks text h)
 
--- ---- Numbers
+-- ---- Numbers in words
 
 numbers_spell : (ws : List (List ℕ)) (ns : List ℕ) → numbers_of ws ≡ Some ns → AllByRecursion Is64 ns
     × (ws ≡ map decimal ns)
@@ -67,7 +73,7 @@ numbers_again : (ns : List ℕ) → AllByRecursion Is64 ns → numbers_of (map d
 numbers_again [] v = refl
 numbers_again (n ∷ ns) v = rw (number_form.again n v.0, numbers_again ns v.1) refl
 
--- ---- Whether a read ended the shard
+-- ---- The word that says whether a read ended the shard
 
 ended_spells : (w : List ℕ) (ended : Bool) → ended_of w ≡ Some ended → w ≡ ended_text ended
 ended_spells w ended h = choose (bytes_eq w (codes "end")) _ _ ended h
@@ -84,7 +90,7 @@ ended_lacks : (ended : Bool) → Lacks 32 (ended_text ended)
 ended_lacks true = (refl, (refl, (refl, tt)))
 ended_lacks false = (refl, (refl, (refl, (refl, tt))))
 
--- ---- A batch
+-- ---- The batch of a read
 
 joined : (w : List ℕ) (ns : List ℕ) → join_with_byte 32 (w ∷ map decimal ns) ≡ w ++ numbers_text ns
 joined w [] = sym (append-nil w)
@@ -97,9 +103,11 @@ parted_words w (n ∷ ns) l v =
     words_found w (decimal n ++ numbers_text ns) l
     ∙ ap (λ z. w ∷ z) (parted_words (decimal n) ns (decimal_lacks 32 n refl v.0) v.1)
 
+-- The sequence numbers of the batch fit into 64 bits each.
 abbrev pub IsBatch : Bool × List ℕ → Type 0
 IsBatch a = AllByRecursion Is64 a.1
 
+-- The text of a batch: whether the read ended the shard, and then the sequence numbers.
 abbrev pub batch_text : Bool × List ℕ → List ℕ
 batch_text a = ended_text a.0 ++ numbers_text a.1
 
@@ -117,6 +125,7 @@ spelled_from (w ∷ ws) text a j h =
           ∙ joined (ended_text e.0) m.0,
     )
 
+-- The batch of a read is read as it is written.
 pub batch_form : IsForm IsBatch batch_of batch_text
 batch_form = record {
   spells = λ text a h. spelled_from (words text) text a (join_with_byte-slice_split 32 text) h;
@@ -124,9 +133,10 @@ batch_form = record {
       ∙ rw (ended_again a.0, numbers_again a.1 v) refl;
 }
 
--- ---- The words as a loop finds them
+-- ---- The words as a loop finds them, one after another
 
--- The numbers that were read, followed by those that are left.
+-- The numbers `ns` that were read so far, followed by those of `o`. It is None if `o` is, so if another word isn't a
+-- number.
 abbrev pub with_front : List ℕ → Option (List ℕ) → Option (List ℕ)
 with_front ns o = option_map (λ ms. ns ++ ms) o
 
@@ -135,40 +145,49 @@ fronts : (ns : List ℕ) (n : ℕ) (o : Option (List ℕ)) → with_front ns (op
 fronts ns n None = refl
 fronts ns n (Some ms) = ap (λ z. Some z) (sym (append_assoc ns (n ∷ []) ms))
 
+-- If the next word of the text is the number `n`, then all numbers are the same with `n` among those read so far and
+-- the rest of the text after it.
 pub more_numbers : (ns : List ℕ) (n : ℕ) (text : List ℕ) (p : List ℕ × List ℕ) → parted 32 text ≡ Some p
     → number p.0 ≡ Some n
     → with_front ns (numbers_of (words text)) ≡ with_front (ns ++ n ∷ []) (numbers_of (words p.1))
 more_numbers ns n text p h is = rw (words_parted text p h, is) (fronts ns n (numbers_of (words p.1)))
 
--- If a word isn't a number, there are no numbers.
+-- If the next word of the text isn't a number, the text has no list of numbers.
 pub no_numbers : (ns : List ℕ) (text : List ℕ) (p : List ℕ × List ℕ) → parted 32 text ≡ Some p → number p.0 ≡ None
     → with_front ns (numbers_of (words text)) ≡ None
 no_numbers ns text p h is = rw (words_parted text p h, is) refl
 
+-- If the text is one last word, the number `n`, then all numbers are those read so far and `n`.
 pub last_number : (ns : List ℕ) (n : ℕ) (text : List ℕ) → parted 32 text ≡ None → number text ≡ Some n
     → with_front ns (numbers_of (words text)) ≡ Some (ns ++ n ∷ [])
 last_number ns n text h is = rw (words_nowhere text h, is) refl
 
+-- If the text is one last word that isn't a number, the text has no list of numbers.
 pub no_last : (ns : List ℕ) (text : List ℕ) → parted 32 text ≡ None → number text ≡ None
     → with_front ns (numbers_of (words text)) ≡ None
 no_last ns text h is = rw (words_nowhere text h, is) refl
 
+-- The part of a text after its first space is shorter than the text.
 pub shorter : (text : List ℕ) (p : List ℕ × List ℕ) → parted 32 text ≡ Some p → length p.1 < length text
 shorter text p h =
     let s = parted_spells 32 text p h in
     subst (λ (z : List ℕ). length p.1 < length z) (sym s.0) (omega (arith, length-append p.0 (32 ∷ p.1)))
 
--- ---- A batch by its first word
+-- ---- A batch, given its first word
 
+-- If the text is one word, its batch has no numbers, if this word says whether the read ended the shard.
 pub batch_alone : (text : List ℕ) (o : Option Bool) → parted 32 text ≡ None → ended_of text ≡ o
     → batch_of text ≡ option_map (λ (b : Bool). let a : Bool × List ℕ = (b, []) in a) o
 batch_alone text None h e = rw (words_nowhere text h, e) refl
 batch_alone text (Some b) h e = rw (words_nowhere text h, e) refl
 
+-- If the first word of the text doesn't say whether the read ended the shard, the text has no batch.
 pub batch_unended : (text : List ℕ) (p : List ℕ × List ℕ) → parted 32 text ≡ Some p → ended_of p.0 ≡ None
     → batch_of text ≡ None
 batch_unended text p h e = rw (words_parted text p h, e) refl
 
+-- If the first word of the text says whether the read ended the shard (`ended`), the batch of the text is `ended` with
+-- the numbers of the other words. It is None if one of these isn't a number.
 pub batch_parts : (text : List ℕ) (p : List ℕ × List ℕ) (ended : Bool) (o : Option (List ℕ)) → parted 32 text ≡ Some p
     → ended_of p.0 ≡ Some ended → numbers_of (words p.1) ≡ o
     → batch_of text ≡ option_map (λ (ns : List ℕ). let a : Bool × List ℕ = (ended, ns) in a) o

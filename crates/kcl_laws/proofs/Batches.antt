@@ -1,5 +1,5 @@
--- The numbers of a shard's records rise, and a batch has all records between its place and the place after it, except
--- the trimmed ones.
+-- The sequence numbers of a shard's records rise. A batch that is read at a position has all untrimmed records from
+-- this position up to the position after the batch.
 use Rattle.std.proofs.Common.{◌≡◌, ℕ, zero, suc, ◌+◌, ◌-◌, ◌<◌, ◌≤◌, Bool, true, false, List, [], ◌∷◌, ◌++◌, Some, refl}
 use Rattle.std.proofs.Common.{sym, ap, subst, ◌∙◌, arith, inl, inr}
 use Rattle.std.specs.Prelude.{◌==◌, ◌&&◌, ◌||◌, ◌⊎◌, not, nat_le, nat_lt, cond, if◌then◌else◌}
@@ -22,16 +22,19 @@ use Rattle.kcl_laws.proofs.Numbering.{all_placed}
 
 -- ---- All items of a list
 
+-- If `P` implies `Q` and holds of all items of a list, `Q` holds of all of them.
 pub all_map : {A : Type 0} (P Q : A → Type 0) (xs : List A) → ((x : A) → P x → Q x) → AllByRecursion P xs
     → AllByRecursion Q xs
 all_map P Q [] f h = tt
 all_map P Q (x ∷ xs) f h = (f x h.0, all_map P Q xs f h.1)
 
+-- If `P` and `Q` hold of all items of a list, and together imply `R`, then `R` holds of all of them.
 pub all_both : {A : Type 0} (P Q R : A → Type 0) (xs : List A) → ((x : A) → P x → Q x → R x) → AllByRecursion P xs
     → AllByRecursion Q xs → AllByRecursion R xs
 all_both P Q R [] f h g = tt
 all_both P Q R (x ∷ xs) f h g = (f x h.0 g.0, all_both P Q R xs f h.1 g.1)
 
+-- If `P` holds of all items of a list and of `y`, it holds of all items of the list with `y` at its end.
 pub all_push : {A : Type 0} (P : A → Type 0) (xs : List A) (y : A) → AllByRecursion P xs → P y
     → AllByRecursion P (xs ++ (y ∷ []))
 all_push P [] y h g = (g, tt)
@@ -43,6 +46,7 @@ filter_head : {A : Type 0} (f : A → Bool) (P : A → Type 0) (x : A) (xs : Lis
 filter_head f P x xs true is rest h = (λ e. h.0, rest h.1)
 filter_head f P x xs false is rest h = (λ e. absurd (apart (f x) e is), rest h)
 
+-- If `P` holds of all items of `xs` for which `f` is true, then in `xs` it holds of each item for which `f` is true.
 pub all_filter : {A : Type 0} (f : A → Bool) (P : A → Type 0) (xs : List A) → AllByRecursion P (filter f xs)
     → AllByRecursion (λ x. f x ≡ true → P x) xs
 all_filter f P [] h = tt
@@ -54,7 +58,7 @@ none_head : {A : Type 0} (f : A → Bool) (x : A) (xs : List A) (b : Bool) → f
 none_head f x xs true is rest h = absurd cc
 none_head f x xs false is rest h = (is, rest h)
 
--- No item of a list passes the test if nothing is left by the filter.
+-- If `xs` has no item for which `f` is true, `f` is false for all items of `xs`.
 pub none_pass : {A : Type 0} (f : A → Bool) (xs : List A) → are_none (filter f xs) ≡ true
     → AllByRecursion (λ y. f y ≡ false) xs
 none_pass f [] h = tt
@@ -62,23 +66,29 @@ none_pass f (x ∷ xs) h = none_head f x xs (f x) refl (none_pass f xs) h
 
 -- ---- Rising records
 
--- The numbers rise from the first argument on, and stay below the last.
+-- The numbers of the records rise strictly, are at or above `p`, and are below `q`. If there are no records, `p` is at
+-- most `q`.
 abbrev pub IsRising : ℕ → List Logged → ℕ → Type 0
 IsRising p [] q = p ≤ q
 IsRising p (r ∷ rs) q = (p ≤ r.seq) × IsRising (r.seq + 1) rs q
 
+-- If the numbers of records rise from `p` and stay below `q`, `p` is at most `q`.
 pub rising_le : (p : ℕ) (rs : List Logged) (q : ℕ) → IsRising p rs q → p ≤ q
 rising_le p [] q h = h
 rising_le p (r ∷ rs) q h = omega (arith, h.0, rising_le (r.seq + 1) rs q h.1)
 
+-- If the numbers of records rise from `p` and stay below `q`, they also stay below each greater number `q'`.
 pub rising_above : (p : ℕ) (rs : List Logged) (q q' : ℕ) → q ≤ q' → IsRising p rs q → IsRising p rs q'
 rising_above p [] q q' le h = omega arith
 rising_above p (r ∷ rs) q q' le h = (h.0, rising_above (r.seq + 1) rs q q' le h.1)
 
+-- If the numbers of records rise from `p'`, they also rise from each smaller number `p`.
 pub rising_below : (p p' : ℕ) (rs : List Logged) (q : ℕ) → p ≤ p' → IsRising p' rs q → IsRising p rs q
 rising_below p p' [] q le h = omega arith
 rising_below p p' (r ∷ rs) q le h = (omega (arith, h.0), h.1)
 
+-- If the numbers of records rise from `p` and stay below `q`, they still rise with a record of the number `q` at the
+-- end.
 pub rising_push : (p : ℕ) (rs : List Logged) (q : ℕ) (r : Logged) → IsRising p rs q → r.seq ≡ q
     → IsRising p (rs ++ (r ∷ [])) (q + 1)
 rising_push p [] q r h e = (omega arith, omega arith)
@@ -89,6 +99,7 @@ rising_cond : (b : Bool) (p : ℕ) (r : Logged) (rs : List Logged) (q : ℕ) →
 rising_cond true p r rs q le h = (le, h)
 rising_cond false p r rs q le h = rising_below p (r.seq + 1) rs q (omega arith) h
 
+-- If the numbers of records rise, those of the records for which `f` is true rise too.
 pub rising_filter : (f : Logged → Bool) (p : ℕ) (rs : List Logged) (q : ℕ) → IsRising p rs q
     → IsRising p (filter f rs) q
 rising_filter f p [] q h = h
@@ -100,7 +111,8 @@ from_cond : (f : Logged → Bool) (b : Bool) (m : ℕ) (r : Logged) (rs : List L
 from_cond f true m r rs q is g h k = (g r is, h)
 from_cond f false m r rs q is g h k = k
 
--- Filtered records rise from `m` on if each record that passes has at least the number `m`.
+-- If the numbers of records rise, and each record for which `f` is true has at least the number `m`, the numbers of the
+-- records for which `f` is true rise from `m` on.
 pub rising_filter_from : (f : Logged → Bool) (p m : ℕ) (rs : List Logged) (q : ℕ) → IsRising p rs q → m ≤ q
     → ((x : Logged) → f x ≡ true → m ≤ x.seq) → IsRising m (filter f rs) q
 rising_filter_from f p m [] q h le g = le
@@ -108,26 +120,31 @@ rising_filter_from f p m (r ∷ rs) q h le g =
     from_cond f (f r) m r (filter f rs) q refl g (rising_filter f (r.seq + 1) rs q h.1)
     (rising_filter_from f (r.seq + 1) m rs q h.1 le g)
 
--- ---- The beginning of rising records
+-- ---- The numbers of a prefix of rising records
 
+-- The numbers of the longest prefix of `rs` with at most `limit` records and `room` bytes.
 abbrev pub taken_numbers : ℕ → ℕ → List Logged → List ℕ
 taken_numbers limit room rs = numbers_of (beginning limit room rs)
 
--- The numbers rise from the first argument to the last, which is the place after them.
+-- The numbers rise strictly, are at or above `p`, and are below `q`. If there are no numbers, `p` is at most `q`.
 abbrev pub RisesTo : ℕ → List ℕ → ℕ → Type 0
 RisesTo p [] q = p ≤ q
 RisesTo p (n ∷ ns) q = (p ≤ n) × RisesTo (n + 1) ns q
 
+-- If the numbers `ms` rise from `p` and stay below `q`, and the numbers `ns` rise from `q` and stay below `r`, then `ms
+-- ++ ns` rises from `p` and stays below `r`.
 pub rises_append : (p : ℕ) (ms ns : List ℕ) (q r : ℕ) → RisesTo p ms q → RisesTo q ns r → RisesTo p (ms ++ ns) r
 rises_append p [] [] q r h g = omega arith
 rises_append p [] (n ∷ ns) q r h g = (omega (arith, h, g.0), g.1)
 rises_append p (m ∷ ms) ns q r h g = (h.0, rises_append (m + 1) ms ns q r h.1 g)
 
+-- If numbers rise from `p` and stay below `q`, they rise strictly from `p` on (`RiseFrom`).
 pub rises_from : (p : ℕ) (ns : List ℕ) (q : ℕ) → RisesTo p ns q → RiseFrom p ns
 rises_from p [] q h = tt
 rises_from p (n ∷ ns) q h = (h.0, rises_from (n + 1) ns q h.1)
 
--- What holds of a prefix of rising records.
+-- `ns` are the numbers of a prefix of the records `rs`. They rise from `p` on, and the position after them is at most
+-- `q`. Each record of `rs` below this position is in the prefix.
 pub record Begins (p : ℕ) (ns : List ℕ) (rs : List Logged) (q : ℕ) : Type 0 where
   pub rises : RisesTo p ns (place_after p ns)
   pub place : place_after p ns ≤ q
@@ -166,6 +183,8 @@ begin_cond true p r ns bs rs q le h is rest =
       );
     })
 
+-- If the numbers of the records `rs` rise from `p` and stay below `q`, the longest prefix with at most `limit` records
+-- and `room` bytes has each record below the position after it (`Begins`).
 pub begins : (limit room p : ℕ) (rs : List Logged) (q : ℕ) → IsRising p rs q
     → Begins p (taken_numbers limit room rs) rs q
 begins zero room p rs q h = nothing_begins p rs q h
@@ -174,9 +193,10 @@ begins (suc limit) room p (r ∷ rs) q h =
     begin_cond (nat_le r.bytes room) p r _ (beginning limit (room - r.bytes) rs) rs q h.0 h refl
     (begins limit (room - r.bytes) (r.seq + 1) rs q h.1)
 
--- ---- The records of a shard
+-- ---- One more line
 
--- What one more line does to the records of a shard.
+-- One more line either leaves the records of shard `sh` of stream `s` unchanged, or adds one record at their end. A new
+-- record has the stream's next sequence number, and its shard is open.
 pub data RecordsStep (log : Journal) (line : Line) (s sh : ℕ) : Type 0 where
   SameRecords : records (line ∷ log) s sh ≡ records log s sh → RecordsStep log line s sh
   NewRecord : (r : Logged) (x : ShardState) → records (line ∷ log) s sh ≡ records log s sh ++ (r ∷ [])
@@ -220,6 +240,8 @@ records_step_by log line (entry.Put stream shard number hash bytes key_bytes) s 
     }) refl recs next
 records_step_by log line _ s sh at recs next = SameRecords (sym recs)
 
+-- In a legal journal, one more line leaves the records of a shard unchanged, or adds one record with the stream's next
+-- sequence number to an open shard (`RecordsStep`).
 pub records_step : (log : Journal) (line : Line) → IsLegal (line ∷ log) → (s sh : ℕ) → RecordsStep log line s sh
 records_step log line legal s sh = records_step_by log line line.what s sh (all_placed (line ∷ log) legal).0 refl refl
 
@@ -234,14 +256,15 @@ rising_by log line s sh (NewRecord r x is seq next there open_now) h =
     (subst (IsRising 1 (records log s sh ++ (r ∷ []))) (ap (λ k. k + 1) (sym seq) ∙ sym next)
     (rising_push 1 _ (next_number log s) r h seq))
 
--- The numbers of a shard's records rise, and are below the stream's next number.
+-- In a legal journal, the numbers of a shard's records rise strictly from 1 on, and are below the stream's next
+-- sequence number.
 pub rising : (log : Journal) → IsLegal log → (s sh : ℕ) → IsRising 1 (records log s sh) (next_number log s)
 rising [] legal s sh = omega arith
 rising (line ∷ log) legal s sh = rising_by log line s sh (records_step log line legal s sh) (rising log legal.1 s sh)
 
 -- ---- A batch
 
--- A record was read, is trimmed, or is below the place, given the numbers that were read.
+-- The record `r` is below the position `position` of the read, is among the numbers `ns` that were read, or is trimmed.
 abbrev pub IsTaken : Journal → ℕ → ℕ → ℕ → List ℕ → Logged → Type 0
 IsTaken log c s place ns r = (r.seq < place) ⊎ (IsAmong r.seq ns ⊎ (is_trimmed log c s r.arrival ≡ true))
 
@@ -264,7 +287,7 @@ taken_or log c s place ns r true is g b at below = inr (inr is)
 taken_or log c s place ns r false is g true at below = inr (inl (g at below))
 taken_or log c s place ns r false is g false at below = inl (grind (arith, nat_tests))
 
--- No record passes a test that is always false.
+-- No record is left by a filter whose test is always false.
 none_passes : (rs : List Logged) → filter (λ (r : Logged). false) rs ≡ []
 none_passes [] = refl
 none_passes (r ∷ rs) = none_passes rs

@@ -1,4 +1,6 @@
--- In a row from the trim horizon, a checkpoint at a number is at or below a record of the row's shard.
+-- If a row whose origin is the trim horizon has its checkpoint at a sequence number, its shard has a record with this
+-- number or a greater one. Here a position is reached if it isn't beyond all records of the shard: it is 0, or at most
+-- one above the number of a record.
 use Rattle.std.proofs.Common.{◌≡◌, ℕ, zero, suc, ◌+◌, ◌-◌, ◌≤◌, Bool, true, false, List, [], ◌∷◌, ◌++◌, length, take}
 use Rattle.std.proofs.Common.{Option, Some, None, refl, sym, ap, subst, ◌∙◌, arith, inl, inr}
 use Rattle.std.specs.Prelude.{◌⊎◌, nat_le, cond, if◌then◌else◌}
@@ -32,9 +34,9 @@ use Rattle.kcl_laws.proofs.StartLemmas.{origin_before, begins_shard}
 use Rattle.kcl_laws.proofs.Steps.{TenureStep, Begun, Same, Opening, Reading, Giving, tenure_step, tenure_key, RowStep}
 use Rattle.kcl_laws.proofs.Steps.{NewRow, SameCheckpoint, MarkedRow, row_step}
 
--- ---- A place of a shard: none of its numbers is needed, or a record has at least the number below it
+-- ---- Positions that aren't beyond the records of a shard
 
--- The place is 0, or one of the records has at least the number below it.
+-- The position is 0, or at most one above the sequence number of one of the records. So it isn't beyond all records.
 abbrev pub IsReached : ℕ → List Logged → Type 0
 IsReached place [] = place ≡ 0
 IsReached place (r ∷ rs) = (place ≤ r.seq + 1) ⊎ IsReached place rs
@@ -53,7 +55,7 @@ reached_below place less [] le is = omega arith
 reached_below place less (r ∷ rs) le (inl is) = inl (omega arith)
 reached_below place less (r ∷ rs) le (inr is) = inr (reached_below place less rs le is)
 
--- ---- Places stay reached as records come
+-- ---- Positions stay reached as records come
 
 stays_by : (log : Journal) (line : Line) (s sh place : ℕ) → RecordsStep log line s sh
     → IsReached place (records log s sh) → IsReached place (records (line ∷ log) s sh)
@@ -87,7 +89,7 @@ all_begun (suc limit) room P (r ∷ rs) are = either (nat_le r.bytes room) (all_
     either true rest = (are.0, rest)
     either false rest = tt
 
--- Each record reaches the place right above it.
+-- The position one above each of the records is reached (`IsReached`).
 all_reached : (rs : List Logged) → AllByRecursion (λ (r : Logged). IsReached (r.seq + 1) rs) rs
 all_reached [] = tt
 all_reached (r ∷ rs) = (
@@ -120,7 +122,8 @@ batch_reached log c s sh place limit at =
 
 -- ---- Tenures and rows
 
--- All places of a tenure are reached: its start, and the places after each prefix of its reads.
+-- The positions of a tenure are reached (`IsReached`): the one where it begins, and the one after each prefix of its
+-- reads.
 AreReached : Journal → TenureState → Type 0
 AreReached log T = (i : ℕ)
     → IsReached (place_after_reads (place_of T.start) (take i T.reads)) (records log T.key.stream T.key.shard)
@@ -153,7 +156,8 @@ take_all : (rs : List ReadDone) → take (length rs) rs ≡ rs
 take_all [] = refl
 take_all (r ∷ rs) = ap (λ xs. r ∷ xs) (take_all rs)
 
--- All places of a tenure are still reached after one more read.
+-- If the positions of a tenure are reached, they still are after one more read of a batch at the tenure's read
+-- position.
 read_reached : (log : Journal) (c limit : ℕ) (T : TenureState) (numbers : List ℕ) (ended : Bool)
     → numbers ≡ numbers_of (batch log c T.key.stream T.key.shard (reach T) limit) → AreReached log T
     → AreReached log (with_read numbers ended T)
@@ -181,10 +185,12 @@ read_reached log c limit T numbers ended is at i = either (take_snoc i T.reads r
         (subst (λ ns. IsReached (place_after (reach T) ns) all) (sym is)
         (batch_reached log c T.key.stream T.key.shard (reach T) limit whole)))
 
+-- The position at which reading begins after the checkpoint is reached: it isn't beyond all records of the shard `key`.
 RowReached : Journal → ShardRef → Checkpoint → Type 0
 RowReached log key checkpoint = IsReached (place_of checkpoint) (records log key.stream key.shard)
 
--- What holds of the row of each key from the trim horizon, and of each tenure of such a key.
+-- For each row whose origin is the trim horizon, the position after its checkpoint is reached. For each tenure of the
+-- key of such a row, the positions of the tenure are.
 record AllReached (log : Journal) : Type 0 where
   rows : (key : ShardRef) (r : Row) → row log key ≡ Some r → origin_of log key ≡ Some origin.TrimHorizon
       → RowReached log key r.checkpoint
@@ -201,7 +207,8 @@ row_stays : (log : Journal) (line : Line) (key : ShardRef) (checkpoint : Checkpo
 unfolding RowReached
 row_stays log line key checkpoint legal at = reached_stays log line legal key.stream key.shard _ at
 
--- All places of a new tenure are reached, since it begins where the row stands.
+-- The positions of a new tenure are reached, because it begins at the checkpoint of its row, whose origin is the trim
+-- horizon.
 begun_reached : (log : Journal) (by : ℕ) (key : ShardRef) (o : Option Row) → row log key ≡ o
     → origin_of log key ≡ Some origin.TrimHorizon → AllReached log
     → AreReached log (new_tenure by key (checkpoint_in o))
@@ -219,7 +226,8 @@ given_reached : (log : Journal) (T : TenureState) → AreReached log T → AreRe
 unfolding AreReached
 given_reached log T at = at
 
--- All places of an earlier tenure are reached if the origin of its key was the same before.
+-- The positions of the tenure `t` were reached before the line, if its key has a row with the origin trim horizon after
+-- the line.
 before_reached : (log : Journal) (line : Line) → IsLegal (line ∷ log) → AllReached log → (t : ℕ) (S T : TenureState)
     → tenure log t ≡ Some S → T.key ≡ S.key → origin_of (line ∷ log) T.key ≡ Some origin.TrimHorizon → AreReached log S
 before_reached log line legal all t S T is same from =
@@ -253,7 +261,8 @@ tenure_after_line log line legal all t T (Giving before is at new) from =
     (given_reached log before
     (before_reached log line legal all t before T at (ap (λ (U : TenureState). U.key) new) from))
 
--- The checkpoint of a mark is reached, since the mark is below the delivered place.
+-- The position after the checkpoint that a mark sets is reached, because a mark may only be below the position up to
+-- which the tenure's reads are given.
 marked_reached : (log : Journal) (T : TenureState) (to : Target) → TargetOk T to → AreReached log T
     → RowReached log T.key (checkpoint_at to)
 unfolding AreReached RowReached
@@ -308,8 +317,8 @@ all_reach (line ∷ log) legal = record {
       (tenure_after_line log line legal (all_reach log legal.1) t T (tenure_step log line t T is) from);
 }
 
--- If a row from the trim horizon has a checkpoint at a number, its shard has a record with this number or a greater
--- one.
+-- In a legal journal, if a row whose origin is the trim horizon has its checkpoint at the number `q`, its shard has a
+-- record with this number or a greater one.
 pub checkpoint_reached : (log : Journal) → IsLegal log → (key : ShardRef) (r : Row) (q : ℕ) → row log key ≡ Some r
     → origin_of log key ≡ Some origin.TrimHorizon → r.checkpoint ≡ At q → HasFrom q (records log key.stream key.shard)
 unfolding RowReached
@@ -323,7 +332,7 @@ checkpoint_reached log legal key r q there from is =
     found q (r ∷ rs) (inl at) = inl (omega arith)
     found q (r ∷ rs) (inr at) = inr (found q rs at)
 
--- A row from the trim horizon has its shard's starting number as its floor.
+-- In a legal journal, the floor of a row whose origin is the trim horizon is the starting sequence number of its shard.
 pub horizon_floor : (log : Journal) → IsLegal log → (key : ShardRef) (r : Row) → row log key ≡ Some r
     → origin_of log key ≡ Some origin.TrimHorizon → r.floor ≡ start_of (shard_at log key.stream key.shard)
 horizon_floor log legal key r there from =

@@ -1,4 +1,4 @@
--- The journal of a history is legal.
+-- The journal of each history of lawful turns is legal.
 use Rattle.std.proofs.Common.{◌≡◌, ℕ, ◌+◌, ◌-◌, ◌^◌, ◌<◌, ◌≤◌, Bool, true, false, List, [], ◌∷◌, length, Option, Some}
 use Rattle.std.proofs.Common.{None, refl, sym, ap, ◌∙◌, arith}
 use Rattle.std.specs.Prelude.{Result, Ok, is_some, not, nat_lt, cond, if◌then◌else◌}
@@ -36,7 +36,8 @@ use Rattle.kds_defs.proofs.Walk as walks
 use Rattle.kcl_laws.proofs.Added.{Adds, in_live, draws_one, not_spent, not_past}
 use Rattle.kcl_laws.proofs.ScalingLemmas.{adds_scaling}
 
--- A stream that is found by a name is live.
+-- The first number for which `p` is true, in a list that was filtered by `q`, makes `q` true as well. For the list's
+-- first item `x`, `b` and `d` say whether `q` and `p` are true.
 pub found_by : (b d : Bool) (x s : ℕ) (rest : List ℕ) (p q : ℕ → Bool) → q x ≡ b → p x ≡ d
     → find p (cond b (x ∷ filter q rest) (filter q rest)) ≡ Some s
     → (find p (filter q rest) ≡ Some s → q s ≡ true) → q s ≡ true
@@ -48,10 +49,12 @@ found_by true true x s rest p q isb isd h later =
 found_by true false x s rest p q isb isd h later =
     later (ap (λ b. cond b (Some x) (find p (filter q rest))) (sym isd) ∙ h)
 
+-- If a number is found in a list that was filtered by `q`, then `q` is true for this number.
 pub find_filter : (p q : ℕ → Bool) (xs : List ℕ) (s : ℕ) → find p (filter q xs) ≡ Some s → q s ≡ true
 find_filter p q [] s h = absurd cc
 find_filter p q (x ∷ xs) s h = found_by (q x) (p x) x s xs p q refl refl h (find_filter p q xs s)
 
+-- The stream that is found by a name is live.
 pub live_named : (log : Journal) (name : List ℕ) (s : ℕ) → stream_named log name ≡ Some s → is_live log s ≡ true
 live_named log name s h = find_filter _ (is_live log) _ s h
 
@@ -60,17 +63,20 @@ not_both : (wanted have : ℕ) (raise : Bool) → (if raise then nat_lt wanted h
 not_both wanted have true h = grind (arith, nat_tests)
 not_both wanted have false h = grind (arith, nat_tests)
 
--- The line of an item that isn't held back, and the lines of this item and of those that follow.
+-- The line of a put of `item` into the stream `s`, with the stream's next sequence number.
 abbrev next_line : Journal → ℕ → ℕ → ℕ → NewItem → Line
 next_line log c by s item = put_line log c by s (next_number log s) item
 
+-- The lines of a PutRecords request for the item `item` and the items after it. If `back` is true, `item` is held back,
+-- because its shard's limits are exceeded, and has no line.
 abbrev lines_from : Bool → Journal → ℕ → ℕ → ℕ → NewItem → List NewItem → List Line
 lines_from back log c by s item items =
     if back
     then put_lines log c by s items
     else next_line log c by s item ∷ put_lines (next_line log c by s item ∷ log) c by s items
 
--- If one more item is put, it is held back, or its line is good.
+-- If the lines for the items after `item` may be added to the journal, those for `item` and the items after it may be
+-- added too (`Adds`). `back` is true if `item` is held back.
 adds_item : (back : Bool) (item : NewItem) (items : List NewItem) (log : Journal) (c by s : ℕ)
     → is_held_back log c s item ≡ back → item.hash < 2 ^ 128
     → is_live log s ≡ true
@@ -98,7 +104,8 @@ adds_item false item items log c by s is hash live fits legal order skip take =
     (good, legal) (omega arith) in
     record { legal = rest.legal; clock = rest.clock }
 
--- The lines of several puts are good, where each item is judged after those before it.
+-- The lines of a PutRecords request may be added to a legal journal (`Adds`). Each item is decided after the lines of
+-- the items before it.
 adds_puts : (items : List NewItem) (log : Journal) (c by s : ℕ) → AllByRecursion IsItem items → is_live log s ≡ true
     → next_number log s + length (put_lines log c by s items) ≤ last_number → IsLegal log → last_clock log ≤ c
     → Adds log (put_lines log c by s items) c
@@ -109,7 +116,8 @@ adds_puts (item ∷ items) log c by s lawful live fits legal order =
     (λ next is fits' legal' order'.
     adds_puts items next c by s lawful.1 (ap (λ l. is_live l s) is ∙ live) fits' legal' order')
 
--- What follows if a command of a tenure of the actor's own is accepted.
+-- A command of the tenure `t` was accepted with the lines `lines` and the reply `reply`. The tenure exists and is that
+-- of the actor `by`, and the decision `next` on its state accepts with these lines and this reply.
 pub record Owned (log : Journal) (by t : ℕ) (next : TenureState → Decision) (lines : List Line) (reply : Reply) :
     Type 0 where
   pub state : TenureState
@@ -117,6 +125,8 @@ pub record Owned (log : Journal) (by t : ℕ) (next : TenureState → Decision) 
   pub own : state.by ≡ by
   pub rest : next state ≡ Accepted lines reply
 
+-- If a command is accepted that only the tenure's own actor may make, the tenure is the actor's, and the rest of the
+-- decision accepts (`Owned`).
 pub owned : (log : Journal) (by t : ℕ) (next : TenureState → Decision) (lines : List Line) (reply : Reply)
     → with_tenure log by t next ≡ Accepted lines reply
     → Owned log by t next lines reply
@@ -125,21 +135,26 @@ owned log by t next lines reply h =
     let b = passes refusal.NotYours _ _ lines reply a.2 in
     record { state = a.0; begun = a.1; own = equal_unless _ _ b.0; rest = b.1 }
 
--- The parent is read to its end.
+-- If there is a parent, it isn't listed, or its row's checkpoint is its end.
 abbrev pub IsParentRead : Journal → ℕ → ℕ → Option ℕ → Type 0
 IsParentRead log c s None = Unit {0}
 IsParentRead log c s (Some parent) = is_unread log c (ref s parent) ≡ false
 
+-- If a decision is accepted that begins with the test of a parent, the parent, if there is one, isn't listed or was
+-- read to its end, and the rest of the decision (`next`) is accepted.
 pub past_the_parent : (log : Journal) (c s : ℕ) (o : Option ℕ) (next : Decision) (lines : List Line) (reply : Reply)
     → past_parent log c s o next ≡ Accepted lines reply → IsParentRead log c s o × (next ≡ Accepted lines reply)
 past_the_parent log c s None next lines reply h = (tt, h)
 past_the_parent log c s (Some parent) next lines reply h = let a =
     passes (refusal.ParentsOpen (ref s parent)) _ _ lines reply h in (a.0, a.1)
 
+-- Each parent of the shard isn't listed, or its row's checkpoint is its end.
 abbrev pub AreParentsRead : Journal → ℕ → ℕ → Option ShardState → Type 0
 AreParentsRead log c s None = Unit {0}
 AreParentsRead log c s (Some x) = IsParentRead log c s x.parent × IsParentRead log c s x.adjacent
 
+-- If a decision is accepted that begins with the test of both parents, each parent isn't listed or was read to its end,
+-- and the rest of the decision (`next`) is accepted.
 pub past_the_parents : (log : Journal) (c s : ℕ) (o : Option ShardState) (next : Decision) (lines : List Line)
     (reply : Reply)
     → past_parents log c s o next ≡ Accepted lines reply → AreParentsRead log c s o × (next ≡ Accepted lines reply)
@@ -149,21 +164,22 @@ past_the_parents log c s (Some x) next lines reply h =
     let b = past_the_parent log c s x.adjacent _ lines reply a.1 in
     ((a.0, b.0), b.1)
 
--- The decision on the making of a row with an origin that already counts.
+-- The decision on MakeLease for a row whose origin will be `from`.
 abbrev lease_with : Journal → ℕ → ℕ → ShardRef → Origin → Decision
 lease_with log c by key from =
     refuse refusal.ShardGone if not (is_listed_key log c key) else
     refuse refusal.LeaseThere if is_some (row log key) else
     Accepted (plain_line c by (entry.LeaseMade key from) ∷ []) (replies.Leased from)
 
--- The origin that counts still counts if it is asked for again.
+-- The choice between the trim horizon and the origin `from` gives the same origin if it is made twice. `b` is true if
+-- the trim horizon is chosen.
 counts_once : (b : Bool)
     (from : Origin) → (if b then origin.TrimHorizon else (if b then origin.TrimHorizon else from))
     ≡ (if b then origin.TrimHorizon else from)
 counts_once true from = refl
 counts_once false from = refl
 
--- The decision on a stream's name is the one on the live stream with this name.
+-- If `s` is the live stream with the name `name`, the decision on this name is the decision on `s`.
 of_named : (log : Journal) (name : List ℕ) (s : ℕ) (next : ℕ → Decision) (d : Decision) → stream_named log name ≡ Some s
     → with_stream log name next ≡ d
     → in_stream log s (next s) ≡ d
@@ -174,7 +190,8 @@ of_named log name s next d named h =
 one_less : (n : ℕ) → n + 1 - 1 ≡ n
 one_less n = omega arith
 
--- The line that a command adds records an accepted command.
+-- If a command is accepted and adds one line, the command that this line's entry records is accepted with this line,
+-- too (`told`).
 told_allowed : (log : Journal) (c by : ℕ) (what : Command) (line : Line) (r : Reply) → walks.Tells log c by what line r
     → decide log c by what ≡ Accepted (line ∷ []) r → told log line line.what ≡ Accepted (line ∷ []) r
 told_allowed log c by _ _ _ (walks.Deletes name s named) h = of_named log name s _ _ named h
@@ -207,7 +224,7 @@ told_range log c by _ _ _ (walks.Puts name item s named fits) lawful = (lawful.1
 told_range log c by _ _ _ (walks.Keeps name wanted raise s named fits) lawful = (lawful.1, refl)
 told_range log c by _ _ _ _ lawful = (tt, refl)
 
--- The lines of an outcome are good.
+-- If a lawful command is accepted, the lines that it adds may be added to the legal journal (`Adds`).
 outcome_legal : (log : Journal) (c by : ℕ) (what : Command) (lines : List Line) (answer : Result Reply Refusal)
     → walks.Outcome log c by what lines answer
     → ((r : Reply) → answer ≡ Ok r → decide log c by what ≡ Accepted lines r) → IsLawfulCommand what → IsLegal log
@@ -242,11 +259,13 @@ decided_legal : (log : Journal) (c by : ℕ) (what : Command) → IsLawfulComman
 decided_legal log c by what lawful legal order =
     outcome_legal log c by what _ _ (walks.walk log c by what) (is_accepted (decide log c by what)) lawful legal order
 
--- The journal of a history is legal, and no line is later than the history's clock.
+-- The journal of the history `h` is legal, and none of its lines is later than the clock of `h`.
 pub record HasJournal (h : List Turn) : Type 0 where
   pub legal : IsLegal (journal h)
   pub order : last_clock (journal h) ≤ clock h
 
+-- The journal of each history of lawful turns is legal, and none of its lines is later than the history's clock
+-- (`HasJournal`).
 pub journals : (h : List Turn) → IsHistory h → HasJournal h
 journals [] lawful = record { legal = tt; order = omega arith }
 journals (turn ∷ h) lawful =

@@ -1,4 +1,5 @@
--- A read comes after an opening of its tenure, and at this opening the parents are past.
+-- In a legal journal, each read comes after its tenure was opened. A tenure is opened only once each parent of its
+-- shard is expired or was read to its end.
 use Rattle.std.proofs.Common.{◌≡◌, ℕ, zero, suc, ◌+◌, ◌<◌, ◌≤◌, Bool, true, false, List, [], ◌∷◌, ◌++◌, length, Option}
 use Rattle.std.proofs.Common.{Some, None, refl, sym, ap, subst, ◌∙◌, arith, inl, inr, length-append}
 use Rattle.std.specs.Prelude.{◌==◌, ◌&&◌, ◌⊎◌, not, slice_get, if◌then◌else◌}
@@ -29,13 +30,16 @@ use Rattle.kcl_laws.proofs.Steps.{TenureStep, Begun, Same, Opening, Reading, Giv
 
 -- ---- The parents of a shard are shards of its stream
 
+-- If there is a number in the first argument, it is below `n`.
 abbrev pub IsBelow : Option ℕ → ℕ → Type 0
 IsBelow None n = Unit {0}
 IsBelow (Some p) n = p < n
 
+-- The parents of the shard `x`, if it has them, have numbers below `n`.
 abbrev pub HasParents : ℕ → ShardState → Type 0
 HasParents n x = IsBelow x.parent n × IsBelow x.adjacent n
 
+-- The parents of all shards in `xs`, if they have them, have numbers below `n`.
 abbrev pub HaveParents : ℕ → List ShardState → Type 0
 HaveParents n xs = AllByRecursion (HasParents n) xs
 
@@ -62,12 +66,13 @@ parents-first : (i start n : ℕ) (ranges : List Span) → HaveParents n (first_
 parents-first i start n [] = tt
 parents-first i start n (r ∷ rs) = ((tt, tt), parents-first (i + 1) start n rs)
 
--- An open shard is in the list.
+-- If the list of shards has an open shard at the index `sh`, this index is below the list's length.
 open_within : (xs : List ShardState) (sh : ℕ) → is_open_at (slice_get xs sh) ≡ true → sh < length xs
 open_within [] sh h = absurd cc
 open_within (x ∷ xs) zero h = omega arith
 open_within (x ∷ xs) (suc sh) h = omega (arith, open_within xs sh h)
 
+-- If the index `sh` is below the list's length, the list has a shard at this index.
 pub there_is : (xs : List ShardState) (sh : ℕ) → sh < length xs → (x : ShardState) × (slice_get xs sh ≡ Some x)
 there_is [] sh h = absurd (omega arith)
 there_is (x ∷ xs) zero h = (x, refl)
@@ -137,6 +142,7 @@ parents_after log line (entry.Merged stream sh other number child) reply h s sta
     before
 parents_after log line _ reply h s start before = before
 
+-- In a legal journal, the parents of each shard of the stream `s` have the numbers of shards of this stream.
 pub parents : (log : Journal) → IsLegal log → (s : ℕ) → HaveParents (length (shards log s)) (shards log s)
 parents [] legal s = tt
 parents (line ∷ log) legal s =
@@ -149,7 +155,7 @@ parents_at [] n sh x h is = absurd cc
 parents_at (y ∷ ys) n zero x h is = let e : y ≡ x = cc in subst (HasParents n) e h.0
 parents_at (y ∷ ys) n (suc sh) x h is = parents_at ys n sh x h.1 is
 
--- ---- A parent that was passed is past
+-- ---- A parent that passes the test of OpenShard is expired or was read to its end
 
 past_by : (log : Journal) (c s : ℕ) (p : ℕ) (x : ShardState) (b : Bool) → reads_end (row log (ref s p)) ≡ b
     → shard_at log s p ≡ Some x → (is_listed_state log c s (shard_at log s p) && not b) ≡ false
@@ -191,6 +197,7 @@ opened_by log line t T (Reading S limit ended numbers what is new) before h =
 opened_by log line t T (Giving S what is new) before h =
     inr (before S is (ap (λ (U : TenureState). U.opened) (sym new) ∙ h))
 
+-- If the state of a tenure says that it is opened, the journal has a line that opens it.
 pub was_opened : (log : Journal) (t : ℕ) (T : TenureState) → tenure log t ≡ Some T → T.opened ≡ true → WasOpened log t
 was_opened [] t T is h = absurd cc
 was_opened (line ∷ log) t T is h =
@@ -215,6 +222,8 @@ in_line log line (entry.Read t limit ended numbers) reply legal h =
     was_opened log t f.state f.begun (holds_so _ a.0)
 in_line log line _ reply legal h = tt
 
+-- In a legal journal, each opening of a tenure comes when the parents of its shard are expired or were read to their
+-- ends, and each read comes after an opening of its tenure (`AreInLine`).
 pub all_in_line : (log : Journal) → IsLegal log → AreInLine log
 all_in_line [] legal = tt
 all_in_line (line ∷ log) legal =

@@ -1,4 +1,4 @@
--- The open shards of each stream partition the keys.
+-- In a legal journal, the ranges of the open shards of each stream partition the hash keys.
 use Rattle.std.proofs.Common.{◌≡◌, ℕ, Bool, true, false, List, [], ◌∷◌, ◌++◌, Option, Some, None, refl, subst, ◌∙◌}
 use Rattle.std.specs.Prelude.{◌==◌, ◌||◌, slice_get, if◌then◌else◌}
 use Rattle.std.proofs.lemmas.Bool.{and_parts}
@@ -19,7 +19,8 @@ use Rattle.kds_defs.specs.Tiled.{IsTiled}
 use Rattle.kds_defs.proofs.Decisions.{passes, holds_so}
 use Rattle.kds_defs.proofs.Tiles.{same_times, tiled_new, tiled_split, tiled_merge}
 
--- A split keeps the partition, for a shard that is given as an option.
+-- If the shards `xs` are tiled (`IsTiled`) and the shard in `o`, which is at the index `sh`, is open and can be split
+-- at the key `at`, the shards after this split are tiled.
 split_there : (xs : List ShardState) (sh n m at start : ℕ) (closing : Closing) (p q : Option ℕ) (o : Option ShardState)
     → slice_get xs sh ≡ o → is_open_at o ≡ true → is_inside (range_of o) at ≡ true → IsTiled xs
     → IsTiled (with_closed sh closing xs
@@ -39,7 +40,8 @@ merge_there xs sh other n start closing p q (Some x) None is is' open_x open_y t
 merge_there xs sh other n start closing p q (Some x) (Some y) is is' open_x open_y touch tiled =
     tiled_merge xs sh other n start closing p q x y is is' open_x open_y touch tiled
 
--- One of two lists of shards is a partition if each list is one in its case.
+-- If `xs` is tiled (`IsTiled`) whenever `b` is true, and `ys` whenever `b` is false, then the list that `b` chooses is
+-- tiled.
 chosen : (b : Bool) (xs ys : List ShardState) → (b ≡ true → IsTiled xs) → (b ≡ false → IsTiled ys)
     → IsTiled (if b then xs else ys)
 chosen true xs ys h g = h refl
@@ -49,7 +51,7 @@ or_else : (b d : Bool) → (b || d) ≡ true → b ≡ false → d ≡ true
 or_else true d h f = absurd cc
 or_else false d h f = h
 
--- One more line keeps the partition.
+-- If the shards of a stream are tiled (`IsTiled`) before an accepted line, they are tiled after it.
 tiled_after : (log : Journal) (line : Line) (e : Entry) (reply : Reply) → IsInRange e
     → told log line e ≡ Accepted (line ∷ []) reply
     → (s start : ℕ) → (was_made log s ≡ true → IsTiled (shards log s)) → was_made_after e s (was_made log s) ≡ true
@@ -88,11 +90,14 @@ tiled_after log line (entry.Merged stream sh other number child) reply range h s
     (λ other. before made)
 tiled_after log line _ reply range h s start before made = before made
 
+-- In a legal journal, the shards of each stream that was made are tiled: each hash key is in exactly one open shard
+-- (`IsTiled`).
 pub tiled : (log : Journal) → IsLegal log → (s : ℕ) → was_made log s ≡ true → IsTiled (shards log s)
 tiled [] legal s made = absurd cc
 tiled (line ∷ log) legal s made =
     tiled_after log line line.what legal.0.reply legal.0.in_range legal.0.allowed s (next_number (line ∷ log) s)
     (tiled log legal.1 s) made
 
+-- In a legal journal, the ranges of the open shards of each stream partition the hash keys (`HasPartitions`).
 pub partitions : (log : Journal) → IsLegal log → HasPartitions log
 partitions log legal s made k below = same_times (shards log s) k ∙ (tiled log legal s made).times k below

@@ -1,4 +1,5 @@
--- The numbers of a shard's records, and their byte counts.
+-- The sequence numbers of a shard's records rise from the shard's starting sequence number on, and the byte count of
+-- each record is the length of its payload and its key.
 use Rattle.std.proofs.Common.{◌≡◌, ℕ, ◌+◌, ◌≤◌, Bool, true, false, List, [], ◌∷◌, ◌++◌, length, Option, Some, None}
 use Rattle.std.proofs.Common.{refl, sym, ap, subst, arith}
 use Rattle.std.specs.Prelude.{◌==◌, ◌&&◌, if◌then◌else◌}
@@ -43,6 +44,8 @@ drawn_of start None [] q below from is = omega arith
 drawn_of start None (r ∷ rs) q below from is = absurd from.0
 drawn_of start (Some x) rs q below from is = rise_from x.start 1 rs q (below x refl) from is
 
+-- In a legal journal, the numbers of a shard's records rise from the shard's starting sequence number on, and are below
+-- the stream's next sequence number (`AreDrawn`).
 pub all_drawn : (log : Journal) → IsLegal log → (s sh : ℕ) → AreDrawn log s sh
 all_drawn log legal s sh =
     drawn_of 0 (shard_at log s sh) (records log s sh) (next_number log s)
@@ -88,19 +91,22 @@ next_by log line (entry.Merged stream shard other number child) reply s h le =
     (λ is. ap (next_number log) (equal_so stream s is))
 next_by log line _ reply s h le = omega arith
 
+-- In a legal journal, the next sequence number of a stream fits into a `u64`.
 pub next_fits : (log : Journal) → IsLegal log → (s : ℕ) → next_number log s ≤ last_number
 next_fits [] legal s = omega arith
 next_fits (line ∷ log) legal s = next_by log line line.what legal.0.reply s legal.0.allowed (next_fits log legal.1 s)
 
 -- ---- Bytes
 
--- A put tells the byte count of its record, which is no greater than a record may have.
+-- If the entry is a put, its byte counts are the lengths of the line's payload and key, and both together are within
+-- the limit of a record.
 IsSizedEntry : Line → Entry → Type 0
 IsSizedEntry line (entry.Put s sh number hash bytes key_bytes) =
     (bytes ≡ length line.payload) × (key_bytes ≡ length line.key)
     × (length line.payload + length line.key ≤ RECORD_BYTES)
 IsSizedEntry line _ = Unit {0}
 
+-- Each put among the lines has the byte counts of its line's payload and key (`IsSizedEntry`).
 abbrev AreSized : List Line → Type 0
 AreSized ls = AllByRecursion (λ l. IsSizedEntry l l.what) ls
 
@@ -144,5 +150,7 @@ sized_journal h lawful =
     each_journal (λ line. IsSizedEntry line line.what) IsLawful (λ log c turn is line added.
     line_sized log c turn.by turn.what line added is.1) h lawful
 
+-- In the journal of a history, each record has the byte count of its payload and key, which fits into one batch
+-- (`IsSized`).
 pub all_sized : (h : List Turn) → IsHistory h → (s sh : ℕ) → AllByRecursion IsSized (records (journal h) s sh)
 all_sized h lawful s sh = sized_records (journal h) s sh (sized_journal h lawful)

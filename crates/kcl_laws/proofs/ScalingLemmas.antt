@@ -1,4 +1,5 @@
--- The lines of a scaling are good, since each is a merge or a split that may be made by itself.
+-- The lines of a scaling (UpdateShardCount) are good, because each of them is that of a merge or a split that would be
+-- accepted by itself.
 use Rattle.std.proofs.Common.{◌≡◌, ℕ, zero, suc, ◌+◌, ◌-◌, ◌^◌, ◌<◌, ◌≤◌, Bool, true, false, List, [], ◌∷◌, ◌++◌}
 use Rattle.std.proofs.Common.{length, map, Option, Some, None, refl, sym, ap, subst, ◌∙◌, arith, length-append}
 use Rattle.std.specs.Prelude.{◌==◌, ◌&&◌, ◌||◌, cond, is_none, not, nat_le, nat_lt, if◌then◌else◌}
@@ -189,6 +190,7 @@ length_cut xs sh at closing start = length-append _ _ ∙ ap (λ n. n + 2) (leng
 
 -- ---- The open shards of the other streams
 
+-- Those of the streams `ts` that aren't `s`.
 others : ℕ → List ℕ → List ℕ
 others s ts = filter (λ t. not (t == s)) ts
 
@@ -225,7 +227,8 @@ elsewhere_cut log c by s b =
     (λ t differ. ap (λ r. if r then split_shards (home log s b) b (record { number = next_number log s; clock = c })
     (next_number (cut_line log c by s b ∷ log) t) (shards log t) else shards log t) (other_stream s t differ))
 
--- All open shards are those of the stream and those of the other streams.
+-- If the streams `us` have as many open shards as those of them that aren't `s`, this is still so with the stream `t`,
+-- which isn't `s`, in front. `b` is true if `t` is added.
 beyond_by : (b d : Bool) (log : Journal) (t s : ℕ) (us : List ℕ) → not (t == s) ≡ d → d ≡ true
     → open_in log us ≡ open_in log (others s us)
     → open_in log (cond b (t ∷ us) us) ≡ open_in log (others s (cond b (t ∷ us) us))
@@ -355,7 +358,8 @@ filtered p (x ∷ xs) h = kept (p x) x (filter p xs) h.0 (filtered p xs h.1)
     kept true x ys h g = (h, g)
     kept false x ys h g = g
 
--- The lines of a scaling of a live stream are good.
+-- The lines of a scaling of the live stream `s` to `target` shards may be added to a legal journal (`Adds`), if the
+-- limit on open shards is kept and the stream has enough sequence numbers and shard numbers left.
 pub adds_scaling : (log : Journal) (c by s target : ℕ) → is_live log s ≡ true → 1 ≤ target → target ≤ 500
     → open_elsewhere log s + target ≤ OPEN_SHARDS
     → next_number log s + length (steps_to log s target) ≤ last_number

@@ -1,4 +1,5 @@
--- What the text of a legal journal shows is a legal journal.
+-- If a journal is legal, so is the journal that its text shows, in which zero bytes replace the keys and payloads of
+-- puts.
 use Rattle.std.proofs.Common.{◌≡◌, ℕ, zero, suc, ◌+◌, ◌≤◌, Bool, true, false, List, [], ◌∷◌, length, map, slice_get}
 use Rattle.std.proofs.Common.{Option, Some, None, refl, sym, ap, subst, ◌∙◌}
 use Rattle.std.specs.Prelude.{◌==◌, ◌&&◌, ◌||◌, not, is_some, nat_le, nat_lt, if◌then◌else◌}
@@ -28,7 +29,8 @@ use Rattle.kcl_laws.proofs.ShownReadings.{clock_is, ends_is, enforced_is, home_i
 use Rattle.kcl_laws.proofs.ShownReadings.{made_is, named_is, next_is, numbers_are, open_is, origin_is, puts_are, row_is}
 use Rattle.kcl_laws.proofs.ShownReadings.{shards_are, streams_are, taken_is, tenure_is}
 
--- If the first decision is an acceptance, so is the second, and its lines are those that the text shows.
+-- If the first decision accepts, the second accepts too, with the lines that the text shows for the lines of the first.
+-- Nothing is claimed if the first decision refuses.
 abbrev Shows : Decision → Decision → Type 0
 Shows (Refused r) d = Unit {0}
 Shows (Accepted lines reply) (Refused r) = ⊥
@@ -63,7 +65,8 @@ held_past : (log : Journal) (by t : ℕ) (f f' : TenureState → Decision) → (
 held_past log by t f f' h =
     tenure_past log by t _ _ (λ T. past _ _ _ _ _ _ (λ i. not (tenure_in (row_is log T.key i) == t)) (h T))
 
--- The test of a row's counter leads to the same case in both journals.
+-- If `Shows` holds of the decisions `d` and `d'`, it still holds if both begin with the test of the row's counter. This
+-- test has the same outcome in a journal and in what its text shows.
 counter_past : (log : Journal) (key : ShardRef) (counter : ℕ) (r r' : Refusal) (d d' : Decision) → Shows d d'
     → Shows (refuse r if not (counter_in (row log key) == counter) else d)
     (refuse r' if not (counter_in (row (shown_journal log) key) == counter) else d')
@@ -111,7 +114,7 @@ length-blank : (n : ℕ) → length (blank n) ≡ n
 length-blank zero = refl
 length-blank (suc n) = ap suc (length-blank n)
 
--- A put tells the lengths of its payload and of its key.
+-- If the entry is a put, its byte counts are the lengths of the line's payload and key.
 abbrev IsSized : Line → Entry → Type 0
 IsSized line (entry.Put s sh n hash bytes key_bytes) = (length line.payload ≡ bytes) × (length line.key ≡ key_bytes)
 IsSized line _ = Unit {0}
@@ -202,7 +205,7 @@ shows_told log line (entry.LeaseCut key counter) is sized =
 
 -- ---- A good line
 
--- A good put tells the byte counts of its payload and of its key.
+-- If two puts are the same entry, they have the same byte counts of the payload and the same byte counts of the key.
 same_bytes : (s s' h sh n n' hash hash' bytes bytes' k k' : ℕ)
     → entry.Put s h n hash bytes k ≡ entry.Put s' sh n' hash' bytes' k' → (bytes ≡ bytes') × (k ≡ k')
 same_bytes s s' h sh n n' hash hash' bytes bytes' k k' e = (cc, cc)
@@ -234,10 +237,12 @@ shown_good log line g =
       allowed = so.1;
     }
 
+-- If a journal is legal, the journal that its text shows is legal.
 pub shown_legal : (log : Journal) → IsLegal log → IsLegal (shown_journal log)
 shown_legal [] h = tt
 shown_legal (line ∷ log) h = (shown_good log line h.0, shown_legal log h.1)
 
+-- If a journal is legal and none of its lines is later than `c`, the same is true of the journal that its text shows.
 pub shown_reached : (log : Journal) (c : ℕ) → IsReached log c → IsReached (shown_journal log) c
 shown_reached log c h =
     record { legal = shown_legal log h.legal; order = subst (λ n. n ≤ c) (sym (clock_is log)) h.order }

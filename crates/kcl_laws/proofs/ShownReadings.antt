@@ -1,4 +1,5 @@
--- A journal and what its text shows of it have the same readings.
+-- The journal that a text shows, in which zero bytes replace the keys and payloads of puts, has the same streams,
+-- shards, record numbers, rows and tenures as the journal itself.
 use Rattle.std.proofs.Common.{◌≡◌, ℕ, ◌+◌, ◌-◌, ◌*◌, max, Bool, true, false, List, [], ◌∷◌, ◌++◌, length, map}
 use Rattle.std.proofs.Common.{slice_get, Option, Some, None, refl, sym, ap, ◌∙◌}
 use Rattle.std.specs.Prelude.{◌==◌, ◌&&◌, ◌||◌, not, if◌then◌else◌}
@@ -35,12 +36,14 @@ use Rattle.kds_defs.specs.Streams.{made_count, made_count_after, name_of, name_o
 use Rattle.kds_defs.specs.Streams.{stream_named, trim_floor, was_made, was_made_after}
 use Rattle.kcl_laws.proofs.BareRecords.{beginning_bare, first_bare, left_bare, none_bare, numbers_bare}
 
+-- The shown journal has the same last clock.
 pub clock_is : (log : Journal) → last_clock (shown_journal log) ≡ last_clock log
 clock_is [] = refl
 clock_is (line ∷ log) = refl
 
 -- ---- Streams
 
+-- In the shown journal, as many streams were made.
 pub made_is : (log : Journal) → made_count (shown_journal log) ≡ made_count log
 made_is [] = refl
 made_is (line ∷ log) = ap (made_count_after line.what) (made_is log)
@@ -49,6 +52,7 @@ was_is : (log : Journal) (s : ℕ) → was_made (shown_journal log) s ≡ was_ma
 was_is [] s = refl
 was_is (line ∷ log) s = ap (was_made_after line.what s) (was_is log s)
 
+-- In the shown journal, the same streams are live.
 pub live_is : (log : Journal) (s : ℕ) → is_live (shown_journal log) s ≡ is_live log s
 live_is [] s = refl
 live_is (line ∷ log) s = ap (is_live_after line.what s) (live_is log s)
@@ -57,6 +61,7 @@ name_is : (log : Journal) (s : ℕ) → name_of (shown_journal log) s ≡ name_o
 name_is [] s = refl
 name_is (line ∷ log) s = ap (name_of_after line.what s) (name_is log s)
 
+-- In the shown journal, each stream has the same retention.
 pub hours_is : (log : Journal) (s : ℕ) → hours (shown_journal log) s ≡ hours log s
 hours_is [] s = refl
 hours_is (line ∷ log) s = ap (hours_after line.what s) (hours_is log s)
@@ -70,19 +75,22 @@ floor_is (line ∷ log) s =
 trim_is : (log : Journal) (c s : ℕ) → trim_floor (shown_journal log) c s ≡ trim_floor log c s
 trim_is log c s = λ i. max (floor_at c (hours_is log s i * HOUR)) (floor_is log s i)
 
+-- The shown journal has the same list of live streams.
 pub streams_are : (log : Journal) → live_streams (shown_journal log) ≡ live_streams log
 streams_are log = λ i. filter (λ s. live_is log s i) (numbers_from 1 (made_is log i))
 
+-- In the shown journal, each name is that of the same live stream.
 pub named_is : (log : Journal) (name : List ℕ) → stream_named (shown_journal log) name ≡ stream_named log name
 named_is log name = λ i. find (λ s. same_name (name_is log s i) name) (streams_are log i)
 
 -- ---- Shards
 
+-- In the shown journal, each stream has the same next sequence number.
 pub next_is : (log : Journal) (s : ℕ) → next_number (shown_journal log) s ≡ next_number log s
 next_is [] s = refl
 next_is (line ∷ log) s = ap (λ n. draws line.what s + n) (next_is log s)
 
--- Only the clock of a line counts for the shards.
+-- The shards after a line don't depend on the key and the payload of the line, but on its clock and entry alone.
 line_is : (line : Line) (what : Entry) (s start : ℕ) (before : List ShardState)
     → shards_after (shown_line line) what s start before ≡ shards_after line what s start before
 line_is line (entry.Made a name count) s start before = refl
@@ -90,12 +98,14 @@ line_is line (entry.Split a sh at number low high) s start before = refl
 line_is line (entry.Merged a sh other number child) s start before = refl
 line_is line _ s start before = refl
 
+-- In the shown journal, each stream has the same shards.
 pub shards_are : (log : Journal) (s : ℕ) → shards (shown_journal log) s ≡ shards log s
 shards_are [] s = refl
 shards_are (line ∷ log) s =
     line_is line line.what s (next_number (shown_journal (line ∷ log)) s) (shards (shown_journal log) s)
     ∙ (λ i. shards_after line line.what s (next_is (line ∷ log) s i) (shards_are log s i))
 
+-- In the shown journal, each hash key has the same home.
 pub home_is : (log : Journal) (s k : ℕ) → home (shown_journal log) s k ≡ home log s k
 home_is log s k = λ i. home_among (filter is_open (shards_are log s i)) k
 
@@ -103,6 +113,7 @@ open_list : (log : Journal) (ss : List ℕ) → open_in (shown_journal log) ss �
 open_list log [] = refl
 open_list log (s ∷ ss) = λ i. length (filter is_open (shards_are log s i)) + open_list log ss i
 
+-- In the shown journal, as many shards are open.
 pub open_is : (log : Journal) → open_count (shown_journal log) ≡ open_count log
 open_is log = ap (open_in (shown_journal log)) (streams_are log) ∙ open_list log (live_streams log)
 
@@ -111,6 +122,7 @@ state_is : (log : Journal) (c s : ℕ) (o : Option ShardState)
 state_is log c s None = refl
 state_is log c s (Some x) = λ i. not (not (live_is log s i) || is_closed_below (trim_is log c s i) x)
 
+-- In the shown journal, the same shards are listed.
 pub listed_is : (log : Journal) (c s sh : ℕ) → is_listed (shown_journal log) c s sh ≡ is_listed log c s sh
 listed_is log c s sh =
     ap (λ (xs : List ShardState). is_listed_state (shown_journal log) c s (slice_get xs sh)) (shards_are log s)
@@ -166,6 +178,7 @@ left_are log c s sh position =
         ∙ sym (left_bare floor position rs)
     by false = refl
 
+-- In the shown journal, a read returns records with the same numbers.
 pub numbers_are : (log : Journal) (c s sh position limit : ℕ)
     → numbers_of (batch (shown_journal log) c s sh position limit) ≡ numbers_of (batch log c s sh position limit)
 numbers_are log c s sh position limit =
@@ -175,6 +188,7 @@ numbers_are log c s sh position limit =
     ∙ sym (ap numbers_of (beginning_bare limit BATCH_BYTES (left_from log c s sh position)))
     ∙ numbers_bare (batch log c s sh position limit)
 
+-- In the shown journal, each shard ends at the same positions.
 pub ends_is : (log : Journal) (c s sh place : ℕ) → ends_at (shown_journal log) c s sh place ≡ ends_at log c s sh place
 ends_is log c s sh place = λ i. is_closed_at (slice_get (shards_are log s i) sh) && none_is i
   where
@@ -192,16 +206,18 @@ first_is log c s sh moment otherwise =
 
 -- ---- Throughput
 
+-- In the shown journal, the limits of the same streams are on.
 pub enforced_is : (log : Journal) (s : ℕ) → is_enforced (shown_journal log) s ≡ is_enforced log s
 enforced_is [] s = refl
 enforced_is (line ∷ log) s = ap (enforced_after line.what s) (enforced_is log s)
 
--- Only the clock of a line counts for the puts.
+-- The puts after a line don't depend on the key and the payload of the line, but on its clock and entry alone.
 put_one : (line : Line) (what : Entry) (s sh : ℕ) (before : List SizedPut)
     → puts_after (shown_line line) what s sh before ≡ puts_after line what s sh before
 put_one line (entry.Put a shard n hash bytes key_bytes) s sh before = refl
 put_one line _ s sh before = refl
 
+-- In the shown journal, each shard has the same puts, with their sizes.
 pub puts_are : (log : Journal) (s sh : ℕ) → puts (shown_journal log) s sh ≡ puts log s sh
 puts_are [] s sh = refl
 puts_are (line ∷ log) s sh = put_one line line.what s sh (puts (shown_journal log) s sh)
@@ -209,6 +225,7 @@ puts_are (line ∷ log) s sh = put_one line line.what s sh (puts (shown_journal 
 
 -- ---- Rows and tenures
 
+-- In the shown journal, as many tenures have begun.
 pub taken_is : (log : Journal) → taken_count (shown_journal log) ≡ taken_count log
 taken_is [] = refl
 taken_is (line ∷ log) = ap (taken_count_after line.what) (taken_is log)
@@ -217,7 +234,7 @@ key_is : (log : Journal) (t : ℕ) → key_of (shown_journal log) t ≡ key_of l
 key_is [] t = refl
 key_is (line ∷ log) t = λ i. key_of_after line.what t (taken_is log i) (key_is log t i)
 
--- A row has the same floor in both journals.
+-- In the shown journal, a row that is made for the key `key` with the origin `from` gets the same floor.
 floor_from_is : (log : Journal) (c : ℕ) (key : ShardRef) (from : Origin)
     → floor_from (shown_journal log) c key from ≡ floor_from log c key from
 floor_from_is log c key origin.TrimHorizon = λ i. start_of (slice_get (shards_are log key.stream i) key.shard)
@@ -248,6 +265,7 @@ row_one log line (entry.Marked t counter to) key o o' e =
     λ i. if is_key (key_is log t i) key then option_map (marked_row to) (e i) else e i
 row_one log line _ key o o' e = e
 
+-- In the shown journal, each key has the same row.
 pub row_is : (log : Journal) (key : ShardRef) → row (shown_journal log) key ≡ row log key
 row_is [] key = refl
 row_is (line ∷ log) key = row_one log line line.what key (row log key) (row (shown_journal log) key) (row_is log key)
@@ -262,12 +280,13 @@ tenure_one log line (entry.Read u limit ended numbers) t o o' e =
 tenure_one log line (entry.Given u) t o o' e = λ i. if u == t then option_map with_given (e i) else e i
 tenure_one log line _ t o o' e = e
 
+-- In the shown journal, each tenure has the same state.
 pub tenure_is : (log : Journal) (t : ℕ) → tenure (shown_journal log) t ≡ tenure log t
 tenure_is [] t = refl
 tenure_is (line ∷ log) t =
     tenure_one log line line.what t (tenure log t) (tenure (shown_journal log) t) (tenure_is log t)
 
--- ---- The origin that counts
+-- ---- The origin that a new row gets
 
 reaches_is : (log : Journal) (s : ℕ) (o : Option ℕ)
     → parent_reaches_end (shown_journal log) s o ≡ parent_reaches_end log s o
@@ -280,6 +299,7 @@ follows_is log key =
     λ i. reaches_is log key.stream (parent_of (slice_get (shards_are log key.stream i) key.shard)) i
     || reaches_is log key.stream (adjacent_of (slice_get (shards_are log key.stream i) key.shard)) i
 
+-- In the shown journal, a new row gets the same origin.
 pub origin_is : (log : Journal) (key : ShardRef) (from : Origin)
     → counting_origin (shown_journal log) key from ≡ counting_origin log key from
 origin_is log key from = λ i. if follows_is log key i then origin.TrimHorizon else from

@@ -1,4 +1,4 @@
--- The state of a tenure is the one that the lines of the journal determine.
+-- The state of a tenure in a journal is the one that the lines about the tenure determine (`IsToldTenure`).
 use Rattle.std.proofs.Common.{◌≡◌, ℕ, ◌+◌, Bool, true, false, List, [], ◌∷◌, ◌++◌, length, Option, Some, None, refl, ap}
 use Rattle.std.proofs.Common.{◌∙◌, arith}
 use Rattle.std.specs.Prelude.{◌==◌, ◌||◌, cond, if◌then◌else◌}
@@ -13,7 +13,7 @@ use Rattle.kds_defs.specs.Leases.{with_given, with_opened, with_read}
 use Rattle.kcl_laws.specs.TenureLines.{Told, all_told, begins, givings, newer_than, reads_told, since_taking, taken_key}
 use Rattle.kcl_laws.specs.TenureLines.{taking, was_opened, IsToldTenure}
 
--- The tenure that the lines determine and that began by the line in the last argument.
+-- The state of the tenure `t` that the line `begun` began and that the lines `ls` since then changed.
 abbrev told_by : ℕ → List Told → Told → TenureState
 told_by t ls begun =
     record {
@@ -25,9 +25,11 @@ told_by t ls begun =
       given = length (givings t ls);
     }
 
+-- The state of the tenure `t` that the lines `ls` determine, or None if none of them begins it.
 abbrev told : ℕ → List Told → Option TenureState
 told t ls = option_map (told_by t (newer_than t ls)) (find (begins t) ls)
 
+-- The line with the entry `e` of the actor `by`, after the lines of `log`.
 abbrev here : ℕ → Journal → Entry → Told
 here by log e = record { by = by; what = e; before = log }
 
@@ -92,9 +94,12 @@ all : (log : Journal) (t : ℕ) → tenure log t ≡ told t (all_told log)
 all [] t = refl
 all (line ∷ log) t = told_line t line.by log line line.what (all_told log) refl (all log t)
 
+-- If no line begins the tenure `t`, there is no such tenure.
 pub never : (log : Journal) (t : ℕ) → taking log t ≡ None → tenure log t ≡ None
 never log t is = all log t ∙ ap (λ o. option_map (told_by t (since_taking log t)) o) is
 
+-- If the line `l` begins the tenure `t`, its state is the one that `l` and the lines since then determine
+-- (`IsToldTenure`).
 pub begun : (log : Journal) (t : ℕ) (l : Told) → taking log t ≡ Some l → IsToldTenure log t l
 begun log t l is =
     record {

@@ -1,4 +1,5 @@
--- The commands that are accepted only while the row names the tenure that they state.
+-- The commands that a tenure may make only while it holds its row, which means that the row names this tenure: Renew,
+-- Free, OpenShard and Mark.
 use Rattle.std.specs.Prelude.{ℕ, ◌≡◌, Option, Some, None, Result, Err}
 use Rattle.kds_defs.specs.declared.command.Command.{Command}
 use Rattle.kds_defs.specs.declared.command.Command.TheVariants as command
@@ -9,7 +10,8 @@ use Rattle.kds_defs.specs.declared.reply.Reply.{Reply}
 use Rattle.kds_defs.specs.Journal.{Journal}
 use Rattle.kds_defs.specs.Leases.{TenureState, row, tenure, tenure_in}
 
--- The tenure by which a command opens a shard or writes a row.
+-- The tenure that the command names, if the command is a Renew, a Free, an OpenShard or a Mark. Other commands have
+-- none here.
 abbrev pub acting : Command → Option ℕ
 acting (command.Renew t counter) = Some t
 acting (command.Free t counter) = Some t
@@ -17,19 +19,21 @@ acting (command.OpenShard t) = Some t
 acting (command.Mark t counter to) = Some t
 acting _ = None
 
--- The command of `turn` acts by the tenure `t`, which has the state `T`.
+-- The command of `turn` is a Renew, a Free, an OpenShard or a Mark that names the tenure `t`, and `T` is the state of
+-- this tenure in the journal `log`.
 pub record ActsBy (log : Journal) (turn : Turn) (t : ℕ) (T : TenureState) : Type 0 where
   pub asks : acting turn.what ≡ Some t
   pub begun : tenure log t ≡ Some T
 
--- The tenure that is named by the row of the key of `T`, or 0.
+-- The number of the tenure that the row of the key of `T` names, or 0 if the row names none or doesn't exist.
 abbrev pub row_tenure : Journal → TenureState → ℕ
 row_tenure log T = tenure_in (row log T.key)
 
--- The row of the key of `T` names another tenure than `t`, or none.
+-- The tenure `t`, whose state is `T`, has lost its row: the row of its key names another tenure or none, or doesn't
+-- exist.
 abbrev pub HasLost : Journal → TenureState → ℕ → Type 0
 HasLost log T t = row_tenure log T ≡ t → ⊥
 
--- The actor of the tenure is told which tenure the row names now.
+-- The refusal `Lost` with the number of the tenure that the row of the key of `T` names, or 0 if it names none.
 abbrev pub lost_answer : Journal → TenureState → Result Reply Refusal
 lost_answer log T = Err (refusal.Lost (row_tenure log T))

@@ -1,4 +1,4 @@
--- The records of a shard, and how far a checkpoint may lie among them.
+-- The sequence numbers and the sizes of the records of a shard, and whether a shard has a record at or above a number.
 use Rattle.std.specs.Prelude.{ℕ, ◌+◌, ◌≡◌, ◌≤◌, ◌⊎◌, List, [], ◌∷◌, length, Some}
 use Rattle.kds_base.specs.declared.lease_key.ShardRef.{ShardRef}
 use Rattle.kds_defs.specs.declared.command.Origin.TheVariants.{TrimHorizon}
@@ -9,22 +9,23 @@ use Rattle.kds_defs.specs.Journal.{Journal}
 use Rattle.kds_defs.specs.Records.{Logged, records, next_number}
 use Rattle.kds_defs.specs.Shards.{shard_at, start_of}
 
--- The sequence numbers of the records rise, from `first` on, and are below `next`.
+-- The sequence numbers of the records rise strictly, are at or above `first`, and are below `next`. If there are no
+-- records, `first` is at most `next`.
 abbrev pub RiseBetween : ℕ → List Logged → ℕ → Type 0
 RiseBetween first [] next = first ≤ next
 RiseBetween first (r ∷ rs) next = (first ≤ r.seq) × RiseBetween (r.seq + 1) rs next
 
--- The sequence numbers of the shard's records rise from the shard's starting number on, and are below the next number
--- of the stream `s`.
+-- The sequence numbers of the records of shard `sh` rise strictly. They are at or above the shard's starting sequence
+-- number, and below the next sequence number of the stream `s`.
 abbrev pub AreDrawn : Journal → ℕ → ℕ → Type 0
 AreDrawn log s sh = RiseBetween (start_of (shard_at log s sh)) (records log s sh) (next_number log s)
 
--- The byte count of `r` is that of its payload and its key, and fits into one batch (Kinesis API Reference,
--- GetRecords).
+-- The byte count of the record `r` is the length of its payload and its key together, and is at most what one batch may
+-- have (Kinesis API Reference, GetRecords).
 abbrev pub IsSized : Logged → Type 0
 IsSized r = (r.bytes ≡ length r.payload + length r.key) × (r.bytes ≤ BATCH_BYTES)
 
--- The record `r` without its key and payload, on which no decision depends.
+-- The record `r` with an empty key and an empty payload.
 abbrev pub bare : Logged → Logged
 bare r = record r { key = []; payload = [] }
 

@@ -1,4 +1,5 @@
--- The commands on rows that aren't given by a tenure: a survey, a making, a take and a cut.
+-- The commands on leases that don't name a tenure: Survey, MakeLease, Take and CutLease. If the rows and tenures stand
+-- for a journal, the answers of the lease table are those of the definitions.
 use Rattle.std.proofs.Common.{◌≡◌, ◌≢◌, ℕ, ◌+◌, ◌<◌, ◌≤◌, Bool, true, false, List, [], ◌∷◌, ◌++◌, length, Option, Some}
 use Rattle.std.proofs.Common.{None, refl, sym, ap, subst, ◌∙◌, arith}
 use Rattle.std.specs.Prelude.{◌==◌, ◌||◌, not, is_some, if◌then◌else◌, Result, Ok, Err}
@@ -44,18 +45,20 @@ use Rattle.kcl_leases.specs.Standing.{Facing, Leads, Stands, leases, live_shard}
 
 -- ---- A row is made
 
--- A shard that doesn't exist, or whose stream isn't live, isn't listed.
+-- A shard that doesn't exist, or whose stream isn't live, isn't listed. `b` is true if the stream is live.
 unlisted_state : (log : Journal) (c s : ℕ) (o : Option ShardState) (b : Bool) → is_live log s ≡ b
     → option_map shown (if b then o else None) ≡ None → is_listed_state log c s o ≡ false
 unlisted_state log c s None b live h = refl
 unlisted_state log c s (Some x) true live h = absurd cc
 unlisted_state log c s (Some x) false live h = ap (λ b. not (not b || is_closed_below (trim_floor log c s) x)) live
 
+-- If the shards have no shard of the key `key` in a live stream, the key's shard isn't listed.
 pub unlisted : (log : Journal) (c : ℕ) (key : ShardRef) → None ≡ option_map shown (live_shard log key)
     → is_listed_key log c key ≡ false
 unlisted log c key h =
     unlisted_state log c key.stream (shard_at log key.stream key.shard) (is_live log key.stream) refl (sym h)
 
+-- The shard of the key `key` exists, its stream is live, and callers see the shard as `y`.
 pub record IsShard (log : Journal) (key : ShardRef) (y : Shard) : Type 0 where
   pub state : ShardState
   pub live : is_live log key.stream ≡ true
@@ -72,16 +75,18 @@ shard_by log key (Some x) true y live at h = record { state = x; live = live; at
     same a b h = cc
 shard_by log key (Some x) false y live at h = absurd cc
 
+-- If the shards give `y` for the key `key`, the shard of this key exists in a live stream, and callers see it as `y`.
 pub is_shard : (log : Journal) (key : ShardRef) (y : Shard) → Some y ≡ option_map shown (live_shard log key)
     → IsShard log key y
 is_shard log key y h = shard_by log key (shard_at log key.stream key.shard) (is_live log key.stream) y refl refl h
 
--- The starting number of the shard.
+-- The starting sequence number of `y`, as callers see it, is that of the shard.
 pub starts_at : (log : Journal) (key : ShardRef) (y : Shard) → IsShard log key y
     → y.start ≡ start_of (shard_at log key.stream key.shard)
 starts_at log key y of = ap (λ (z : Shard). z.start) of.is_shown ∙ sym (ap start_of of.at)
 
--- A parent's row reaches the parent's end in the journal exactly if it does in the rows `rs`.
+-- Whether a parent has a row whose floor is at or below the parent's end is the same by the rows `rs` as in the
+-- journal.
 reaches_is : (log : Journal) (rs : List Row) (s : ℕ) (o : Option ℕ) → is_live log s ≡ true
     → ((k : ShardRef) → row log k ≡ row_of rs k) → parent_reaches_end log s o ≡ parent_reaches log rs s o
 reaches_is log rs s None live rows = refl
@@ -89,7 +94,7 @@ reaches_is log rs s (Some parent) live rows =
     ap (λ r. row_reaches_end r (shard_at log s parent)) (rows (ref s parent))
     ∙ sym (ap (λ b. row_reaches_end (row_of rs (ref s parent)) (if b then shard_at log s parent else None)) live)
 
--- The origin that counts is the same for the journal and for the rows `rs`.
+-- The origin that a new row gets is the same by the rows `rs` as in the journal.
 counting_is : (log : Journal) (rs : List Row) (key : ShardRef) (y : Shard) (from : Origin) → IsShard log key y
     → ((k : ShardRef) → row log k ≡ row_of rs k) → counting_origin log key from ≡ counting_from log rs key.stream y from
 counting_is log rs key y from of rows =
@@ -102,7 +107,8 @@ counting_is log rs key y from of rows =
     ∙ ap (λ b. if parent_reaches log rs key.stream y.parent || b then origin.TrimHorizon else from)
     (reaches_is log rs key.stream y.adjacent of.live rows)
 
--- The row that is made is the one of the definitions.
+-- The row that the code makes, from the floor `floor` and the checkpoint `start`, is the one of the definitions
+-- (`made_row`).
 made_is : (log : Journal) (c : ℕ) (key : ShardRef) (y : Shard) (from : Origin) (floor : ℕ) (start : Checkpoint)
     → IsShard log key y → floor ≡ floor_from log c key from → start ≡ start_from from floor
     → made_row log c key from ≡ new_row key floor start y.parent y.adjacent
@@ -122,6 +128,8 @@ made_here log c key k from new o true same is =
     ap (λ (q : ShardRef). Some (made_row log c q from)) (sym (same_ref key k same)) ∙ ap Some is
 
 module _ (s : Facing) (rs : List Row) (ts : List TenureValue) (by : ℕ) (key : ShardRef) where
+  -- If the shard of the key `key` isn't listed, MakeLease is refused with `ShardGone`, and the rows and tenures stay
+  -- the same.
   pub make_gone : (from : Origin)
       → ((log : Journal) → Stands (leases s rs ts) log → is_listed_key log s.clock key ≡ false)
       → Leads (leases s rs ts) (leases s rs ts) by (command.MakeLease key from) (Err refusal.ShardGone)
@@ -135,6 +143,7 @@ module _ (s : Facing) (rs : List Row) (ts : List TenureValue) (by : ℕ) (key : 
   some_row None r h = absurd cc
   some_row (Some x) r h = (refl, err_same r refusal.LeaseThere h)
 
+  -- If the key `key` has a row already, MakeLease is refused with `LeaseThere`, and the rows and tenures stay the same.
   pub make_there : (from : Origin) (r : Refusal)
       → ◌≡◌ {A = Result (Unit {0}) Refusal} (Err r) (if is_some (row_of rs key) then Err refusal.LeaseThere else Ok tt)
       → ((log : Journal) → Stands (leases s rs ts) log → true ≡ is_listed_key log s.clock key)
@@ -150,6 +159,8 @@ module _ (s : Facing) (rs : List Row) (ts : List TenureValue) (by : ℕ) (key : 
   no_row None h = refl
   no_row (Some x) h = absurd cc
 
+  -- If the key `key` has no row and its shard is listed, MakeLease is accepted, and the new row is inserted. Its origin
+  -- `counts` is the one that a new row gets if `from` was asked for.
   pub make_done : (y : Shard) (from counts : Origin) (floor : ℕ) (start : Checkpoint) → LeaseLines s
       → ◌≡◌ {A = Result (Unit {0}) Refusal} (Ok tt) (if is_some (row_of rs key) then Err refusal.LeaseThere else Ok tt)
       → ((log : Journal) → Stands (leases s rs ts) log → true ≡ is_listed_key log s.clock key)
@@ -180,7 +191,8 @@ module _ (s : Facing) (rs : List Row) (ts : List TenureValue) (by : ℕ) (key : 
 
 -- ---- A row is taken
 
--- What the definitions require of a take.
+-- The decision on a take of the row `o` at the counter `counter`, which `next` gives if nothing refuses it. `spent` is
+-- true if no number is left for a further tenure.
 abbrev taking : Option Row → ℕ → Bool → (Row → Decision) → Decision
 taking o counter spent next =
     with o or refusal.NoLease then λ r.
@@ -201,6 +213,9 @@ taking_refused (Some x) counter spent r next h =
     || spent then Err refusal.Spent else Ok x.checkpoint) _ h (λ ended h.
     refused_test ((x.counter == last_number) || spent) r _ (Ok x.checkpoint) _ h (λ full h. never r x.checkpoint _ h)))
 
+-- The take of the row `o` is allowed: the row exists with the counter `counter` and the checkpoint `start`, its counter
+-- can rise, and a number is left for a further tenure (`spent` is false). So the decision goes on with this row, and
+-- the lease table answers with the counter after the write.
 pub record IsTaken (o : Option Row) (counter : ℕ) (spent : Bool) (start : Checkpoint) : Type 0 where
   pub before : Row
   pub at : o ≡ Some before
@@ -211,6 +226,7 @@ pub record IsTaken (o : Option Row) (counter : ℕ) (spent : Bool) (start : Chec
   pub goes : (next : Row → Decision) → taking o counter spent next ≡ next before
   pub answered : take_answer o counter ≡ Ok (before.counter + 1)
 
+-- If the test of a take gives the checkpoint `start`, the take is allowed (`IsTaken`).
 pub is_taken : (o : Option Row) (counter : ℕ) (spent : Bool) (start : Checkpoint)
     → Ok start ≡ start_answer o counter spent → IsTaken o counter spent start
 is_taken None counter spent start h = absurd cc
@@ -235,6 +251,7 @@ is_taken (Some x) counter spent start h =
           ∙ ap (λ b. if b then Err refusal.Spent else Ok (x.counter + 1)) both.0;
     }
 
+-- If `n` is at most `last_number` and isn't `last_number` (`b` is false), it is below it.
 pub below_last : (n : ℕ) (b : Bool) → b ≡ (n == last_number) → b ≡ false → n ≤ last_number → n < last_number
 below_last n b is apart le = let other : n ≢ last_number = differ_so n last_number (sym is ∙ apart) in
     omega arith
@@ -250,13 +267,15 @@ module _ (s : Facing) (rs : List Row) (ts : List TenureValue) (by : ℕ) (key : 
   along log st = ap (λ o. taking o counter (taken_count log == last_number) (taken_next log)) (st.row_is key)
       ∙ ap (λ n. taking (row_of rs key) counter (n == last_number) (taken_next log)) st.count_is
 
+  -- If the test of the take refuses (`start_answer`), Take is refused for the same reason, and the rows and tenures
+  -- stay the same.
   pub take_refused : (r : Refusal) → Err r ≡ start_answer (row_of rs key) counter (length ts == last_number)
       → Leads (leases s rs ts) (leases s rs ts) by (command.Take key counter owner) (Err r)
   take_refused r h = λ log st.
       after_refused (decide log s.clock by (command.Take key counter owner)) r log (Stands (leases s rs ts))
       (along log st ∙ taking_refused (row_of rs key) counter (length ts == last_number) r (taken_next log) h) st
 
-  -- The take is accepted.
+  -- If the test of the take gives the checkpoint `start` (`start_answer`), Take is accepted.
   pub take_allowed : (start : Checkpoint) → Ok start ≡ start_answer (row_of rs key) counter (length ts == last_number)
       → (log : Journal) → Stands (leases s rs ts) log
       → (r : Reply) × (answer_of (decide log s.clock by (command.Take key counter owner)) ≡ Ok r)
@@ -267,6 +286,8 @@ module _ (s : Facing) (rs : List Row) (ts : List TenureValue) (by : ℕ) (key : 
         ap answer_of (along log st ∙ of.goes (taken_next log)),
       )
 
+  -- If the test of the take gives the checkpoint `start`, Take is accepted. The row then names the worker `owner` and
+  -- the new tenure `t`, which begins at `start`.
   pub take_done : (start : Checkpoint) (t n : ℕ) → LeaseLines s
       → Ok start ≡ start_answer (row_of rs key) counter (length ts == last_number) → length ts ≤ last_number
       → t ≡ length ts + 1 → Ok n ≡ take_answer (row_of rs key) counter
@@ -298,8 +319,10 @@ module _ (s : Facing) (rs : List Row) (ts : List TenureValue) (by : ℕ) (key : 
             (with_lines (lines_of (decide log s.clock by (command.Take key counter owner))) log)) (sym no) taken.1,
       )
 
--- ---- A row is cut
+-- ---- A row is removed
 
+-- The decision on the removal of the row `o` at the counter `counter`, which is `next` if nothing refuses it. `listed`
+-- is true if the row's shard is listed.
 abbrev cutting : Option Row → ℕ → Bool → Decision → Decision
 cutting o counter listed next =
     with o or refusal.NoLease then λ r.
@@ -335,6 +358,8 @@ module _ (s : Facing) (rs : List Row) (ts : List TenureValue) (by : ℕ) (key : 
       ap (λ o. cutting o counter (is_listed_key log s.clock key) (Accepted (cut_line ∷ []) reply.Done)) (st.row_is key)
       ∙ ap (λ b. cutting (row_of rs key) counter b (Accepted (cut_line ∷ []) reply.Done)) (sym (listed_is log st))
 
+  -- If the lease table refuses the removal of the key's row, CutLease is refused for the same reason, and the rows and
+  -- tenures stay the same.
   pub cut_refused : (r : Refusal) → Err r ≡ cut_answer (row_of rs key) counter listed
       → Leads (leases s rs ts) (leases s rs ts) by (command.CutLease key counter) (Err r)
   cut_refused r h = λ log st.
@@ -342,6 +367,7 @@ module _ (s : Facing) (rs : List Row) (ts : List TenureValue) (by : ℕ) (key : 
       (cut_along log st ∙ cutting_refused (row_of rs key) counter listed r (Accepted (cut_line ∷ []) reply.Done) h)
       st
 
+  -- If the lease table allows the removal of the key's row, CutLease is accepted, and the key has no row any more.
   pub cut_done : LeaseLines s → Ok tt ≡ cut_answer (row_of rs key) counter listed
       → Leads (leases s rs ts) (leases s (without_row key rs) ts) by (command.CutLease key counter) (Ok reply.Done)
   unfolding cut_line

@@ -1,4 +1,4 @@
--- A line of a stream leaves the rows and the tenures as they were.
+-- A line about a stream, which is about no lease, changes no row and no tenure.
 use Rattle.std.proofs.Common.{◌≢◌, List, ◌∷◌, None}
 use Rattle.kds_defs.proofs.Elsewhere.{keys_same, row_same, taken_same, tenure_same}
 use Rattle.kds_defs.specs.declared.reply.Row.{Row}
@@ -8,19 +8,22 @@ use Rattle.kcl_book.specs.Tenures.{TenureValue}
 use Rattle.kcl_leases.proofs.LeaseSteps.{HasRows, HasTenures, rows_of, same_rows, same_tenures, stands_of, tenures_of}
 use Rattle.kcl_leases.specs.Standing.{Facing, Stands, leases}
 
+-- If the rows are those of the journal (`HasRows`), they still are after a line about a stream.
 pub rows_beside : (log : Journal) (line : Line) (rows : List Row) → stream_of line.what ≢ None → HasRows log rows
     → HasRows (line ∷ log) rows
 rows_beside log line rows of has =
     same_rows log line rows (λ keys. keys_same line.what keys of)
     (λ key before. row_same log line line.what key before of) has
 
+-- If the tenures are those of the journal (`HasTenures`), they still are after a line about a stream.
 pub tenures_beside : (log : Journal) (line : Line) (ts : List TenureValue) → stream_of line.what ≢ None
     → HasTenures log ts → HasTenures (line ∷ log) ts
 tenures_beside log line ts of has =
     same_tenures log line ts (λ n. taken_same line.what n of) (λ t before. tenure_same log line line.what t before of)
     has
 
--- A line of a stream also leaves what stands for the journal as it was.
+-- If leases stand for a journal, then after a line about a stream that leads to the shards `new`, the same rows and
+-- tenures with these shards stand for the journal with this line.
 pub stands_beside : (old new : Facing) (rows : List Row) (ts : List TenureValue) (log : Journal) (line : Line)
     → stream_of line.what ≢ None
     → new.shows (line ∷ log) → Stands (leases old rows ts) log → Stands (leases new rows ts) (line ∷ log)

@@ -1,4 +1,4 @@
--- What leases know of shards, and which rows and tenures stand for a journal.
+-- The shards, rows and tenures as the commands on leases see them, and the journal for which they stand.
 use Rattle.std.specs.Prelude.{ℕ, ◌≡◌, ◌≢◌, ◌≤◌, if◌then◌else◌, List, [], ◌∷◌, drop, length, map, Option, None, Result}
 use Rattle.std.specs.Prelude.{IfSome}
 use Rattle.std.specs.Option.{option_map}
@@ -21,24 +21,28 @@ use Rattle.kcl_book.specs.declared.tenure.PendingRead.{PendingRead}
 use Rattle.kcl_book.specs.Tenures.{TenureValue, tenure_at}
 use Rattle.kcl_table.specs.Rows.{row_of}
 
--- The shard of a key in a journal, if its stream is live.
+-- The shard of the key `key`, if there is one and its stream is live.
 abbrev pub live_shard : Journal → ShardRef → Option ShardState
 live_shard log key = if is_live log key.stream then shard_at log key.stream key.shard else None
 
--- What leases know of shards: the clock at which the shards stand, and the journals that they show.
+-- The shards as the commands on leases see them: the clock at which they are seen (`clock`), and the journals that lead
+-- to these shards (`shows`).
 pub record Facing : Type 1 where
   pub clock : ℕ
   pub shows : Journal → Type 0
 
+-- The shards that are seen at the clock `clock`, and to which the journals in `shows` lead.
 abbrev pub facing : ℕ → (Journal → Type 0) → Facing
 facing clock shows = record { clock = clock; shows = shows }
 
--- A line of a lease at the clock `clock` changes no shard.
+-- If a journal leads to the shards (`shows`), it still does with one more line at the clock `clock` that is about no
+-- stream. Such a line is about a lease, and changes no shard.
 abbrev pub KeepsShards : ℕ → (Journal → Type 0) → Type 0
 KeepsShards clock shows = (log : Journal) (line : Line) → shows log → line.clock ≡ clock → stream_of line.what ≡ None
     → shows (line ∷ log)
 
--- The shards, the rows of the leases, and the tenures in the order of their numbers.
+-- The state of the leases as contracts see it: the shards, the rows of the lease table, and the tenures in the order of
+-- their numbers.
 pub record LeasesValue : Type 1 where
   pub shards : Facing
   pub rows : List Row
@@ -47,19 +51,22 @@ pub record LeasesValue : Type 1 where
 abbrev pub leases : Facing → List Row → List TenureValue → LeasesValue
 leases s rows ts = record { shards = s; rows = rows; tenures = ts }
 
--- The rows and tenures beside shards that stand at the clock `clock` and show the journals `shows`.
+-- The state of the leases with the rows `rows` and the tenures `ts`. The shards are seen at the clock `clock`, and the
+-- journals in `shows` lead to them.
 abbrev pub over : ℕ → (Journal → Type 0) → List Row → List TenureValue → LeasesValue
 over clock shows rows ts = leases (facing clock shows) rows ts
 
 -- ---- Tenures
 
--- The reads as the book keeps them, if the first one begins at `place`.
+-- The reads in the form in which the book of tenures keeps them: for each read, the position after it, and whether it
+-- ended the shard. The first read begins at `position`, and each other one where the one before it ended.
 abbrev pub pending_from : ℕ → List ReadDone → List PendingRead
 pending_from place [] = []
 pending_from place (r ∷ rs) =
     record { reach = place_after place r.numbers; end = r.ended } ∷ pending_from (place_after place r.numbers) rs
 
--- A tenure as the book keeps it.
+-- The tenure with the state `T`, in the form in which the book of tenures keeps it. Of its reads, the book keeps those
+-- that aren't given yet.
 abbrev pub kept : TenureState → TenureValue
 kept T =
     record {
@@ -73,24 +80,27 @@ kept T =
       at_end = last_ended (given_reads T);
     }
 
--- No more reads of the tenure are given than there are.
+-- No more reads of the tenure `T` are given than it has made.
 abbrev pub IsGiven : TenureState → Type 0
 IsGiven T = T.given ≤ length T.reads
 
 -- ---- Rows
 
--- No two rows have the same key.
+-- No two of the rows have the same key.
 abbrev pub AreDistinct : List Row → Type 0
 AreDistinct [] = Unit {0}
 AreDistinct (r ∷ rs) = (row_of rs r.key ≡ None) × AreDistinct rs
 
--- After the checkpoint of each row there is a further sequence number.
+-- No row among `rows` has its checkpoint at the greatest possible sequence number, so that the number after a
+-- checkpoint is always a possible one.
 abbrev pub AreBounded : List Row → Type 0
 AreBounded rows = (key : ShardRef) → checkpoint_in (row_of rows key) ≢ At last_number
 
 -- ---- Rows and tenures
 
--- The shards show the journal, and the journal's rows and tenures are those of `w`.
+-- The leases `w` stand for the journal `log`: the journal leads to the shards, the rows and the tenures of `w`. Also,
+-- the rows have different keys, no checkpoint is at the greatest possible sequence number, there are at most
+-- `last_number` tenures, and no tenure has given more reads than it has made.
 pub record Stands (w : LeasesValue) (log : Journal) : Type 0 where
   pub shows : w.shards.shows log
   pub keys_are : row_keys log ≡ map (λ (r : Row). r.key) w.rows
@@ -102,14 +112,15 @@ pub record Stands (w : LeasesValue) (log : Journal) : Type 0 where
   pub tenure_is : (t : ℕ) → option_map kept (tenure log t) ≡ tenure_at w.tenures t
   pub given : (t : ℕ) → IfSome (tenure log t) IsGiven
 
--- The command `what` of the actor `by`, at the shards' clock, is answered by `gives`, and leads from `old` to `new`.
+-- If the leases `old` stand for a journal, `gives` is the answer to the command `what` of the actor `by` at the clock
+-- of the shards. The leases `new` stand for this journal with the lines that the command adds.
 abbrev pub Leads : LeasesValue → LeasesValue → ℕ → Command → Result Reply Refusal → Type 0
 Leads old new by what gives = (log : Journal) → Stands old log
     → (gives ≡ answer_of (decide log old.shards.clock by what))
     × Stands new (with_lines (lines_of (decide log old.shards.clock by what)) log)
 
--- The command leads from the rows `rows` and the tenures `ts` to `rows'` and `ts'`, beside shards that stand at the
--- clock `clock` and show the journals `shows`.
+-- The command `what` of the actor `by` leads from the rows `rows` and the tenures `ts` to `rows'` and `ts'`, and gets
+-- the answer `gives` (`Leads`). The shards are seen at the clock `clock`, and the journals in `shows` lead to them.
 abbrev pub LeadsOver : ℕ → (Journal → Type 0) → List Row → List TenureValue → List Row → List TenureValue → ℕ → Command
     → Result Reply Refusal → Type 0
 LeadsOver clock shows rows ts rows' ts' by what gives =

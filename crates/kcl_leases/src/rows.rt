@@ -17,9 +17,9 @@ use kcl_table::{Change, Table};
 use kds_base::{Checkpoint, Memory, ShardRef, TenureNo, WorkerNo};
 use kds_defs::{Answer, Origin, Refusal, Reply};
 
-/// Makes a row for the listed shard `key`. The function `counting` decides the row's origin. The origin decides the
-/// row's first checkpoint and the row's floor, which is the sequence number at which reading of the shard begins. If
-/// memory runs out, no row is made.
+/// Makes a row for the listed shard `key`. The function `effective_origin` decides the row's origin. The origin decides
+/// the row's first checkpoint and the row's floor, which is the sequence number at which reading of the shard begins.
+/// If memory runs out, no row is made.
 pub fn make<L: Shards>(
     shards: &L,
     table: &mut Table,

@@ -1,4 +1,5 @@
--- What stays true of a driven worker from step to step.
+-- The answered commands of a worker are the turns of its pass (`IsDriven`). This stays true from step to step, through
+-- calls, commands and answers.
 use Rattle.std.proofs.Common.{◌≡◌, ℕ, ◌+◌, List, [], ◌∷◌, length, Option, Some, Result, refl, sym, ap, ap₂, subst, ◌∙◌}
 use Rattle.std.proofs.Common.{inl, inr}
 use Rattle.std.specs.Prelude.{◌↔◌, ◌^◌, IsSome}
@@ -27,11 +28,14 @@ use Rattle.kcl_live.proofs.Histories.{before_own, none_told, told_more}
 
 -- ---- Events that aren't turns
 
+-- Between the records `past` and `later`, no command was answered: both have the same turns and the same deals. If each
+-- answer in `past` came right after its command, each answer in `later` did too.
 record IsQuiet (by : ℕ) (made : WorkerMade) (past later : WorkerPast) : Type 0 where
   turns : turns_in by made later ≡ turns_in by made past
   deals : deals_after made later ≡ deals_after made past
   once : IsAtOnce past → IsAtOnce later
 
+-- Calls of processors answer no command (`IsQuiet`).
 quiet_calls : (by : ℕ) (made : WorkerMade) (asked : List Ask) (past : WorkerPast)
     → IsQuiet by made past (with_calls asked past)
 quiet_calls by made [] past = record { turns = refl; deals = refl; once = λ o. o }
@@ -40,6 +44,8 @@ quiet_calls by made (a ∷ asked) past =
     record { turns = q.turns; deals = q.deals; once = q.once }
 
 module _ {P F : Type 0} (stands : P → List Call → Type 0) (by : ℕ) (seen own : List Turn) where
+  -- `IsDriven` still holds for a later record in which no more commands were answered (`IsQuiet`), if the worker `v`
+  -- stands for it.
   driven_quiet : (w v : WorkerStanding P F) (past later : WorkerPast) → v.made ≡ w.made → IsQuiet by w.made past later
       → StandsFor stands v later → IsDriven stands by seen own w past → IsDriven stands by seen own v later
   driven_quiet w v past later made q stood d = record {
@@ -49,25 +55,28 @@ module _ {P F : Type 0} (stands : P → List Call → Type 0) (by : ℕ) (seen o
     told = λ h c alone. d.told h c alone ∙ sym q.deals ∙ ap (λ m. deals_after m later) (sym made);
   }
 
+  -- `IsDriven` still holds after calls of the worker's processors, since a call is no turn.
   pub driven_called : (w v : WorkerStanding P F) (past : WorkerPast) (asked : List Ask) → v.made ≡ w.made
       → StandsFor stands v (with_calls asked past) → IsDriven stands by seen own w past
       → IsDriven stands by seen own v (with_calls asked past)
   driven_called w v past asked made stood d =
       driven_quiet w v past (with_calls asked past) made (quiet_calls by w.made asked past) stood d
 
+  -- `IsDriven` still holds after the worker was told to stop, since this is no turn.
   pub driven_stopped : (w v : WorkerStanding P F) (past : WorkerPast) → v.made ≡ w.made
       → StandsFor stands v (Stopped ∷ past) → IsDriven stands by seen own w past
       → IsDriven stands by seen own v (Stopped ∷ past)
   driven_stopped w v past made stood d =
       driven_quiet w v past (Stopped ∷ past) made (record { turns = refl; deals = refl; once = λ o. o }) stood d
 
+  -- `IsDriven` still holds after the worker gave a command, since a command counts as a turn only once it is answered.
   pub driven_asked : (w v : WorkerStanding P F) (past : WorkerPast) (at : ℕ) → v.made ≡ w.made
       → StandsFor stands v (Gave_command at ∷ past) → IsDriven stands by seen own w past
       → IsDriven stands by seen own v (Gave_command at ∷ past)
   driven_asked w v past at made stood d =
       driven_quiet w v past (Gave_command at ∷ past) made (record { turns = refl; deals = refl; once = λ o. o }) stood d
 
-  -- The worker is still driven in a history that goes on.
+  -- `IsDriven` still holds if the pass has seen the turns `later`, which go on from `seen`.
   pub driven_later : (w : WorkerStanding P F) (past : WorkerPast) (later : List Turn) → Continues later seen
       → IsDriven stands by seen own w past → IsDriven stands by later own w past
   driven_later w past later c d = record {
@@ -77,37 +86,42 @@ module _ {P F : Type 0} (stands : P → List Call → Type 0) (by : ℕ) (seen o
     told = λ h k same. d.told h (continues_all h later seen k c) same;
   }
 
-  -- A new worker is driven.
+  -- `IsDriven` holds for a new worker whose pass has no turns of its own.
   pub driven_new : (w : WorkerStanding P F) → StandsFor stands w [] → own ≡ [] → IsDriven stands by seen own w []
   driven_new w stood none =
       record { stood = stood; own_are = none; at_once = tt; told = λ h c same. none_told by h (same ∙ none) }
 
 -- ---- A command that is answered
 
--- If a command waits, its answer makes one turn.
+-- If the command `p` waits for its answer, the answer adds one turn, with this command.
 with_answer : (by at : ℕ) (what : Command) (o : Option Pending) (p : Pending) (turns : List Turn) → o ≡ Some p
     → p.what ≡ what → with_turn by at o turns ≡ record { by = by; at = at; what = what } ∷ turns
 with_answer by at what o p turns is same =
     ap (λ x. with_turn by at x turns) is ∙ ap (λ (c : Command). record { by = by; at = at; what = c } ∷ turns) same
 
+-- If the command `p` waits for its answer `a`, the answer adds one deal, this command with `a`.
 deal_answer : (what : Command) (a : Result Reply Refusal) (o : Option Pending) (p : Pending) (deals : List Deal)
     → o ≡ Some p → p.what ≡ what → with_deal o a deals ≡ record { what = what; answer = a } ∷ deals
 deal_answer what a o p deals is same =
     ap (λ x. with_deal x a deals) is ∙ ap (λ (c : Command). record { what = c; answer = a } ∷ deals) same
 
+-- In this module, the worker `w`, which is driven (`IsDriven`), gave the command `what` at the moment `at` and became
+-- `u`.
 module _ {P F : Type 0} (stands : P → List Call → Type 0) (by : ℕ) (seen own : List Turn) (w u v : WorkerStanding P F)
     (past : WorkerPast) (at : ℕ) (what : Command) (given : u.made ≡ w.made) (d : IsDriven stands by seen own w past)
     (adds : AddsCommand stands w u at what) where
   turn : Turn
   turn = record { by = by; at = at; what = what }
 
-  -- The command waits.
+  -- `IsDriven` holds for `u`, whose command waits for its answer.
   pub asked_driven : IsDriven stands by seen own u (Gave_command at ∷ past)
   asked_driven = driven_asked stands by seen own w u past at given (adds past d.stood).3 d
 
+  -- The command of `u` that waits is the one that came next.
   waits : (worker_after u.made (Gave_command at ∷ past)).waiting ≡ Some (adds past d.stood).0
   waits = ap (λ m. next_pending m at (worker_after m past)) given ∙ (adds past d.stood).1
 
+  -- The answer adds one turn, with the command `what`.
   pub last_turn : (before : List Turn) → with_turn by at (worker_after u.made (Gave_command at ∷ past)).waiting before
       ≡ record { by = by; at = at; what = what } ∷ before
   last_turn before = with_answer by at what (worker_after u.made (Gave_command at ∷ past)).waiting (adds past d.stood).0
@@ -159,7 +173,8 @@ module _ {P F : Type 0} (stands : P → List Call → Type 0) (w u : WorkerStand
   asked : IsDriven stands before.by before.seen before.own u (Gave_command at ∷ past)
   asked = asked_driven stands before.by before.seen before.own w u u past at what given d adds
 
-  -- The turn was answered, and the answer was taken.
+  -- If the command became a turn, which the answer `a` answered, and the worker took this answer and became `v`, then
+  -- `HasTurned` holds.
   pub has_turned : (v : WorkerStanding P F) (a : Result Reply Refusal)
       → IsAnswered (record { by = before.by; at = at; what = what }) a before after → v.made ≡ u.made
       → AddsAnswer stands u v at a → HasTurned stands after v at past
@@ -182,7 +197,8 @@ module _ {P F : Type 0} (stands : P → List Call → Type 0) (w u : WorkerStand
         alone = t.all_own;
       }
 
-  -- The turn was answered, and the answer wasn't taken.
+  -- If the command became a turn, and memory ran out when the worker took the answer, which left the worker as it was,
+  -- then the run was cut short (`WasCut`).
   pub answer_failed : (v : WorkerStanding P F) (a : Result Reply Refusal)
       → IsAnswered (record { by = before.by; at = at; what = what }) a before after → v ≡ u → IsSome u.waiting
       → (e : TurnErr) → e ≡ failed.Memory → WasCut stands v after e
@@ -207,7 +223,8 @@ module _ {P F : Type 0} (stands : P → List Call → Type 0) (w u : WorkerStand
         driven = subst (λ n. IsDriven stands n t.place before.own u (Gave_command at ∷ past)) (sym same) there;
       })))
 
-  -- There was no turn.
+  -- If the command became no turn, the run was cut short (`WasCut`). The error is Spent exactly if the pass has seen
+  -- 2^64 - 1 turns.
   pub turn_failed : (e : TurnErr) → Continues after.seen before.seen → after.own ≡ before.own → (e ≡ failed.Spent)
       ↔ (length after.seen + 1 ≡ 2 ^ 64) → IsSome u.waiting → WasCut stands u after e
   turn_failed e seen own spent some =

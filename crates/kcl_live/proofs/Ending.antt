@@ -1,4 +1,5 @@
--- What callers see of a worker, and the worker's record.
+-- A worker has a due call, or is idle, exactly if the record for which it stands says so. These lemmas go from the one
+-- to the other.
 use Rattle.std.proofs.Common.{rules, ◌≡◌, false, List, [], ◌∷◌, Option, Some, None, refl, sym, ap, subst, ◌∙◌}
 use Rattle.std.specs.Prelude.{◌&&◌, cond, not, is_some, IsSome}
 use Rattle.std.specs.List.{find}
@@ -33,9 +34,11 @@ none_due_in stands (c ∷ cs) (k ∷ ks) none s =
 some_is : {A : Type 0} (x : A) → IsSome (Some x)
 some_is x = search rules
 
+-- If `o` is the same Option as `u`, and `u` has a value, then `o` has one.
 pub is_some_of : {A : Type 0} (o u : Option A) (x : A) → o ≡ u → u ≡ Some x → IsSome o
 is_some_of o u x e is = subst IsSome (sym (e ∙ is)) (some_is x)
 
+-- If `o` has a value, and `o` is None if `u` is, then `u` has a value.
 some_due : (o u : Option (ShardRef × Due)) → IsSome o → (u ≡ None → o ≡ None) → IsSome u
 some_due o (Some due) some same = due_is
   where
@@ -47,7 +50,8 @@ some_due (Some due) None some same = absurd (no_none (same refl))
     no_none : Some due ≡ None → ⊥
     no_none e = absurd cc
 
--- If a worker has a due call, another worker with the same record has one too.
+-- If the worker `w` has a due call, so has each worker `v` that was made with the same settings and stands for the same
+-- record.
 pub due_again : {P F : Type 0} (stands : P → List Call → Type 0) (w v : WorkerStanding P F) (past : WorkerPast)
     → v.made ≡ w.made → StandsFor stands w past → StandsFor stands v past → IsSome (due_in w.consumers)
     → IsSome (due_in v.consumers)
@@ -57,7 +61,7 @@ due_again stands w v past made s t some =
     (ap (λ m. find is_due_known (worker_after m past).consumers) (sym made)
     ∙ none_due stands v.consumers (worker_after v.made past).consumers none t.shows.consumers) s.shows.consumers)
 
--- A worker that wasn't stopped isn't idle.
+-- A worker whose record has no stop isn't idle.
 pub not_idle : {P F : Type 0} (stands : P → List Call → Type 0) (w : WorkerStanding P F) (past : WorkerPast)
     → StandsFor stands w past → is_stopping (worker_after w.made past).round ≡ false → is_idle_in w ≡ false
 not_idle stands w past s going =

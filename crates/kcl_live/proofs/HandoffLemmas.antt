@@ -1,4 +1,5 @@
--- The hand-off of a lease by a pass.
+-- A hand-off of a lease goes on step by step (`Goes`), while its commands become turns of a pass. At its end, the
+-- worker and its hand-offs have a joint record whose answered commands are the actor's turns.
 use Rattle.std.proofs.Common.{◌≡◌, ℕ, List, [], ◌∷◌, ◌++◌, length, Some, refl, sym, ap, ap₂, subst, ◌∙◌, inl, inr}
 use Rattle.std.specs.Prelude.{IsSome, Result}
 use Rattle.std.specs.List.{AllByRecursion, cons_option}
@@ -52,6 +53,8 @@ goes_on stands at x y z q r s same g f = λ start p before since by along.
 
 -- ---- Answers
 
+-- If each answer of the hand-off is the one to its command in the history `older`, the same is true in each history
+-- `later` that goes on from `older`.
 answered_later : (by at : ℕ) (h : Held) (m : Tenancy) (before : Past) (seen : List Turn) (since : HandPast)
     (place later : List Turn) → Continues later place
     → AreAnswered by at h m before seen since place → AreAnswered by at h m before seen since later
@@ -70,7 +73,8 @@ answered_later by at h m before seen (Hand_answered r ∷ since) place later c a
       },
     )
 
--- `AreAnswered` holds for an equal lease.
+-- `AreAnswered` doesn't change if an equal lease takes the place of the lease, and equal values the place of those that
+-- the consumer was made with.
 answered_of : (by at : ℕ) (h g : Held) (m n : Tenancy) (before : Past) (seen : List Turn) (since : HandPast)
     (later : List Turn) → h ≡ g → m ≡ n
     → AreAnswered by at h m before seen since later → AreAnswered by at g n before seen since later
@@ -120,7 +124,7 @@ module _ {P : Type 0} (stands : P → List Call → Type 0) (at : ℕ) (x y : Ha
       answered_of p.by at x.held y.held x.consumer.made y.consumer.made before p.seen since q.seen (sym held) (sym made)
       along.answered
 
-  -- The due call was made.
+  -- The hand-off goes on (`Goes`) if its due call was made.
   pub goes_called : (asks : P → List Stored → Ask → Type 0) → AddsHandCall stands asks x y → AddsDueCall stands x y
       → Goes stands at x y q q
   goes_called asks called adds start p before since by along =
@@ -143,7 +147,7 @@ module _ {P : Type 0} (stands : P → List Call → Type 0) (at : ℕ) (x y : Ha
         },
       )
 
-  -- The call is still due.
+  -- The hand-off goes on (`Goes`) if its due call ran out of memory, so that it is still due.
   pub goes_uncalled : AddsNothing stands x y → KeepsCalls stands x y → Goes stands at x y q q
   goes_uncalled nothing keeps start p before since by along = (
     since,
@@ -169,6 +173,7 @@ module _ {P : Type 0} (stands : P → List Call → Type 0) (at : ℕ) (x y : Ha
     (next : Some what ≡ command_at x.held x.consumer.made x.consumer.stage x.stand) (adds : AddsHandAnswer stands a x y)
     (same : r.by ≡ q.by)
     (t : IsAnswered (record { by = q.by; at = at; what = what }) a q r) where
+  -- For each record for which `x` stands, `what` is the command that comes next.
   command_is : (before : Past) (since : HandPast) → HandStandsFor stands x before since
       → Some what ≡ hand_command x.held x.consumer.made (hand_after x.held x.consumer.made before since)
   command_is before since st =
@@ -176,7 +181,7 @@ module _ {P : Type 0} (stands : P → List Call → Type 0) (at : ℕ) (x y : Ha
       next ∙ ap (λ p. command_at x.held x.consumer.made p x.stand) st.consumer.stage
       ∙ ap (command_at x.held x.consumer.made (stage_after x.consumer.made s.past)) st.stand
 
-  -- The next command was answered.
+  -- The hand-off goes on (`Goes`) if its next command became a turn and was answered.
   pub goes_answered : Goes stands at x y q r
   goes_answered start p before since by along =
       let h = x.held in
@@ -221,7 +226,8 @@ module _ {P : Type 0} (stands : P → List Call → Type 0) (at : ℕ) (x y : Ha
 
 -- ---- The worker with its hand-off
 
--- The commands of a hand-off are the newest of the worker and its hand-offs.
+-- After a release and the events `since` of its hand-off, the worker and its hand-offs have the deals from before the
+-- release (`joint_deals`). The hand-off's answered commands, with their answers, are added as the newest deals.
 joint_hand : (key : ShardRef) (made : WorkerMade) (joint : JointPast) (r : Release)
     → released key (worker_in made joint) ≡ Some r → (since : HandPast)
     → joint_deals made (with_hand key since made joint)
@@ -235,7 +241,8 @@ joint_hand key made joint r which (Hand_answered a ∷ since) =
     ∙ ap (answered_deals (hand_command r.held r.known.made (state_of (hand_of r since))) a)
     (joint_hand key made joint r which since)
 
--- The events of a hand-off may happen at its place in the joint record.
+-- If the joint record is possible (`AreOrderly`), it is still possible with a release and the events of its hand-off
+-- added. The worker must be able to release, and each answer among the events must be the one to its command.
 joint_orderly : (key : ShardRef) (made : WorkerMade) (joint : JointPast) (r : Release)
     → released key (worker_in made joint) ≡ Some r
     → MayHappen made (Released key) (worker_in made joint)
@@ -251,6 +258,9 @@ joint_orderly key made joint r which may by at seen (Hand_answered answered ∷ 
   joint_orderly key made joint r which may by at seen since a.0 a.1 orderly,
 )
 
+-- In this module, the worker `w` released the lease `h` of the key `key` with its consumer `c`, and became `v`. The
+-- hand-off of this lease was `x` at the pass `p`, and went on to `y` at the pass `q`. `service` and `handed` are laws
+-- on joint records that are taken as given.
 module _ {P F : Type 0} (stands : P → List Call → Type 0) (at : ℕ) (key : ShardRef) (w v : WorkerStanding P F)
     (worker : v.made ≡ w.made)
     (p q : Standing) (h : Held) (c : ConsumerStanding P) (x y : HandStanding P) (held : x.held ≡ h)
@@ -264,13 +274,16 @@ module _ {P F : Type 0} (stands : P → List Call → Type 0) (at : ℕ) (key : 
     (handed : (by : ℕ) (t : List Turn) (m : WorkerMade) (joint : JointPast) → IsHistory t → AreOrderly m joint
     → AreToldIn by t m joint
     → AllByRecursion (IsHandedOffIfFreed by t) (hands_after m joint)) where
+  -- If the answered commands of a joint record are the actor's turns up to `q` (`TellsJointly`), the processors are
+  -- called for the given reads of their tenures (`AreServedJointly`).
   served_jointly : (joint : JointPast) → TellsJointly q w.made joint → AreServedJointly q w.made joint
   served_jointly joint tells = record {
     calls = λ t later alone. service q.by t w.made joint tells.orderly (tells.told t later alone);
     handed = λ t later alone lawful. handed q.by t w.made joint lawful tells.orderly (tells.told t later alone);
   }
 
-  -- What the hand-off stands for after the release, with the state of its record.
+  -- The release and the events of its hand-off so far happened as `HasReleased` says. The hand-off `y` is in the stage
+  -- and at the point to which these events lead, and its processor stands for the calls of these events.
   record Went (past : WorkerPast) : Type 0 where
     so_far : HasReleased stands at key w v p q past
     stage : y.consumer.stage ≡ stage_after so_far.release.known.made (release_state so_far.release so_far.since).past
@@ -281,6 +294,8 @@ module _ {P F : Type 0} (stands : P → List Call → Type 0) (at : ℕ) (key : 
     added : (earlier : List Call) → stands c.processor earlier
         → stands y.consumer.processor (release_calls so_far.release so_far.since earlier)
 
+  -- If the worker `w` stands for the record `past`, then `Went` holds: its release and the hand-off so far happened as
+  -- `HasReleased` says.
   went : (past : WorkerPast) → StandsFor stands w past → Went past
   went past st =
       let rel = adds past st in
@@ -340,6 +355,7 @@ module _ {P F : Type 0} (stands : P → List Call → Type 0) (at : ℕ) (key : 
             subst (stands y.consumer.processor) is (along.added earlier s);
       }
 
+  -- If the hand-off has ended as `left` says, and `last` is its processor, then `HasHandedOff` holds.
   pub handed_off : (left : Left) (last : P) → left_at y.stand ≡ Some left → last ≡ y.consumer.processor
       → (past : WorkerPast) → StandsFor stands w past → HasHandedOff stands at key w v p q left last past
   handed_off left last ended is past st =
@@ -356,6 +372,7 @@ module _ {P F : Type 0} (stands : P → List Call → Type 0) (at : ℕ) (key : 
             (e.added earlier s);
       }
 
+  -- If the hand-off `y` couldn't go on because of the error `e`, then it was cut short by this error (`HandWasCut`).
   pub was_cut : (e : TurnErr) → StoodStill y q e → (past : WorkerPast) → StandsFor stands w past
       → HandWasCut stands at key w v p q e past
   was_cut e (inl still) past st =

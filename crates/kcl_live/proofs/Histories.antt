@@ -1,4 +1,4 @@
--- The turns of an actor in longer histories.
+-- The turns of one actor in a history, and what they are after the history has grown.
 use Rattle.std.proofs.Common.{◌≡◌, ℕ, ◌≤◌, Bool, true, false, List, [], ◌∷◌, ◌++◌, length, refl, sym, ap, ◌∙◌, arith}
 use Rattle.std.specs.Prelude.{◌==◌, cond, if◌then◌else◌}
 use Rattle.kds_base.proofs.Facts.{is_itself}
@@ -7,6 +7,7 @@ use Rattle.kds_defs.specs.Histories.{answer}
 use Rattle.kcl_defs.specs.Lives.{Deal, deals_of}
 use Rattle.kds_turn.specs.Known.{Continues, turns_by}
 
+-- A longer history has at least as many turns of the actor.
 no_fewer : (by : ℕ) (newer h : List Turn) → length (turns_by by h) ≤ length (turns_by by (newer ++ h))
 no_fewer by [] h = omega arith
 no_fewer by (t ∷ newer) h = one (t.by == by) (no_fewer by newer h)
@@ -16,7 +17,7 @@ no_fewer by (t ∷ newer) h = one (t.by == by) (no_fewer by newer h)
     one true le = omega arith
     one false le = le
 
--- If no further turn is the actor's, its commands and their answers are the same.
+-- If a history grows without a turn of the actor `by`, the actor's commands with their answers stay the same.
 same_deals : (by : ℕ) (newer h : List Turn) → length (turns_by by (newer ++ h)) ≡ length (turns_by by h)
     → deals_of by (newer ++ h) ≡ deals_of by h
 same_deals by [] h e = refl
@@ -49,7 +50,7 @@ told_more t place own h deals all c alone told =
     ∷ deals_of t.by place else deals_of t.by place) (is_itself t.by)
     ∙ ap (λ (ds : List Deal). record { what = t.what; answer = answer place t } ∷ ds) told
 
--- An actor without turns has no commands.
+-- An actor without turns in a history has no commands with answers there.
 pub none_told : (by : ℕ) (h : List Turn) → turns_by by h ≡ [] → deals_of by h ≡ []
 none_told by [] e = refl
 none_told by (t ∷ h) e = one (t.by == by) e (none_told by h)

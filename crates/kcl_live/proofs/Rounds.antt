@@ -1,4 +1,5 @@
--- The rounds of a worker before and after its stop.
+-- A round of a worker, its due calls and one turn, keeps the worker going (`IsGoing`) before its stop, and finishing
+-- (`IsFinishing`) after it. In both cases its answered commands are the turns of its pass.
 use Rattle.std.proofs.Common.{◌≡◌, ℕ, ◌+◌, ◌*◌, ◌≤◌, false, List, [], ◌∷◌, length, None, refl, sym, ap, subst, ◌∙◌}
 use Rattle.std.proofs.Common.{arith, inl}
 use Rattle.std.specs.Prelude.{IsSome}
@@ -23,7 +24,7 @@ use Rattle.kcl_live.proofs.Ending.{not_idle}
 use Rattle.kcl_live.proofs.Stopping.{calls_stopped, filter_fewer, some_left, stop_stops, turn_stopped}
 
 module _ {P F : Type 0} (stands : P → List Call → Type 0) where
-  -- Processors were called, and nothing else has happened.
+  -- Between the workers `w` and `u`, nothing has happened but calls of processors.
   abbrev pub HasCalled : WorkerStanding P F → WorkerStanding P F → Type 0
   HasCalled w u = (past : WorkerPast) → StandsFor stands w past → (asked : List Ask)
       × StandsFor stands u (with_calls asked past)

@@ -1,4 +1,5 @@
--- The processors of a driven worker are called for what is given.
+-- If the answered commands of a worker are the turns of its pass (`IsDriven`), its processors are called for the given
+-- reads of their tenures. `law`, which is taken as given, says so for one history.
 use Rattle.std.proofs.Common.{ℕ, List, ◌∷◌, inl, inr}
 use Rattle.kds_defs.specs.declared.command.Turn.{Turn}
 use Rattle.kcl_defs.specs.declared.consumer.Call.{Call}
@@ -13,6 +14,8 @@ use Rattle.kcl_live.specs.Runs.{AreServedSoFar, HasRun, WasCut}
 module _ {P F : Type 0} (stands : P → List Call → Type 0) (w : WorkerStanding P F)
     (law : (by : ℕ) (h : List Turn) (past : WorkerPast) → StandsFor stands w past → IsToldIn by h w.made past
     → AreServedIn stands by h w) where
+  -- If `IsDriven` holds, the worker's processors are called for the given reads of their tenures, in each history that
+  -- goes on without further turns of the actor.
   driven_served : (by : ℕ) (seen own : List Turn) (past : WorkerPast) → IsDriven stands by seen own w past
       → AreServedLater stands by seen own w
   driven_served by seen own past d = λ h c same. law by h past d.stood (d.told h c same)

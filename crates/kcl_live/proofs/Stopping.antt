@@ -1,4 +1,5 @@
--- After a stop each batch is given once and each lease is freed once.
+-- After a worker is stopped, it gives each batch that a processor was handed once, and frees each lease once. So each
+-- turn leaves it fewer turns to make (`turns_left`), until it is idle.
 use Rattle.std.proofs.Common.{◌≡◌, ℕ, suc, ◌+◌, ◌≤◌, Bool, true, false, List, [], ◌∷◌, length, Option, Some, None}
 use Rattle.std.proofs.Common.{Result, Ok, Err, refl, sym, ap, ap₂, subst, ◌∙◌, arith}
 use Rattle.std.specs.Prelude.{◌&&◌, cond, if◌then◌else◌, is_some, not}
@@ -27,17 +28,19 @@ use Rattle.kcl_live.specs.Records.{with_calls}
 use Rattle.kcl_live.specs.Steps.{IsLost, IsStopped, turns_left}
 use Rattle.kcl_live.proofs.Bounds.{filter_less}
 
+-- Each consumer has lost its lease and isn't over.
 abbrev AreLost : List Known → Type 0
 AreLost ks = AllByRecursion (λ k. IsLost (stage_of_known k)) ks
 
--- Each consumer that isn't over was told of its loss.
+-- Each consumer has lost its lease or is over.
 abbrev AreLostOrOver : List Known → Type 0
 AreLostOrOver ks = AllByRecursion (λ k. is_over k ≡ false → IsLost (stage_of_known k)) ks
 
+-- The number of consumers with a batch that waits to be given.
 abbrev givings : List Known → ℕ
 givings ks = length (filter is_giving ks)
 
--- After the consumers that are over were retired, each consumer was told of its loss.
+-- If each consumer has lost its lease or is over, each of those that aren't over has lost its lease.
 settled_lost : (ks : List Known) → AreLostOrOver ks → AreLost (filter (λ k. not (is_over k)) ks)
 settled_lost [] all = tt
 settled_lost (k ∷ ks) all =
@@ -46,37 +49,46 @@ settled_lost (k ∷ ks) all =
     cond_both (not (is_over k)) (k ∷ rest) rest AreLost (λ stays. (all.0 (not-true (is_over k) stays), lost))
     (λ over. lost)
 
+-- If each consumer has lost its lease, each has lost its lease or is over.
 lost_or_over : (ks : List Known) → AreLost ks → AreLostOrOver ks
 lost_or_over [] all = tt
 lost_or_over (k ∷ ks) all = ((λ e. all.0), lost_or_over ks all.1)
 
+-- A consumer with a batch to give counts once.
 count_giving : (k : Known) (ks : List Known) → is_giving k ≡ true → givings (k ∷ ks) ≡ suc (givings ks)
 count_giving k ks e = ap (λ b. length (cond b (k ∷ filter is_giving ks) (filter is_giving ks))) e
 
+-- A consumer without a batch to give doesn't count.
 count_quiet : (k : Known) (ks : List Known) → is_giving k ≡ false → givings (k ∷ ks) ≡ givings ks
 count_quiet k ks e = ap (λ b. length (cond b (k ∷ filter is_giving ks) (filter is_giving ks))) e
 
+-- A list of consumers has at least as many batches to give as the same list without its first consumer.
 no_less : (b : Bool) (k : Known) (ks : List Known) → is_giving k ≡ b → givings ks ≤ givings (k ∷ ks)
 no_less true k ks e = omega (arith, count_giving k ks e)
 no_less false k ks e = omega (arith, count_quiet k ks e)
 
+-- If the consumers `js` have at least as many batches to give as `ks`, this still holds with the consumer `k` before
+-- both.
 one_more : (b : Bool) (k : Known) (ks js : List Known) → is_giving k ≡ b → givings ks ≤ givings js
     → givings (k ∷ ks) ≤ givings (k ∷ js)
 one_more true k ks js e h = omega (arith, h, count_giving k ks e, count_giving k js e)
 one_more false k ks js e h = omega (arith, h, count_quiet k ks e, count_quiet k js e)
 
+-- If `js` have at least as many batches to give as `ks`, then `js` with `k` before them have at least as many as `ks`
+-- with or without `k`.
 fewer_by : (c : Bool) (k : Known) (ks js : List Known) → givings ks ≤ givings js
     → givings (cond c (k ∷ ks) ks) ≤ givings (k ∷ js)
 fewer_by true k ks js h = one_more (is_giving k) k ks js refl h
 fewer_by false k ks js h = omega (arith, h, no_less (is_giving k) k js refl)
 
--- A part of the consumers has no more batches to give than all have.
+-- Some of the consumers `ks`, chosen by the test `t`, have at most as many batches to give as all of them.
 part_fewer : (t : Known → Bool) (ks : List Known) → givings (filter t ks) ≤ givings ks
 part_fewer t [] = omega arith
 part_fewer t (k ∷ ks) = fewer_by (t k) k (filter t ks) ks (part_fewer t ks)
 
 -- ---- A stop
 
+-- If a consumer isn't over after the loss of its lease, it is in a stage of a lost lease (`IsLost`).
 after_loss_lost : (p : Stage) → is_some (over_at (after_loss p)) ≡ false → IsLost (after_loss p)
 after_loss_lost Opening h = absurd cc
 after_loss_lost Starting h = absurd cc
@@ -86,10 +98,12 @@ after_loss_lost (Giving reach waiting asked lost) h =
     (λ none. tt)
 after_loss_lost _ h = tt
 
+-- After the loss of all leases, each consumer has lost its lease or is over.
 losing_lost : (ks : List Known) → AreLostOrOver (happens_to (λ k. true) Losing ks)
 losing_lost [] = tt
 losing_lost (k ∷ ks) = ((λ e. after_loss_lost (stage_of_known k) e), losing_lost ks)
 
+-- A worker whose newest event is the stop is stopped, and each of its consumers has lost its lease (`IsStopped`).
 pub stop_stops : (made : WorkerMade) (past : WorkerPast) → IsStopped (worker_after made (Stopped ∷ past))
 stop_stops made past =
     record {
@@ -100,13 +114,14 @@ stop_stops made past =
 
 -- ---- A call
 
--- A lost consumer with a due call is leaving, and is over after the call.
+-- If a consumer that has lost its lease has a due call, it is over after this call, and then it has no batch to give.
 called_lost : (made : Tenancy) (a : Ask) (p : Stage) → IsLost p → is_some (due_call p) ≡ true
     → (is_some (over_at (after_call made a p)) ≡ true) × (is_giving_stage (after_call made a p) ≡ false)
 called_lost made a (Leaving why) l d = (refl, refl)
 called_lost made a (Giving reach waiting asked lost) l d = absurd cc
 called_lost made a _ l d = absurd l
 
+-- After one due call, each consumer has lost its lease or is over, if each had lost its lease before.
 calling_lost : (a : Ask) (ks : List Known) → AreLost ks → AreLostOrOver (happens_to_first is_due_known (Called a) ks)
 calling_lost a [] all = tt
 calling_lost a (k ∷ ks) all =
@@ -117,6 +132,7 @@ calling_lost a (k ∷ ks) all =
     (λ due. ((λ over. absurd (apart (is_over called) (leaves due) over)), lost_or_over ks all.1))
     (λ quiet. ((λ over. all.0), calling_lost a ks all.1))
 
+-- After one due call, the consumers have at most as many batches to give as before, if each has lost its lease.
 calling_fewer : (a : Ask) (ks : List Known) → AreLost ks
     → givings (happens_to_first is_due_known (Called a) ks) ≤ givings ks
 calling_fewer a [] all = omega arith
@@ -132,7 +148,7 @@ calling_fewer a (k ∷ ks) all = one (is_due_known k) refl (calling_fewer a ks a
     )
     one false e rest = one_more (is_giving k) k (happens_to_first is_due_known (Called a) ks) ks refl rest
 
--- Calls leave no more to do.
+-- After calls of its processors, a stopped worker is still stopped, and has at most as many turns left as before.
 pub calls_stopped : (made : WorkerMade) (asked : List Ask) (past : WorkerPast) → IsStopped (worker_after made past)
     → IsStopped (worker_after made (with_calls asked past))
     × (turns_left (worker_after made (with_calls asked past)) ≤ turns_left (worker_after made past))
@@ -147,7 +163,8 @@ calls_stopped made (a ∷ asked) past s =
 
 -- ---- A turn
 
--- A lost consumer without a due call has a batch to give, and leaves after the answer.
+-- If a consumer that has lost its lease has no due call, it has a batch to give. After the answer to this Give, it has
+-- none, and it is still in a stage of a lost lease.
 answered_lost : (made : Tenancy) (a : Result Reply Refusal) (p : Stage) → IsLost p → is_some (due_call p) ≡ false
     → IsLost (after_answer made a p) × (is_giving_stage (after_answer made a p) ≡ false) × (is_giving_stage p ≡ true)
 answered_lost made (Ok reply) (Giving reach [] asked true) l d = (tt, refl, refl)
@@ -157,19 +174,23 @@ answered_lost made a (Giving reach waiting asked false) l d = absurd cc
 answered_lost made a (Leaving why) l d = absurd cc
 answered_lost made a _ l d = absurd l
 
+-- If a test has chosen nothing, it didn't choose the first item.
 first_quiet : (b : Bool) (k : Known) (rest : Option Known) → cond b (Some k) rest ≡ None → b ≡ false
 first_quiet true k rest e = absurd cc
 first_quiet false k rest e = refl
 
+-- If a test has chosen the first item, the item found is this one.
 first_of : (k j : Known) (rest : Option Known) (b : Bool) → b ≡ true → cond b (Some j) rest ≡ Some k → j ≡ k
 first_of k j rest true e h = cc
 first_of k j rest false e h = absurd cc
 
+-- A lease's identity is the same as itself.
 same_id_self : (id : LeaseId) → same_id id id ≡ true
 same_id_self id = ap₂ (λ a b. a && b) (ap₂ (λ a b. a && b) (is_itself id.key.stream) (is_itself id.key.shard))
     (is_itself id.tenure)
 
--- The first of the consumers that have a batch to give gives it.
+-- No call is due, and `k` is the first consumer that has a batch to give. After it takes the answer to its Give, one
+-- batch less is left to give, and each consumer has lost its lease or is over.
 giving_first : (a : Result Reply Refusal) (ks : List Known) (k : Known) → AreLost ks → find is_due_known ks ≡ None
     → find is_giving ks ≡ Some k
     → AreLostOrOver (consumed (id_of k) a ks) × (givings (consumed (id_of k) a ks) + 1 ≡ givings ks)
@@ -187,11 +208,14 @@ giving_first a (j ∷ js) k all none found =
       omega (arith, ap givings now, count_quiet (with_event (Answered a) j) js l.1, count_giving j js l.2),
     )
 
--- The command that comes next leaves less to do.
+-- From the state `s` to the state `t`, a command and its answer happened: the worker is still stopped, and has at least
+-- one turn less left.
 record Leaves (s t : WorkerState) : Type 0 where
   stopped : IsStopped t
   fewer : turns_left t + 1 ≤ turns_left s
 
+-- If the next command gives a batch, its answer leaves a stopped worker stopped, with at least one turn less left
+-- (`Leaves`).
 finished : (made : WorkerMade) (at : ℕ) (a : Result Reply Refusal) (s : WorkerState) (k : Known) → IsStopped s
     → find is_due_known s.consumers ≡ None → find is_giving s.consumers ≡ Some k → (o : Option Pending)
     → o ≡ next_pending made at s
@@ -206,6 +230,8 @@ finished made at a s k stopped none found o is =
       fewer = omega (arith, g.1, part_fewer (λ j. not (is_over j)) (consumed (id_of k) a s.consumers));
     })
 
+-- If the next command frees a lease, its answer leaves a stopped worker stopped, with at least one turn less left
+-- (`Leaves`).
 freed : (made : WorkerMade) (at : ℕ) (a : Result Reply Refusal) (s : WorkerState) (h : Held) (hs : List Held)
     → IsStopped s → s.held ≡ h ∷ hs → find is_giving s.consumers ≡ None → (o : Option Pending)
     → o ≡ next_pending made at s
@@ -233,6 +259,7 @@ freed made at a s h hs stopped held none o is =
       );
     })
 
+-- A stopped worker is idle if no call is due, no batch waits to be given, and it holds no lease.
 idle_then : (s : WorkerState) → IsStopped s → find is_due_known s.consumers ≡ None → find is_giving s.consumers ≡ None
     → s.held ≡ [] → is_idle s ≡ true
 idle_then s stopped due giving held =
@@ -243,6 +270,8 @@ idle_then s stopped due giving held =
     ∙ ap (λ b. not b && is_nothing_held s.held) (none_found_any is_giving s.consumers giving)
     ∙ ap is_nothing_held held
 
+-- If a stopped worker isn't idle and has no due call, its next command and the answer leave it at least one turn less
+-- (`Leaves`). Here the first consumer with a batch to give and the leases are named.
 turned_by : (made : WorkerMade) (at : ℕ) (a : Result Reply Refusal) (s : WorkerState) (f : Option Known)
     (held : List Held) → IsStopped s → find is_due_known s.consumers ≡ None → find is_giving s.consumers ≡ f
     → s.held ≡ held → is_idle s ≡ false
@@ -254,7 +283,8 @@ turned_by made at a s None [] stopped due giving is busy =
 turned_by made at a s None (h ∷ hs) stopped due giving is busy =
     freed made at a s h hs stopped is giving (next_pending made at s) refl
 
--- After a command and its answer there is less to do.
+-- A stopped worker isn't idle and has no due call. After its next command and the answer, it is still stopped, and has
+-- at least one turn less left.
 pub turn_stopped : (made : WorkerMade) (at : ℕ) (a : Result Reply Refusal) (past : WorkerPast)
     → IsStopped (worker_after made past) → find is_due_known (worker_after made past).consumers ≡ None
     → is_idle (worker_after made past) ≡ false
@@ -266,12 +296,13 @@ turn_stopped made at a past stopped due busy =
     let l = turned_by made at a s (find is_giving s.consumers) s.held stopped due refl refl busy in
     (l.stopped, l.fewer)
 
--- So there is something to do if the worker isn't idle.
+-- If a stopped worker isn't idle and has no due call, it has at least one turn left.
 pub some_left : (made : WorkerMade) (past : WorkerPast) → IsStopped (worker_after made past)
     → find is_due_known (worker_after made past).consumers ≡ None → is_idle (worker_after made past) ≡ false
     → 1 ≤ turns_left (worker_after made past)
 some_left made past stopped due busy =
     omega (arith, (turn_stopped made 0 (Err refusal.ShardGone) past stopped due busy).1)
 
+-- At most as many consumers have a batch to give as there are consumers.
 pub filter_fewer : (ks : List Known) → length (filter is_giving ks) ≤ length ks
 filter_fewer ks = filter_less is_giving ks

@@ -1,4 +1,5 @@
--- A lease that is handed off by a pass.
+-- A hand-off of a lease, whose commands become turns of a pass. A pass is one actor's access to the hall, which has one
+-- history of all turns. For each turn, the pass learns all turns of the history up to its own.
 use Rattle.std.specs.Prelude.{ℕ, ◌≡◌, ◌⊎◌, ◌+◌, ◌^◌, List, [], ◌∷◌, ◌++◌, length, map, Option, IsSome, Some, None}
 use Rattle.std.specs.Prelude.{Result}
 use Rattle.std.specs.List.{AllByRecursion, cons_option}
@@ -33,35 +34,39 @@ use Rattle.kds_turn.specs.Known.{Continues}
 use Rattle.kds_turn.specs.Passes.{Standing}
 use Rattle.kcl_live.specs.Records.{OfEachLater}
 
--- The commands of a hand-off that were answered, the newest first.
+-- The commands of a hand-off that were answered, the newest first. `before` is the consumer's record up to the loss of
+-- the lease `h`, and the last argument has the events of the hand-off since then.
 abbrev pub hand_commands : Held → Tenancy → Past → HandPast → List Command
 hand_commands h made before [] = []
 hand_commands h made before (Hand_called asked ∷ since) = hand_commands h made before since
 hand_commands h made before (Hand_answered answer ∷ since) =
     cons_option (hand_command h made (hand_after h made before since)) (hand_commands h made before since)
 
--- The commands as turns of the actor `by` at the moment `at`.
+-- The commands `commands` as turns of the actor `by`, all at the moment `at`.
 abbrev pub turns_at : ℕ → ℕ → List Command → List Turn
 turns_at by at commands = map (λ what. record { by = by; at = at; what = what }) commands
 
--- The calls of a hand-off, each as it was due, after the earlier calls `calls`.
+-- The list `calls` with the calls of the hand-off's processor added as the newest, each as it was due when it was made.
 abbrev pub hand_calls : Held → Tenancy → Past → HandPast → List Call → List Call
 hand_calls h made before [] calls = calls
 hand_calls h made before (Hand_called asked ∷ since) calls =
     with_call (hand_call made (hand_after h made before since)) (hand_calls h made before since calls)
 hand_calls h made before (Hand_answered answer ∷ since) calls = hand_calls h made before since calls
 
--- The commands, the calls and the state of the hand-off of a release.
+-- The commands of the hand-off that the release `r` begins that were answered in the events `since`, the newest first.
 abbrev pub release_commands : Release → HandPast → List Command
 release_commands r since = hand_commands r.held r.known.made (Losing ∷ r.known.past) since
 
+-- The list `calls` with the calls of the processor in the events `since` added as the newest. These are the events of
+-- the hand-off that the release `r` begins.
 abbrev pub release_calls : Release → HandPast → List Call → List Call
 release_calls r since calls = hand_calls r.held r.known.made (Losing ∷ r.known.past) since calls
 
+-- The state, after the events `since`, of the hand-off that the release `r` begins.
 abbrev pub release_state : Release → HandPast → HandState
 release_state r since = hand_after r.held r.known.made (Losing ∷ r.known.past) since
 
--- The commands of a hand-off with their answers, after the earlier ones `deals`.
+-- The list `deals` with the answered commands of the hand-off added as the newest, each with its answer.
 abbrev pub hand_deals : Held → Tenancy → Past → HandPast → List Deal → List Deal
 hand_deals h made before [] deals = deals
 hand_deals h made before (Hand_called asked ∷ since) deals = hand_deals h made before since deals
@@ -77,7 +82,9 @@ pub record IsAnsweredAt (by at : ℕ) (command : Option Command) (a : Result Rep
   pub answered : a ≡ answer place (record { by = by; at = at; what = what })
   pub goes_on : Continues later (record { by = by; at = at; what = what } ∷ place)
 
--- `IsAnsweredAt` holds for each answered command of the hand-off in order, since the history was `seen`.
+-- Each answer among the hand-off's events is the one to its command as a turn of the actor `by` at the moment `at`.
+-- These turns come after the history `seen`, in order, and perhaps with other turns between them. The history `later`
+-- has them all.
 abbrev pub AreAnswered : ℕ → ℕ → Held → Tenancy → Past → List Turn → HandPast → List Turn → Type 0
 AreAnswered by at h made before seen [] later = Continues later seen
 AreAnswered by at h made before seen (Hand_called asked ∷ since) later =
@@ -88,9 +95,11 @@ AreAnswered by at h made before seen (Hand_answered a ∷ since) later =
 
 -- ---- The hand-off alone
 
--- The hand-off `x` stands for what happened to it since the pass was `p` and its processor was `start`. Since then the
--- pass, which is now `q`, gained the commands of the hand-off and nothing else, and the processor stands for each list
--- of calls that it stood for, with the hand-off's calls added.
+-- Since the pass was `p` and the processor was `start`, the events `since` happened to the hand-off, which is now `x`
+-- and stands for them. The pass is now `q`. The turns that `q` has more than `p` are the answered commands of the
+-- hand-off, each with its right answer (`AreAnswered`). In later histories, the actor's deals are those before with the
+-- hand-off's added (`told`). The processor stands for each list of calls that `start` stood for, with the hand-off's
+-- calls added (`added`).
 pub record IsAlong {P : Type 0} (stands : P → List Call → Type 0) (at : ℕ) (start : P) (x : HandStanding P)
     (p q : Standing) (before : Past)
     (since : HandPast) : Type 0 where
@@ -152,9 +161,9 @@ module _ {P F : Type 0} (stands : P → List Call → Type 0) (at : ℕ) (key : 
     pub served : (joint : JointPast) → worker_past joint ≡ past → TellsJointly p w.made joint
         → AreServedJointly q w.made (with_hand key since w.made joint)
 
-  -- The lease was released, and its hand-off ended with `left` and with the processor `processor`, which is that of the
-  -- lease's consumer. It stands for each list of calls that it stood for in the worker, with the calls of the hand-off
-  -- added.
+  -- A lease was released, and its hand-off has ended as `left` says. `processor` is the processor of the lease's
+  -- consumer at the end of the hand-off. It stands for all calls of the consumer's record, and for each list of calls
+  -- that it stood for in the worker with the calls of the hand-off added.
   pub record HasHandedOff (left : Left) (processor : P) (past : WorkerPast) : Type 0 where
     pub so_far : HasReleased past
     pub ended : hand_left (release_state so_far.release so_far.since) ≡ Some left
@@ -165,13 +174,14 @@ module _ {P F : Type 0} (stands : P → List Call → Type 0) (at : ℕ) (key : 
     pub added : (earlier : List Call) → stands consumer.processor earlier
         → stands processor (release_calls so_far.release so_far.since earlier)
 
-  -- Memory ran out in the processor's call, which is still due.
+  -- A lease was released, and memory ran out in a call of the hand-off's processor. This call is still due.
   pub record HandCallFailed (e : TurnErr) (past : WorkerPast) : Type 0 where
     pub so_far : HasReleased past
     pub error : e ≡ failed.Memory
     pub due : IsSome (hand_due so_far.release.known.made (release_state so_far.release so_far.since))
 
-  -- The command that came next became no turn, because the hall's history is full.
+  -- A lease was released, and the hand-off's next command became no turn, because the hall's history is full: the pass
+  -- has seen 2^64 - 1 turns. The error `e` is Spent.
   pub record HandTurnFailed (e : TurnErr) (past : WorkerPast) : Type 0 where
     pub so_far : HasReleased past
     pub error : e ≡ failed.Spent
@@ -179,10 +189,12 @@ module _ {P F : Type 0} (stands : P → List Call → Type 0) (at : ℕ) (key : 
     pub going : hand_left (release_state so_far.release so_far.since) ≡ None
     pub full : length q.seen + 1 ≡ 2 ^ 64
 
+  -- A lease was released, but its hand-off was cut short by the error `e`: memory ran out in a call of its processor,
+  -- or the hall's history is full.
   abbrev pub HandWasCut : TurnErr → WorkerPast → Type 0
   HandWasCut e past = HandCallFailed e past ⊎ HandTurnFailed e past
 
-  -- There was nothing to release.
+  -- The worker `w` has no lease of the key `key` to release, so the worker and the pass stay as they were.
   pub record HasNothing (past : WorkerPast) : Type 0 where
     pub none : released key (worker_after w.made past) ≡ None
     pub worker : v ≡ w

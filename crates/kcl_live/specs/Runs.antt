@@ -18,13 +18,15 @@ module _ {P F : Type 0} (stands : P → List Call → Type 0) (w : WorkerStandin
     pub driven : IsDriven stands p.by p.seen p.own w past
     pub alone : 0 < length p.own → turns_by p.by p.seen ≡ p.own
 
-  -- Memory ran out in a processor's call, which is still due.
+  -- Memory ran out in a call of a processor, which is still due. Each command that the worker gave before became a turn
+  -- and was answered (`HasRun`).
   pub record CallFailed (e : TurnErr) : Type 0 where
     pub error : e ≡ failed.Memory
     pub due : IsSome (due_in w.consumers)
     pub run : HasRun
 
-  -- The last command became no turn.
+  -- The last command that the worker gave became no turn, and still waits for its answer. The error is Spent exactly if
+  -- the pass has seen 2^64 - 1 turns, which are as many as can be counted.
   pub record TurnFailed (e : TurnErr) : Type 0 where
     pub spent : (e ≡ failed.Spent) ↔ (length p.seen + 1 ≡ 2 ^ 64)
     pub waits : IsSome w.waiting
@@ -32,8 +34,8 @@ module _ {P F : Type 0} (stands : P → List Call → Type 0) (w : WorkerStandin
     pub at : ℕ
     pub driven : IsDriven stands p.by p.seen p.own w (Gave_command at ∷ past)
 
-  -- The last command became a turn, and memory ran out when its answer was taken. `IsDriven` holds for the turns
-  -- before.
+  -- The last command that the worker gave became the turn `last`, but memory ran out when the worker took the answer.
+  -- So this command still waits, and the worker stands for a record with the turns `before` it (`IsDriven`).
   pub record AnswerFailed (e : TurnErr) : Type 0 where
     pub error : e ≡ failed.Memory
     pub waits : IsSome w.waiting
@@ -48,6 +50,8 @@ module _ {P F : Type 0} (stands : P → List Call → Type 0) (w : WorkerStandin
     pub is_last : with_turn p.by at (worker_after w.made (Gave_command at ∷ past)).waiting before ≡ last ∷ before
     pub driven : IsDriven stands p.by place before w (Gave_command at ∷ past)
 
+  -- The run was cut short by the error `e`, in one of three ways: memory ran out in a call, a command became no turn,
+  -- or memory ran out when the worker took an answer.
   abbrev pub WasCut : TurnErr → Type 0
   WasCut e = CallFailed e ⊎ TurnFailed e ⊎ AnswerFailed e
 
@@ -60,6 +64,7 @@ module _ {P F : Type 0} (stands : P → List Call → Type 0) (w : WorkerStandin
     pub own : p.own ≡ last ∷ before
     pub served : AreServedLater stands p.by place before w
 
-  -- The worker's processors are served as far as all its turns tell, or as far as all its turns but the last tell.
+  -- The worker's processors were called for the reads that were given in their tenures after all turns of the pass, or
+  -- for those that were given after all its turns but the last.
   abbrev pub AreServedSoFar : Type 0
   AreServedSoFar = AreServedLater stands p.by p.seen p.own w ⊎ AreServedBeforeLast

@@ -27,17 +27,19 @@ pub record IsGoing {P F : Type 0} (stands : P → List Call → Type 0) (w : Wor
   pub alone : 0 < length p.own → turns_by p.by p.seen ≡ p.own
   pub going : is_stopping (worker_after w.made past).round ≡ false
 
--- The stage of a consumer that was told of its loss: a batch that was handed is to be given, or the consumer leaves.
+-- The stage is one that follows the loss of a lease: a batch that the processor was handed waits to be given, or the
+-- consumer leaves, so that the last call of its processor is due. A consumer that is over is in no such stage.
 abbrev pub IsLost : Stage → Type 0
 IsLost (Giving reach waiting asked lost) = lost ≡ true
 IsLost (Leaving why) = Unit {0}
 IsLost _ = ⊥
 
--- The number of batches that are to be given, and of leases that are to be freed.
+-- The most turns that a stopped worker still makes: one for each consumer with a batch that waits to be given, and one
+-- for each lease that the worker holds.
 abbrev pub turns_left : WorkerState → ℕ
 turns_left s = length (filter is_giving s.consumers) + length s.held
 
--- The worker was stopped, and all its consumers were told.
+-- The worker was stopped, and each of its consumers has lost its lease and isn't over (`IsLost`).
 pub record IsStopped (s : WorkerState) : Type 0 where
   pub round : s.round ≡ AtStopping
   pub lost : AllByRecursion (λ k. IsLost (stage_of_known k)) s.consumers

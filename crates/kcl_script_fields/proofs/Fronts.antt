@@ -1,8 +1,8 @@
--- Prefixes of texts that are added part by part.
+-- A text is added part by part, perhaps not to its end (`AddsFront`).
 use Rattle.std.proofs.Common.{◌≡◌, ℕ, List, ◌++◌, sym, ◌∙◌, ap, append_assoc}
 use Rattle.kcl_script_fields.specs.Fields.{AddsFront}
 
--- A prefix of the first part is a prefix of both parts together.
+-- If the first bytes of `text` were added, the first bytes of `text` and `more` together were added.
 pub adds_first : (old now text more : List ℕ) → AddsFront old now text → AddsFront old now (text ++ more)
 adds_first old now text more a =
     record {
@@ -12,7 +12,8 @@ adds_first old now text more a =
       added = a.added;
     }
 
--- The first part and a prefix of the second are a prefix of both parts together.
+-- If all of `text` was added, and then the first bytes of `more`, then the first bytes of `text` and `more` together
+-- were added.
 pub adds_later : (old mid now text more : List ℕ) → mid ≡ old ++ text → AddsFront mid now more
     → AddsFront old now (text ++ more)
 adds_later old mid now text more e a = record {

@@ -1,4 +1,4 @@
--- Something with an origin behind it has one text.
+-- A value with an origin after it is read as it is written (`IsForm`).
 use Rattle.std.proofs.Common.{◌≡◌, ℕ, ◌<◌, ◌^◌, List, ◌∷◌, ◌++◌, Bool, true, false, Option, Some, None, refl, sym, ap}
 use Rattle.std.proofs.Common.{◌∙◌, codes, decimal, subst}
 use Rattle.std.proofs.lemmas.List.{append-nil}
@@ -13,9 +13,9 @@ use Rattle.kcl_script_fields.specs.Origins.{IsOrigin, origin_of, origin_text, ti
 use Rattle.kcl_script_fields.proofs.Parts.{parted_at, parted_none, parted_spells, bind_some, map_some}
 use Rattle.kcl_script_fields.proofs.Forms.{IsForm, moment_form}
 
--- ---- Origins
+-- ---- The text of an origin
 
--- The text, after a space, spells the origin.
+-- The origin's moment, if it has one, is below 2^62, and the text of the origin is a space and then `text`.
 abbrev SpellsOrigin : List ℕ → Origin → Type 0
 SpellsOrigin text from = IsOrigin from × (32 ∷ text ≡ origin_text from)
 
@@ -33,6 +33,7 @@ time_is true word rest from c h =
     (sym ((bytes_eq-Decides word (codes "time")).0 c)) spelled in
     subst (λ (z : Origin). SpellsOrigin (word ++ 32 ∷ rest) z) m.2 at_word
 
+-- What is read as an origin at a moment is the text of this origin.
 time_spells : (text : List ℕ) (from : Origin) → time_of text ≡ Some from → SpellsOrigin text from
 time_spells text from h =
     let p = bind_some (field text) _ from h in
@@ -49,8 +50,10 @@ origin_is true text from c h =
     )
 origin_is false text from c h = time_spells text from h
 
--- ---- Something with its origin
+-- ---- A value and its origin
 
+-- What is read as a value with its origin is the text of this value and of this origin. `o` is the text parted at its
+-- first space.
 with_is : {A : Type 0} {V : A → Type 0} {f : List ℕ → Option A} {s : A → List ℕ} → IsForm V f s
     → (text : List ℕ) (o : Option (List ℕ × List ℕ)) (a : A × Origin)
     → field text ≡ o → with_origin_at f text o ≡ Some a → (V a.0 × IsOrigin a.1) × (text ≡ s a.0 ++ origin_text a.1)
@@ -69,16 +72,19 @@ with_is {A} {V} {f} {s} form text (Some p) a e h =
     subst (λ (z : A × Origin). (V z.0 × IsOrigin z.1) × (text ≡ s z.0 ++ origin_text z.1)) m.2
     ((d.0, o.0), (parted_spells 32 text p e).0 ∙ ap (λ z. z ++ 32 ∷ p.1) d.1 ∙ ap (λ z. s k.0 ++ z) o.1)
 
--- The spelling of something with an origin behind it is read as this.
+-- If a text is read as the origin `from`, then the text of a valid value, a space and this text are read as the value
+-- with `from`.
 with_again : {A : Type 0} {V : A → Type 0} {f : List ℕ → Option A} {s : A → List ℕ} → ((x : A) → V x → Lacks 32 (s x))
     → IsForm V f s → (x : A) (from : Origin) (text : List ℕ)
     → V x → origin_of text ≡ Some from → with_origin f (s x ++ 32 ∷ text) ≡ Some (x, from)
 with_again {A} {V} {f} {s} lacks form x from text v e =
     rw (parted_at 32 (s x) text (lacks x v) refl, form.again x v, e) refl
 
+-- The text of an origin at a moment is read as this origin.
 time_again : (at : ℕ) → at < 2 ^ 62 → origin_of (codes "time " ++ decimal at) ≡ Some (origin.Time at)
 time_again at small = ap (option_map (λ m. origin.Time m)) (moment_form.again at small)
 
+-- The text of a valid value and of an origin is read as this value with this origin.
 all_again : {A : Type 0} {V : A → Type 0} {f : List ℕ → Option A} {s : A → List ℕ} → ((x : A) → V x → Lacks 32 (s x))
     → IsForm V f s → (a : A × Origin)
     → V a.0 × IsOrigin a.1 → with_origin f (s a.0 ++ origin_text a.1) ≡ Some a
@@ -88,6 +94,8 @@ all_again lacks form (x, origin.Latest) v = with_again lacks form x origin.Lates
 all_again lacks form (x, origin.Time at) v =
     with_again lacks form x (origin.Time at) (codes "time " ++ decimal at) v.0 (time_again at v.1)
 
+-- If values are read as they are written, and none of their texts contains a space, then values with an origin after
+-- them are read as they are written.
 pub with_origin_form : {A : Type 0} {V : A → Type 0} {f : List ℕ → Option A} {s : A → List ℕ}
     → ((x : A) → V x → Lacks 32 (s x)) → IsForm V f s
     → IsForm (λ (a : A × Origin). V a.0 × IsOrigin a.1) (with_origin f) (λ (a : A × Origin). s a.0 ++ origin_text a.1)

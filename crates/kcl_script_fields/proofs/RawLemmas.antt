@@ -1,4 +1,5 @@
--- Each command of a raw line has one text.
+-- The command of a raw line of a schedule is read as it is written: a text that is read as a command is the text of
+-- this command, and the text of a command is read as this command.
 use Rattle.std.proofs.Common.{◌≡◌, ℕ, ◌<◌, ◌^◌, List, ◌∷◌, ◌++◌, Bool, true, false, Option, Some, refl, sym, ap, ◌∙◌}
 use Rattle.std.proofs.Common.{arith, codes, decimal, inl, inr, subst}
 use Rattle.std.proofs.lemmas.Bool.{cases_Bool}
@@ -28,7 +29,7 @@ use Rattle.kcl_script_fields.proofs.Parts.{parted_spells, bind_some, map_some}
 use Rattle.kcl_script_fields.proofs.Forms.{IsForm, Is64, number_form, IsCount, count_form, IsWorker, worker_form}
 use Rattle.kcl_script_fields.proofs.Forms.{two_form, key_form, key_lacks, decimal_lacks}
 
--- ---- Targets
+-- ---- The target of a checkpoint
 
 target_is : (c : Bool) (text : List ℕ) (to : Target) → bytes_eq text (codes "end") ≡ c
     → (if c then Some target.End else option_map (λ q. target.At q) (number text)) ≡ Some to
@@ -41,6 +42,7 @@ target_is false text to c h =
     let d = number_form.spells text m.0 m.1 in
     subst (λ (z : Target). IsTarget z × (text ≡ target_text z)) m.2 d
 
+-- The text of a number isn't the word `end`.
 number_not_end : (q : ℕ) → q < 2 ^ 64 → bytes_eq (decimal q) (codes "end") ≡ false
 number_not_end q small = elim (cases_Bool (bytes_eq (decimal q) (codes "end"))) [
   | inl same ↦ let bad : list_all is_ascii_digit (codes "end") ≡ true =
@@ -53,19 +55,21 @@ target_again : (to : Target) → IsTarget to → target_of (target_text to) ≡ 
 target_again target.End v = refl
 target_again (target.At q) v = rw (number_not_end q v) (ap (option_map (λ n. target.At n)) (number_form.again q v))
 
+-- The target of a checkpoint is read as it is written.
 pub target_form : IsForm IsTarget target_of target_text
 target_form = record {
   spells = λ text to h. target_is (bytes_eq text (codes "end")) text to refl h;
   again = target_again;
 }
 
--- ---- A key with its origin
+-- ---- A key and its origin
 
+-- A key with its origin is read as it is written.
 pub row_form : IsForm (λ (a : ShardRef × Origin). IsKey a.0 × IsOrigin a.1) row_of (λ (a : ShardRef × Origin).
     key_text a.0 ++ origin_text a.1)
 row_form = with_origin_form key_lacks key_form
 
--- ---- What follows the word
+-- ---- What follows the first word of a command
 
 number_lacks : (n : ℕ) → Is64 n → Lacks 32 (decimal n)
 number_lacks n v = decimal_lacks 32 n refl v
@@ -94,12 +98,14 @@ numbers_form : IsForm (λ (a : ℕ × ℕ). Is64 a.0 × Is64 a.1) (two 32 number
     ++ 32 ∷ decimal a.1)
 numbers_form = two_form 32 refl number_lacks number_form number_form
 
--- ---- A word, and what follows it
+-- ---- The first word of a command, and what follows it
 
+-- The command `c` can be that of a raw line (`IsRaw`), and its text is the word `word`, a space and then `text`.
 abbrev Spells : List ℕ → List ℕ → Command → Type 0
 Spells word text c = IsRaw c × (word ++ 32 ∷ text ≡ command_text c)
 
--- A command whose arguments have a form has one text.
+-- If the values after the word are read as they are written (`IsForm`), then a command that is made from such values
+-- has this word and this text (`Spells`).
 spelled : {A : Type 0} {V : A → Type 0} {f : List ℕ → Option A} {s : A → List ℕ} → (w word : List ℕ) → IsForm V f s
     → (to : A → Command)
     → ((a : A) → V a → Spells w (s a) (to a)) → (text : List ℕ) (c : Command) → bytes_eq word w ≡ true
@@ -113,7 +119,8 @@ spelled {A} {V} {f} {s} w word form to each text c same h =
     subst (λ (z : List ℕ). Spells z text (to m.0)) (sym ((bytes_eq-Decides word w).0 same)) at_w in
     subst (λ (z : Command). Spells word text z) m.2 at_word
 
--- One of two branches gave the value.
+-- If a choice between two Options gave the value `l`, then `P` holds if it follows in both cases. `c` says which Option
+-- was chosen.
 pub choose : {A P : Type 0} (c : Bool) (x y : Option A) (l : A) → (if c then x else y) ≡ Some l
     → (c ≡ true → x ≡ Some l → P) → (y ≡ Some l → P) → P
 choose true x y l h f g = f refl h
@@ -122,6 +129,7 @@ choose false x y l h f g = g h
 raw_is : (what : Command) → is_service what ≡ false → IsLawfulCommand what → AreNumbers what → IsRaw what
 raw_is what e l n = record { lease = e; lawful = l; numbers = n }
 
+-- What is read as a command with the first word `word` is the text of this command.
 words_spell : (word text : List ℕ) (c : Command) → words_of word text ≡ Some c → Spells word text c
 words_spell word text c h =
     choose (bytes_eq word (codes "make")) _ _ c h
@@ -147,17 +155,20 @@ words_spell word text c h =
     (spelled (codes "cut") word cut_form _ (λ a v. (raw_is _ refl tt v, refl)) text c)
     (λ h. absurd (cc))))))))))
 
+-- What is read as a command of more than one word is the text of this command.
 longer_spells : (text : List ℕ) (c : Command) → longer_of text ≡ Some c → IsRaw c × (text ≡ command_text c)
 longer_spells text c h =
     let p = bind_some (field text) _ c h in
     let w = words_spell p.0.0 p.0.1 c p.2 in
     (w.0, (parted_spells 32 text p.0 p.1).0 ∙ w.1)
 
--- ---- Commands
+-- ---- All commands of raw lines
 
+-- The command `r.0` can be that of a raw line, with the choice `r.1` of its answer, and `text` is its text.
 abbrev SpellsRaw : List ℕ → Command × Bool → Type 0
 SpellsRaw text r = IsAsked r.0 r.1 × (text ≡ raw_text r.0 r.1)
 
+-- The text of a survey, in its longer or shorter form, is the text of this command.
 survey_spells : (word text : List ℕ) (long : Bool) (r : Command × Bool) → word ≡ raw_text command.Survey long
     → bytes_eq text word ≡ true
     → Some (command.Survey, long) ≡ Some r → SpellsRaw text r
@@ -168,6 +179,7 @@ survey_spells word text long r is same h =
       (bytes_eq-Decides text word).0 same ∙ is,
     )
 
+-- A text that is read as a command of more than one word is the text of this command.
 more_spells : (text : List ℕ) (r : Command × Bool) → option_map (λ (c : Command). (c, false)) (longer_of text) ≡ Some r
     → SpellsRaw text r
 more_spells text r h =
@@ -175,12 +187,14 @@ more_spells text r h =
     let d = longer_spells text m.0 m.1 in
     subst (λ (z : Command × Bool). SpellsRaw text z) m.2 ((d.0, λ l. absurd (cc l)), d.1)
 
+-- A text that is read as a command is the text of this command (`SpellsRaw`).
 pub command_spells : (text : List ℕ) (r : Command × Bool) → command_of text ≡ Some r → SpellsRaw text r
 command_spells text r h =
     choose (bytes_eq text (codes "survey")) _ _ r h (survey_spells (codes "survey") text false r refl)
     (λ h. choose (bytes_eq text (codes "rows")) _ _ r h (survey_spells (codes "rows") text true r refl)
     (more_spells text r))
 
+-- The text of a command without the longer answer is read as this command.
 short_again : (what : Command) → IsRaw what → command_of (command_text what) ≡ Some (what, false)
 short_again command.Survey v = refl
 short_again (command.MakeLease key from) v =
@@ -211,6 +225,7 @@ short_again (command.CutLease key counter) v =
     (cut_form.again (key, counter) v.numbers)
 short_again _ v = absurd (cc v.lease)
 
+-- The text of a command that a raw line can have is read as this command, with the choice of its answer.
 pub command_again : (what : Command) (long : Bool) → IsAsked what long
     → command_of (raw_text what long) ≡ Some (what, long)
 command_again what false a = short_again what a.0

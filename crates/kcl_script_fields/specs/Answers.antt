@@ -1,4 +1,4 @@
--- The text of answers to commands on leases.
+-- The texts of the answers to commands on leases.
 use Rattle.std.specs.Prelude.{ℕ, List, [], ◌∷◌, ◌++◌, length, flat_map, codes, decimal, Bool, if◌then◌else◌, Option}
 use Rattle.std.specs.Prelude.{Some, None, Result, Ok, Err}
 use Rattle.std.specs.List.{join_by}
@@ -12,42 +12,46 @@ use Rattle.kds_defs.specs.declared.reply.Stored.{Stored}
 use Rattle.kds_defs.specs.Values.{RowValue}
 use Rattle.kcl_script_fields.specs.Fields.{worker_text, key_text}
 
--- ---- Replies
+-- ---- Replies to accepted commands
 
--- The text is TRIM_HORIZON, a number or SHARD_END.
+-- The text of a checkpoint: TRIM_HORIZON, a sequence number, or SHARD_END.
 abbrev pub checkpoint_text : Checkpoint → List ℕ
 checkpoint_text checkpoint.TrimHorizon = codes "TRIM_HORIZON"
 checkpoint_text (checkpoint.At q) = decimal q
 checkpoint_text checkpoint.ShardEnd = codes "SHARD_END"
 
--- The text is a worker, or `-` for none.
+-- The text of the owner of a row: a worker, or `-` if the row has no owner.
 abbrev pub owner_text : Option ℕ → List ℕ
 owner_text None = codes "-"
 owner_text (Some n) = worker_text n
 
--- The text is a space, followed by `KEY OWNER COUNTER CHECKPOINT SWITCHES`.
+-- The text of a row in an answer: a space, and then `KEY OWNER COUNTER CHECKPOINT SWITCHES`.
 abbrev pub row_text : RowValue → List ℕ
 row_text r = 32 ∷ (key_text r.key
     ++ 32 ∷ (owner_text r.owner
     ++ 32 ∷ (decimal r.counter ++ 32 ∷ (checkpoint_text r.checkpoint ++ 32 ∷ decimal r.switches))))
 
--- The texts of the rows are separated by `;`.
+-- The texts of the rows, with `;` between them.
 abbrev pub rows_text : List RowValue → List ℕ
 rows_text rows = join_by row_text (codes ";") rows
 
--- The text is a space, followed by the number of a record.
+-- The text of a record in the answer to a read: a space, and then the record's sequence number.
 abbrev pub number_text : Stored → List ℕ
 number_text s = 32 ∷ decimal s.seq
 
+-- The text that says whether a read ended the shard, with a space before it: `end` or `more`.
 abbrev pub end_text : Bool → List ℕ
 end_text ended = if ended then codes " end" else codes " more"
 
--- The text is `ok N` and the rows if the longer answer is asked for, and otherwise `ok SHARDS ROWS`.
+-- The text of the answer to a survey. If `long` is true, it is `ok N` with the number N of the rows, and then each row.
+-- If `long` is false, it is `ok SHARDS ROWS` with the numbers of listed shards and of rows.
 abbrev pub survey_text : Bool → ℕ → List RowValue → List ℕ
 survey_text long shards rows =
     if long then codes "ok " ++ (decimal (length rows) ++ rows_text rows) else codes "ok "
     ++ (decimal shards ++ 32 ∷ decimal (length rows))
 
+-- The text of the reply to a command on leases. `long` says whether the answer to a survey has each row. The text of
+-- any other reply is empty.
 abbrev pub reply_text : Bool → Reply → List ℕ
 reply_text long reply.Done = codes "ok"
 reply_text long (reply.Leased from) = codes "ok"
@@ -61,8 +65,9 @@ reply_text long (reply.Read batch reach ended) =
 reply_text long (reply.Given delivered) = codes "ok delivered " ++ decimal delivered
 reply_text long _ = []
 
--- ---- Refusals
+-- ---- Refusals of commands
 
+-- The name of a refusal, as the text of an answer has it.
 abbrev pub refusal_name : Refusal → List ℕ
 refusal_name refusal.NoStream = codes "NoStream"
 refusal_name refusal.StreamThere = codes "StreamThere"
@@ -96,7 +101,8 @@ refusal_name refusal.ShardGone = codes "ShardGone"
 refusal_name refusal.LeaseThere = codes "LeaseThere"
 refusal_name refusal.ShardListed = codes "ShardListed"
 
--- The text is a space, followed by the refusal's value, if it has one.
+-- What the text of a refusal has after its name: a space and the value of the refusal, or nothing if the refusal has no
+-- value.
 abbrev pub refusal_value : Refusal → List ℕ
 refusal_value (refusal.Throttled sh) = 32 ∷ decimal sh
 refusal_value (refusal.Lost tenure) = 32 ∷ decimal tenure
@@ -107,10 +113,12 @@ refusal_value (refusal.ParentsOpen key) = 32 ∷ key_text key
 refusal_value (refusal.OutOfPlace reach) = 32 ∷ decimal reach
 refusal_value _ = []
 
+-- The text of a refusal: the word `refused`, its name, and its value if it has one.
 abbrev pub refusal_text : Refusal → List ℕ
 refusal_text r = codes "refused " ++ (refusal_name r ++ refusal_value r)
 
--- The text of an answer.
+-- The text of the answer to a command on leases, a reply or a refusal. `long` says whether the answer to a survey has
+-- each row.
 abbrev pub answer_text : Bool → Result Reply Refusal → List ℕ
 answer_text long (Ok r) = reply_text long r
 answer_text long (Err r) = refusal_text r

@@ -1,4 +1,5 @@
--- The workers of a run and their records.
+-- The workers of a run stand for the records of the run, index by index (`EmployAll`). An actor's number determines the
+-- index of its worker.
 use Rattle.std.proofs.Common.{◌≡◌, ℕ, zero, suc, ◌<◌, ◌≤◌, Bool, true, false, List, [], ◌∷◌, ◌++◌, length, Some, None}
 use Rattle.std.proofs.Common.{refl, sym, ap, subst, ◌∙◌, arith}
 use Rattle.std.specs.Prelude.{IfSome, get_or, nat_le, nat_lt, if◌then◌else◌, slice_get, slice_set}
@@ -10,13 +11,14 @@ use Rattle.kds_defs.specs.declared.limits.TheConstants.{MOST_ACTOR}
 use Rattle.kcl_sim.specs.Standing.{EmployAll, Employs, IsFree, SimValue, Stepped, index_among}
 use Rattle.kcl_sim.specs.Workers.{Employed, employed_by, index_of}
 
+-- If the workers stand for the records, there are as many workers as records.
 pub employ_length : (ws : List Stepped) (es : List Employed) → EmployAll ws es → length ws ≡ length es
 employ_length [] [] s = refl
 employ_length [] (e ∷ es) s = absurd s
 employ_length (w ∷ ws) [] s = absurd s
 employ_length (w ∷ ws) (e ∷ es) s = ap suc (employ_length ws es s.1)
 
--- `EmployAll` holds with one more worker.
+-- If all workers stand for their records, they still do after a worker and its record were added at the end.
 pub employ_more : (ws : List Stepped) (es : List Employed) (w : Stepped) (e : Employed) → EmployAll ws es → Employs w e
     → EmployAll (ws ++ w ∷ []) (es ++ e ∷ [])
 employ_more [] [] w e s h = (h, tt)
@@ -43,7 +45,7 @@ employ_set (v ∷ ws) [] place w e s h = absurd s
 employ_set (v ∷ ws) (d ∷ es) zero w e s h = (h, s.1)
 employ_set (v ∷ ws) (d ∷ es) (suc place) w e s h = (s.0, employ_set ws es place w e s.1 h)
 
--- ---- Places
+-- ---- The index of an actor's worker
 
 nobody_by : (low within : Bool) (by count : ℕ) (es : List Employed) → count ≡ length es → nat_le by MOST_ACTOR ≡ low
     → nat_lt (index_of by) count ≡ within
@@ -55,7 +57,7 @@ nobody_by false false by count es same l w h =
     let past : count ≤ index_of by = grind (arith, nat_tests) in
     slice_get_past es (index_of by) (subst (λ n. n ≤ index_of by) same past)
 
--- An actor without an index has no worker.
+-- If an actor has no index among `count` workers, and there are `count` records, then the actor has no worker.
 pub nobody : (by count : ℕ) (es : List Employed) → count ≡ length es → index_among by count ≡ None
     → employed_by by es ≡ None
 nobody by count es same h = nobody_by (nat_le by MOST_ACTOR) (nat_lt (index_of by) count) by count es same refl refl h

@@ -1,4 +1,7 @@
--- What the line of a hand-off makes of a run.
+-- The line of a schedule that hands off a lease leads to the run that `with_line` defines. In the lemmas, `old` is the
+-- run before the line, which stands for `ran`, and `new` is the run after it. `before` and `after` are the output
+-- before and after, and `wanted` says whether answers are output. `GoesOn`: the line was run, its output was added if
+-- answers are wanted, and memory didn't run out.
 use Rattle.std.proofs.Common.{◌≡◌, ℕ, Bool, zero, suc, true, false, List, [], ◌∷◌, ◌++◌, length, Some, None, codes}
 use Rattle.std.proofs.Common.{refl, sym, ap, subst, ◌∙◌, inr}
 use Rattle.std.specs.Prelude.{option_map, slice_get, slice_set}
@@ -26,9 +29,10 @@ use Rattle.kcl_sim.proofs.Employing.{employ_length, nobody}
 use Rattle.kcl_sim.proofs.HandTelling.{worker_past_hand}
 use Rattle.kcl_sim.proofs.Running.{replaced, works}
 
--- ---- What a worker releases
+-- ---- A worker releases a lease
 
--- The hand-off is that of the record's release, and the worker has the rest.
+-- A release of the key `key` takes a lease out of the worker with the record `e`. Then `v` is the hand-off that this
+-- release begins, and the worker `now` stands for `e` with the release and any events of the hand-off added.
 pub record IsReleased (key : ShardRef) (e : Employed) (now : Stepped) (v : Handing) : Type 0 where
   pub release : Release
   pub which : release_by key (Some e) ≡ Some release
@@ -62,6 +66,7 @@ released_so was now key h c v adds made maker held of_it begins e s =
 
 -- ---- Nothing is released
 
+-- If the actor `by` has no worker, a hand-off line changes nothing, and its output is "none".
 pub nobody_hands : (wanted : Bool) (old new : SimValue) (ran : Ran) (at by : ℕ) (key : ShardRef) (before after : List ℕ)
     → RunsSo old ran
     → old.over ≡ false → new ≡ old

@@ -1,4 +1,6 @@
--- A hand-off that is under way, and its record.
+-- A hand-off that is run command by command does what the definition `hand_run` says. In the lemmas, `old` is the run
+-- before the hand-off, `v` is the hand-off as it was then, and `x` is a record that `v` stands for (`IsHandOf`).
+-- `wanted` says whether answers are output.
 use Rattle.std.proofs.Common.{◌≡◌, ℕ, Bool, zero, suc, ◌+◌, ◌-◌, ◌<◌, ◌≤◌, List, [], ◌∷◌, ◌++◌, Some, None, Result}
 use Rattle.std.proofs.Common.{refl, sym, ap, subst, ◌∙◌, arith, ◌⊎◌, inl, inr}
 use Rattle.std.specs.Prelude.{IsSome}
@@ -30,23 +32,26 @@ use Rattle.kcl_sim.proofs.Wanting.{joined, none_wanted}
 
 -- ---- A call and a command of a hand-off
 
--- The stage of the hand-off's consumer is the one of its record.
+-- The stage of the consumer of the hand-off `v` is the stage that the record `x` leads to.
 pub stage_is : (v : Handing) (x : HandOff) → IsHandOf v x → v.consumer.stage ≡ stage_after x.made (state_of x).past
 stage_is v x s = s.stands.consumer.stage
     ∙ (λ i. stage_after (s.made i) (hand_after (s.held i) (s.made i) x.before x.since).past)
 
+-- What comes next in the hand-off `v` (`stand`) is what the record `x` leads to.
 pub stand_is : (v : Handing) (x : HandOff) → IsHandOf v x → v.stand ≡ (state_of x).stand
 stand_is v x s = s.stands.stand ∙ (λ i. (hand_after (s.held i) (s.made i) x.before x.since).stand)
 
+-- The due call of the hand-off `v` is the due call that the record `x` leads to.
 pub due_is : (v : Handing) (x : HandOff) → IsHandOf v x → due_call v.consumer.stage ≡ hand_due x.made (state_of x)
 due_is v x s = ap due_call (stage_is v x s)
 
--- The next command is that of the record.
+-- The next command of the hand-off `v` is the command that the record `x` leads to.
 pub next_is : (v : Handing) (x : HandOff) → IsHandOf v x → command_at v.held v.consumer.made v.consumer.stage v.stand
     ≡ hand_command x.held x.made (state_of x)
 next_is v x s = λ i. command_at (s.held i) (s.made i) (stage_is v x s i) (stand_is v x s i)
 
--- After an answer, the consumer is still leaving.
+-- If the consumer is in a stage that comes after the loss of a lease (`IsLeaving`), it is in such a stage after an
+-- answer too.
 answered_leaves_at : (h : Held) (made : Tenancy) (a : Result Reply Refusal) (s : HandState) (st : Stand)
     → IsLeaving (stage_after made s.past)
     → IsLeaving (stage_after made (answered_at h made a s st).past)
@@ -60,15 +65,18 @@ leaves_so w x held made s l =
     subst IsLeaving (sym (s.consumer.stage
     ∙ (λ i. stage_after (made i) (hand_after (held i) (made i) x.before x.since).past))) l
 
+-- The hand-off `w` has the lease and the consumer's values of the record `x`, and it stands for the events of `x`. If
+-- `x` leads to a stage after the loss of a lease (`IsLeaving`), then `IsHandOf` holds.
 hand_on : (w : Handing) (x : HandOff) → w.held ≡ x.held → w.consumer.made ≡ x.made → StandsFor Calls w x.before x.since
     → IsLeaving (stage_after x.made (state_of x).past) → IsHandOf w x
 hand_on w x held made s l = record { held = held; made = made; stands = s; leaving = leaves_so w x held made s l }
 
--- If no call is due, none is made.
+-- If no call is due, the record after its due call is the record itself.
 pub called_none : (x : HandOff) → hand_due x.made (state_of x) ≡ None → called_up x ≡ x
 called_none x is = ap (λ o. called_if o x) is
 
--- The hand-off after an answer is that of the record after this answer.
+-- If the hand-off `v` took the answer `a` to the command `what`, which left the hand-off `w`, then `w` is the hand-off
+-- of the record with this answer added (`IsHandOf`).
 pub answered_on : (at by : ℕ) (h : List Turn) (what : Command) (a : Result Reply Refusal) (v w : Handing)
     → w.held ≡ v.held
     → w.consumer.made ≡ v.consumer.made → AddsHandAnswer Calls a v w → a ≡ answer h (raw_turn at by what)
@@ -82,20 +90,23 @@ answered_on at by h what a v w held made adds is x s =
 
 -- ---- The first commands of a hand-off
 
--- The run with the commands before it, and their answers.
+-- The run `r` with the commands `deals` and their answers put before its own.
 pub with_deals : List Deal → HandRun → HandRun
 with_deals deals r = record r { deals = deals ++ r.deals }
 
--- After `n` commands, with the answers in `deals`, the run goes on from the history `k` with the hand-off `y`.
+-- The first `n` commands of the hand-off `x` after the history `h`, with the answers in `deals`, lead to the hand-off
+-- `y` and the history `k`. Any further `j` commands of `x` are `j` commands of `y` from `k` on.
 abbrev pub IsRest : ℕ → ℕ → List Turn → HandOff → ℕ → List Deal → List Turn → HandOff → Type 0
 IsRest at by h x n deals k y = (j : ℕ) → run_hand (n + j) at by h x ≡ with_deals deals (run_hand j at by k y)
 
+-- If no call is due after the due call of `x` was made, the run of `x` is the run after this call.
 run_called : (j at by : ℕ) (h : List Turn) (x : HandOff) → hand_due (called_up x).made (state_of (called_up x)) ≡ None
     → run_hand j at by h x ≡ run_hand j at by h (called_up x)
 run_called zero at by h x none =
     ap (λ y. record { history = h; hand = y; deals = [] }) (sym (called_none (called_up x) none))
 run_called (suc j) at by h x none = ap (round j at by h) (sym (called_none (called_up x) none))
 
+-- `IsRest` holds with no command yet, if no call is due after the due call of `x` was made.
 rest_begins : (at by : ℕ) (h : List Turn) (x : HandOff) → hand_due (called_up x).made (state_of (called_up x)) ≡ None
     → IsRest at by h x 0 [] h (called_up x)
 unfolding with_deals
@@ -103,7 +114,8 @@ rest_begins at by h x none j =
     let same : 0 + j ≡ j = omega arith in
     ap (λ m. run_hand m at by h x) same ∙ run_called j at by h x none
 
--- `IsRest` holds after one more command.
+-- If `IsRest` holds after `n` commands, it holds after one more command `what`, if no call is due before this command,
+-- and none after the call that follows it.
 rest_more : (at by : ℕ) (h : List Turn) (x : HandOff) (n : ℕ) (deals : List Deal) (k : List Turn) (y : HandOff)
     (what : Command)
     → IsRest at by h x n deals k y → hand_command y.held y.made (state_of y) ≡ Some what
@@ -124,7 +136,7 @@ rest_more at by h x n deals k y what rest next none then_none j =
     ∙ ap (λ ds. record { history = r.history; hand = r.hand; deals = ds })
     (sym (append_assoc deals (deal_at at by k what ∷ []) r.deals))
 
--- Once the hand-off has ended, nothing more comes.
+-- If no call is due and no command comes next, a run of the hand-off `y` changes nothing.
 ends_so : (j at by : ℕ) (k : List Turn) (y : HandOff) → hand_command y.held y.made (state_of y) ≡ None
     → hand_due y.made (state_of y) ≡ None
     → run_hand j at by k y ≡ record { history = k; hand = y; deals = [] }
@@ -136,9 +148,12 @@ deals_more [] deal = append-nil (deal_text deal)
 deals_more (d ∷ deals) deal = ap (λ z. deal_text d ++ z) (deals_more deals deal)
     ∙ sym (append_assoc (deal_text d) (deals_text deals) (deal_text deal))
 
--- ---- A run in which a hand-off is under way
+-- ---- A hand-off in the middle of its run
 
--- The first commands of the hand-off ran, and the call that was due was made.
+-- The first commands of the hand-off `v` became turns of the run, and the due calls were made, which left the hand-off
+-- `w` without a due call. `now` is the run after them, with the workers of `old`, and `text` is what was written for
+-- them.
+-- The number of these commands, `ran_of_it`, and of those that `w` may still make is at most three together.
 pub record UnderWay (wanted : Bool) (at by : ℕ) (old now : SimValue) (v w : Handing) (text : List ℕ) : Type 0 where
   pub ran_of_it : ℕ
   pub deals : List Deal
@@ -151,10 +166,13 @@ pub record UnderWay (wanted : Bool) (at by : ℕ) (old now : SimValue) (v w : Ha
   pub rest : (x : HandOff) → IsHandOf v x → (y : HandOff) × IsHandOf w y
       × IsRest at by old.history x ran_of_it deals now.history y
 
+-- If the hand-off `w` has no due call, its record `y` has none.
 none_of : (w : Handing) (y : HandOff) → IsHandOf w y → due_call w.consumer.stage ≡ None
     → hand_due y.made (state_of y) ≡ None
 none_of w y s none = sym (due_is w y s) ∙ none
 
+-- `UnderWay` holds before the first command, once the due call of `v`, if any, was made, which left `w`. `v` may make
+-- at most three commands.
 pub way_begins : (wanted : Bool) (at by : ℕ) (old now : SimValue) (v w : Handing) (text : List ℕ) → now ≡ old
     → text ≡ [] → turns_left_in v ≤ 3
     → turns_left_in w ≤ turns_left_in v → due_call w.consumer.stage ≡ None
@@ -177,6 +195,8 @@ way_begins wanted at by old now v w text same empty few fewer none called = reco
       );
 }
 
+-- If the hand-off `w` makes one more round (`MadeRound`), a command and then the due call, which leaves the hand-off
+-- `u`, then `UnderWay` still holds, with `u` in place of `w`.
 pub way_goes : (wanted : Bool) (at by : ℕ) (old now new : SimValue) (v w u : Handing) (text more : List ℕ)
     → UnderWay wanted at by old now v w text
     → MadeRound wanted at by now new w u text more → new.over ≡ now.over → new.workers ≡ now.workers
@@ -209,7 +229,7 @@ way_goes wanted at by old now new v w u text more way r over workers told fewer 
       );
 }
 
--- ---- The hand-off has ended
+-- ---- The end of a hand-off
 
 -- Once the hand-off has ended, no command comes next.
 ended_quiet : (h : Held) (made : Tenancy) (stage : Stage) (s : Stand) → IsSome (left_at s)
@@ -217,7 +237,7 @@ ended_quiet : (h : Held) (made : Tenancy) (stage : Stage) (s : Stand) → IsSome
 ended_quiet h made stage (stand.Ended left) over = refl
 ended_quiet h made stage _ over = absurd cc
 
--- The run of a hand-off that has ended is the whole run.
+-- If the hand-off `w` has ended, the commands that were made so far are those of the whole run of `v`.
 whole_run : (wanted : Bool) (at by : ℕ) (old now : SimValue) (v w : Handing) (text : List ℕ)
     (way : UnderWay wanted at by old now v w text)
     → IsSome (left_at w.stand)
@@ -233,6 +253,8 @@ whole_run wanted at by old now v w text way over x s =
     ap (λ m. run_hand m at by old.history x) three ∙ y.2 left ∙ ap (with_deals way.deals)
     (ends_so left at by now.history y.0 quiet (none_of w y.0 y.1 way.none_due))
 
+-- If the hand-off `w` has ended, and its line of output with how it ended was added, then the hand-off `v` ran to its
+-- end (`RanToEnd`).
 pub way_ends : (wanted : Bool) (at by : ℕ) (old now new : SimValue) (v w : Handing) (text line before after : List ℕ)
     → UnderWay wanted at by old now v w text
     → IsSome (left_at w.stand) → line ≡ text ++ if_wanted wanted (left_text (left_at w.stand) ++ 10 ∷ [])
@@ -253,7 +275,8 @@ way_ends wanted at by old now new v w text line before after way over line_is wr
 
 -- ---- Out of memory
 
--- Memory ran out between two commands of the hand-off.
+-- If memory ran out between two commands of the hand-off, then only its first commands became turns, perhaps none
+-- (`RanFirst`).
 pub broke_between : (wanted : Bool) (at by : ℕ) (old now new : SimValue) (v w : Handing) (text : List ℕ)
     → UnderWay wanted at by old now v w text
     → new.history ≡ now.history
@@ -273,7 +296,8 @@ one_left (stand.Ended left) stage going = absurd cc
 one_left stand.Consumer (Giving reach waiting asked lost) going = omega arith
 one_left _ _ going = omega arith
 
--- Memory ran out after the turn of a command.
+-- If memory ran out after one more command of the hand-off became a turn (`RanCommand`), then only its first commands
+-- became turns, this one included (`RanFirst`).
 pub broke_after : (wanted : Bool) (at by : ℕ) (old now new : SimValue) (v w : Handing) (text : List ℕ)
     → UnderWay wanted at by old now v w text
     → left_at w.stand ≡ None
@@ -289,6 +313,8 @@ broke_after wanted at by old now new v w text way going r = record {
       ∙ ap (λ z. z.history) (sym (y.2 1));
 }
 
+-- If memory ran out in a round, before or after its command became a turn, then only the first commands of the hand-off
+-- became turns (`RanFirst`).
 pub broke_round : (wanted : Bool) (at by : ℕ) (old now new : SimValue) (v w : Handing) (text : List ℕ)
     → UnderWay wanted at by old now v w text
     → left_at w.stand ≡ None
@@ -299,13 +325,15 @@ broke_round wanted at by old now new v w text way going (inl same) =
 broke_round wanted at by old now new v w text way going (inr r) =
     broke_after wanted at by old now new v w text way going r
 
--- ---- One round
+-- ---- One round: a command, and then the due call
 
--- The command that comes next is that of the record.
+-- The command that the hand-off `v` gives next is the one that each of its records leads to (`ComesNext`).
 comes_next : (v : Handing) (what : Command) → Some what ≡ command_at v.held v.consumer.made v.consumer.stage v.stand
     → ComesNext v what
 comes_next v what is x s = sym (next_is v x s) ∙ sym is
 
+-- The next command of the hand-off `v` became a turn, and its answer was taken, which left `mid`. If then the due call
+-- was made, which left `w`, a round was made (`MadeRound`).
 pub round_made : (wanted : Bool) (at by : ℕ) (old new : SimValue) (v mid w : Handing) (what : Command)
     (a : Result Reply Refusal) (before after : List ℕ)
     → Some what ≡ command_at v.held v.consumer.made v.consumer.stage v.stand

@@ -1,4 +1,5 @@
--- The joint record of a worker tells a hand-off that runs.
+-- While a hand-off of a worker runs, the actor's turns in the history stay the answered commands of the joint record of
+-- the worker and its hand-offs.
 use Rattle.std.proofs.Common.{◌≡◌, ℕ, zero, suc, List, [], ◌∷◌, ◌++◌, length, Option, Some, None, refl, sym, ap, subst}
 use Rattle.std.proofs.Common.{◌∙◌}
 use Rattle.std.specs.Prelude.{IsSome, if◌then◌else◌, map}
@@ -18,36 +19,43 @@ use Rattle.kcl_hand.specs.Joints.{state_of, worker_in, worker_past}
 use Rattle.kcl_hand.specs.Runs.{HandRun, answered_by, called_if, called_up, or_stop, run_hand, turn_of, with_first}
 use Rattle.kcl_hand.specs.Runs.{with_hand}
 
--- ---- A command, and what follows it
+-- ---- A command, and what comes after it
 
--- The run of a hand-off whose due call was made.
+-- The run of the hand-off `x`, whose due call was made before: the command `o` becomes a turn and is answered, and then
+-- at most `n` commands follow. If `o` is None, nothing is run.
 abbrev pub rounds : ℕ → ℕ → ℕ → List Turn → HandOff → Option Command → HandRun
 rounds n at by h x o =
     or_stop o (record { history = h; hand = x; deals = [] })
     (λ what. with_first h what at by (run_hand n at by (turn_of at by what ∷ h) (answered_by at by h x what)))
 
+-- The run of the hand-off `x`, whose due call was made before, with its next command, if any, and at most `n` commands
+-- after it.
 abbrev pub round : ℕ → ℕ → ℕ → List Turn → HandOff → HandRun
 round n at by h x = rounds n at by h x (hand_command x.held x.made (state_of x))
 
 -- ---- The worker's own record
 
+-- The events of a hand-off aren't part of the worker's own record.
 hands_apart : (n : ℕ) (since : HandPast) (past : JointPast)
     → worker_past (map (Of_hand n) since ++ past) ≡ worker_past past
 hands_apart n [] past = refl
 hands_apart n (event ∷ since) past = hands_apart n since past
 
--- A hand-off leaves the release in the worker's own record.
+-- In the worker's own record, a hand-off with the events `since` is only the release that begins it.
 pub worker_past_hand : (key : ShardRef) (since : HandPast) (made : WorkerMade) (past : JointPast)
     → worker_past (with_hand key since made past) ≡ Released key ∷ worker_past past
 worker_past_hand key since made past = hands_apart (length (hands_after made past)) since _
 
+-- If no command of the worker waits for its answer, none waits after a release.
 pub released_free : (o : Option Release) (w : WorkerState) → w.waiting ≡ None → (without_release o w).waiting ≡ None
 released_free None w h = h
 released_free (Some r) w h = h
 
 -- ---- The record with the hand-off
 
--- The actor's turns are those of the record with a release and with what happened to its hand-off since.
+-- Consider the joint record `past` with a release of the key `key` added, and with the events `since` of the hand-off
+-- that this release begins. This record is possible (`AreOrderly`), and its answered commands are the actor's turns in
+-- `h`.
 pub record IsTellingHand (by : ℕ) (h : List Turn) (key : ShardRef) (made : WorkerMade) (past : JointPast)
     (since : HandPast) : Type 0 where
   pub orderly : AreOrderly made (with_hand key since made past)
@@ -55,7 +63,8 @@ pub record IsTellingHand (by : ℕ) (h : List Turn) (key : ShardRef) (made : Wor
 
 module _ (at by : ℕ) (key : ShardRef) (made : WorkerMade) (past : JointPast) (r : Release)
     (which : released key (worker_in made past) ≡ Some r) where
-  -- The record still tells the turns after the next command was answered.
+  -- If the hand-off's next command `what` becomes a turn of the actor `by` and is answered, the actor's turns are still
+  -- those of the joint record, which has the answer added.
   answered_tells : (h : List Turn) (since : HandPast) (what : Command)
       → hand_command r.held r.known.made (state_of (hand_of r since)) ≡ Some what
       → IsTellingHand by h key made past since
@@ -74,17 +83,20 @@ module _ (at by : ℕ) (key : ShardRef) (made : WorkerMade) (past : JointPast) (
             ∙ sym (deals_with_hand key made past r which since what a is);
       }
 
-  -- A due call isn't a turn.
+  -- If the due call of the hand-off, if any, is made, the actor's turns are still those of the joint record, which has
+  -- the call added. A call isn't a turn.
   called_tells : (h : List Turn) (since : HandPast) (o : Option Due) → IsTellingHand by h key made past since
       → IsTellingHand by h key made past (called_if o (hand_of r since)).since
   called_tells h since None t = t
   called_tells h since (Some due) t = record { orderly = (tt, t.orderly); told = t.told }
 
+  -- A hand-off with a call added is the hand-off that the release begins, with the events of the former.
   called_hand : (since : HandPast) (o : Option Due)
       → called_if o (hand_of r since) ≡ hand_of r (called_if o (hand_of r since)).since
   called_hand since None = refl
   called_hand since (Some due) = refl
 
+  -- After the run `run` of the hand-off, the actor's turns are those of the joint record with the hand-off's events.
   Tells : HandRun → Type 0
   Tells run = IsTellingHand by run.history key made past run.hand.since
 
@@ -100,6 +112,8 @@ module _ (at by : ℕ) (key : ShardRef) (made : WorkerMade) (past : JointPast) (
       rest (turn_of at by what ∷ h) (Hand_answered (answer h (turn_of at by what)) ∷ since)
       (answered_tells h since what is t)
 
+  -- After a run of at most `n` commands, the actor's turns are those of the joint record with the hand-off's events, if
+  -- they were before.
   runs_tell : (n : ℕ) (h : List Turn) (since : HandPast) → IsTellingHand by h key made past since
       → Tells (run_hand n at by h (hand_of r since))
   unfolding Tells
@@ -110,7 +124,8 @@ module _ (at by : ℕ) (key : ShardRef) (made : WorkerMade) (past : JointPast) (
       (round_tells n h (called_if o (hand_of r since)).since _ refl (called_tells h since o t)
       (λ k later s. runs_tell n k later s))
 
-  -- The record tells the turns of the hand-off to its end.
+  -- After the hand-off has run to its end, the actor's turns are those of the joint record with the hand-off's events,
+  -- if they were so right after the release.
   pub run_tells : (h : List Turn) → IsTellingHand by h key made past []
       → IsTellingHand by (run_hand 3 at by h (hand_of r [])).history key made past
       (run_hand 3 at by h (hand_of r [])).hand.since
@@ -126,7 +141,7 @@ not_by : (n at by other : ℕ) (h : List Turn) (x : HandOff) (o : Option Command
 not_by n at by other h x None one rest = refl
 not_by n at by other h x (Some what) one rest = rest (turn_of at by what ∷ h) (answered_by at by h x what) ∙ one what
 
--- The run of a hand-off leaves the commands and answers of another actor as they were.
+-- The run of a hand-off adds no command of the actor `other`, if no turn of the actor `by` does.
 pub of_another_run : (n at by other : ℕ)
     → ((h : List Turn) (what : Command) → deals_of other (turn_of at by what ∷ h) ≡ deals_of other h)
     → (h : List Turn) (x : HandOff) → deals_of other (run_hand n at by h x).history ≡ deals_of other h

@@ -1,4 +1,5 @@
--- The turns of hand-offs are lawful.
+-- The turns of hand-offs are lawful: their values are in the ranges of the API. The lemmas need that the workers are
+-- bounded (`AreBounded`), so that a hand-off's Read asks for no more records than a Read may ask for.
 use Rattle.std.proofs.Common.{◌≡◌, ℕ, zero, suc, ◌<◌, ◌^◌, List, [], ◌∷◌, Option, Some, None, refl, subst}
 use Rattle.std.specs.Prelude.{option_map}
 use Rattle.kds_base.specs.declared.lease_key.ShardRef.{ShardRef}
@@ -24,7 +25,7 @@ use Rattle.kcl_sim.proofs.HandTelling.{rounds}
 use Rattle.kcl_sim.proofs.LawfulSteps.{AllLimits, AreBounded, HasLimit, IsBounded, bounded_by, found_limit}
 use Rattle.kcl_sim.proofs.LawfulSteps.{limits_after, stage_command, so_lawful}
 
--- ---- What is released reads at most as many records as a Read may ask for
+-- ---- A released consumer asks for no more records than a Read may ask for
 
 lease_limit : (h : Held) (o : Option Known) (r : Release) → with_lease h o ≡ Some r
     → ((k : Known) → o ≡ Some k → HasLimit k) → IsLimit r.known.made.limit
@@ -40,6 +41,7 @@ release_limit known None r is limits = absurd cc
 release_limit known (Some h) r is limits =
     lease_limit h (known_of (id_of_held h) known) r is (λ k found. found_limit _ known k found limits)
 
+-- If the worker `e` is bounded, the limit of records of the consumer that it releases is in the range of the API.
 worker_limit : (e : Employed) (key : ShardRef) (r : Release) → released key (worker_state e) ≡ Some r → IsBounded e
     → IsLimit r.known.made.limit
 worker_limit e key r is h =
@@ -48,6 +50,7 @@ worker_limit e key r is h =
 
 -- ---- The commands of a hand-off
 
+-- The command that comes next in a hand-off is lawful.
 stand_lawful : (h : Held) (made : Tenancy) (stage : Stage) (s : Stand) (what : Command)
     → command_at h made stage s ≡ Some what → IsLimit made.limit
     → IsLawfulCommand what
@@ -70,6 +73,7 @@ rounds_lawful n at by h x (Some what) is early limit past rest =
     rest (turn_of at by what ∷ h) (answered_by at by h x what) limit
     ((early, stand_lawful x.held x.made (stage_after x.made (state_of x).past) (state_of x).stand what is limit), past)
 
+-- If at most `n` commands of a hand-off are run after a lawful history, the history after them is lawful.
 run_lawful : (n at by : ℕ) (h : List Turn) (x : HandOff) → at < 2 ^ 62 → IsLimit x.made.limit → IsHistory h
     → IsHistory (run_hand n at by h x).history
 run_lawful zero at by h x early limit past = past
@@ -87,6 +91,7 @@ release_lawful ran at by key e None is early h past = past
 release_lawful ran at by key e (Some r) is early h past =
     run_lawful 3 at by ran.history (hand_of r []) early (worker_limit e key r is h) past
 
+-- If the turns of a run are lawful, they are still lawful after a hand-off line of the actor `by`.
 pub hand_lawful : (ran : Ran) (at by : ℕ) (key : ShardRef) (o : Option Employed) → employed_by by ran.workers ≡ o
     → at < 2 ^ 62 → AreBounded ran.workers
     → IsHistory ran.history
@@ -114,6 +119,8 @@ employed_part n at by h k key ws None is part early bound past = absurd cc
 employed_part n at by h k key ws (Some e) is part early bound past =
     released_part n at by h k key e (release_by key (Some e)) refl part early (bounded_by by ws e is bound) past
 
+-- Consider a hand-off line `l` of which at most the first `n` commands were run, which gave the history `k`. The turns
+-- of `k` are lawful.
 pub part_lawful : (n : ℕ) (ran : Ran) (l : Line) (k : List Turn) → part_of n ran l ≡ Some k → IsLine l
     → AreBounded ran.workers → IsHistory ran.history
     → IsHistory k

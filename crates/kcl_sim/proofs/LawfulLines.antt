@@ -1,4 +1,5 @@
--- The turns of a schedule are lawful.
+-- All turns of a schedule's run are lawful: their values are in the ranges of the API. `IsHistory` says so of a list of
+-- turns.
 use Rattle.std.proofs.Common.{◌≡◌, ℕ, ◌+◌, ◌<◌, ◌^◌, List, [], ◌∷◌, Option, Some, None, Result, Ok, Err, refl, subst}
 use Rattle.std.proofs.Common.{◌++◌}
 use Rattle.std.specs.List.{AllByRecursion}
@@ -18,19 +19,23 @@ use Rattle.kcl_sim.proofs.LawfulSteps.{AreBounded, line_bounded, step_lawful, st
 use Rattle.kcl_sim.specs.Schedule.{Judged, judge_form, judge, judged, history}
 use Rattle.kcl_sim.specs.Standing.{HasRunPart, SimValue}
 
+-- The turn of a request is lawful if its moment is below 2^62 and its command is one that a request may have
+-- (`IsRequest`).
 pub request_lawful : (h : List Turn) (at : ℕ) (r : Result Command Fault) → at < 2 ^ 62
     → ((what : Command) → r ≡ Ok what → IsRequest what) → IsHistory h → IsHistory (requested h at r)
 request_lawful h at (Ok what) early lawful past = ((early, (lawful what refl).0), past)
 request_lawful h at (Err f) early lawful past = past
 
--- The lines of a judgement are lines.
+-- Each line of the judgement has values in their ranges (`IsLine`).
 abbrev pub AreLines : Judged → Type 0
 AreLines j = AllByRecursion IsLine j.lines
 
--- What requests and lines are known to give: lawful commands, and a moment.
+-- The first of two laws that the lemmas take as given: the command that a request is read as is one that a request may
+-- have (`IsRequest`).
 abbrev pub AskLawfully : Type 0
 AskLawfully = (operation body : List ℕ) (what : Command) → asked operation body ≡ Ok what → IsRequest what
 
+-- The second of these two laws: the line that a text is read as has values in their ranges (`IsLine`).
 abbrev pub ReadLines : Type 0
 ReadLines = (text : List ℕ) (line : Line) → line_of text ≡ Some line → IsLine line
 
@@ -48,17 +53,19 @@ module _ (reads : ReadLines) where
   front_lines [] ks are = tt
   front_lines (l ∷ ls) ks are = (are.0, front_lines ls ks are.1)
 
-  -- The lines of a schedule are lines.
+  -- Each line of a schedule that is run has values in their ranges (`IsLine`).
   pub schedule_lines : (bytes : List ℕ) → AllByRecursion IsLine (judged bytes).lines
   schedule_lines bytes = judge_lines 0 (lined bytes).texts (lined bytes).end
 
-  -- The first lines of a schedule are lines.
+  -- If the lines of a schedule that are run begin with `lines`, each of `lines` has values in their ranges (`IsLine`).
   pub first_lines : (bytes : List ℕ) (lines later : List Line) → (judged bytes).lines ≡ lines ++ later
       → AllByRecursion IsLine lines
   first_lines bytes lines later parts =
       front_lines lines later (subst (λ (z : List Line). AllByRecursion IsLine z) parts (schedule_lines bytes))
 
 module _ (asks : AskLawfully) (reads : ReadLines) where
+  -- A line with values in their ranges (`IsLine`) keeps all turns of the run lawful, if the workers of the run are
+  -- bounded (`AreBounded`).
   line_lawful : (ran : Ran) (l : Line) → IsLine l → AreBounded ran.workers → IsHistory ran.history
       → IsHistory (with_line ran l).history
   line_lawful ran (Api at operation body) is bound past =
@@ -70,15 +77,18 @@ module _ (asks : AskLawfully) (reads : ReadLines) where
   line_lawful ran (Hand at by key) is bound past =
       hand_lawful ran at by key (employed_by by ran.workers) refl is.0 bound past
 
+  -- Such lines, one after another, keep all turns of the run lawful.
   schedule_lawful : (ran : Ran) (ls : List Line) → AllByRecursion IsLine ls → AreBounded ran.workers
       → IsHistory ran.history → IsHistory (with_schedule ran ls).history
   schedule_lawful ran [] are bound past = past
   schedule_lawful ran (l ∷ ls) are bound past =
       schedule_lawful (with_line ran l) ls are.1 (line_bounded ran l are.0 bound) (line_lawful ran l are.0 bound past)
 
+  -- All turns of the run of a schedule are lawful.
   pub history_lawful : (bytes : List ℕ) → IsHistory (history bytes)
   history_lawful bytes = schedule_lawful fresh (judged bytes).lines (schedule_lines reads bytes) tt tt
 
+  -- If the lines of a schedule that are run begin with `lines`, all turns of the run of `lines` are lawful.
   pub front_lawful : (bytes : List ℕ) (lines later : List Line) → (judged bytes).lines ≡ lines ++ later
       → IsHistory (with_schedule fresh lines).history
   front_lawful bytes lines later parts = schedule_lawful fresh lines (first_lines reads bytes lines later parts) tt tt
@@ -87,11 +97,15 @@ module _ (asks : AskLawfully) (reads : ReadLines) where
   middle_line [] ks l are = are.0
   middle_line (k ∷ ls) ks l are = middle_line ls ks l are.1
 
+  -- Lines with values in their ranges (`IsLine`) keep the workers of a run bounded (`AreBounded`): their names and
+  -- their limits of records are in the ranges of the API.
   schedule_bounded : (ran : Ran) (ls : List Line) → AllByRecursion IsLine ls → AreBounded ran.workers
       → AreBounded (with_schedule ran ls).workers
   schedule_bounded ran [] are bound = bound
   schedule_bounded ran (l ∷ ls) are bound = schedule_bounded (with_line ran l) ls are.1 (line_bounded ran l are.0 bound)
 
+  -- If memory ran out in the middle of the line `l`, which comes after `lines` in a schedule, all turns of the run `s`
+  -- up to then are lawful.
   pub middle_lawful : (bytes : List ℕ) (lines later : List Line) (l : Line) (s : SimValue)
       → (judged bytes).lines ≡ lines ++ l ∷ later
       → HasRunPart s (with_schedule fresh lines) l → IsHistory s.history

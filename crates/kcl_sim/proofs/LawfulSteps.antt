@@ -1,4 +1,6 @@
--- The turns of workers are lawful, since each command that follows from a worker's record is.
+-- The turns of workers are lawful: each command that comes next for a worker has values in the ranges of the API. The
+-- lemmas need that the worker's name is at least 1, and that its consumers ask for no more records than a Read may ask
+-- for.
 use Rattle.std.proofs.Common.{◌≡◌, ℕ, zero, suc, ◌<◌, ◌≤◌, ◌^◌, Bool, true, false, List, [], ◌∷◌, ◌++◌, Option, Some}
 use Rattle.std.proofs.Common.{None, Result, Ok, Err, refl, subst, arith}
 use Rattle.std.specs.Prelude.{cond, not, nat_le, if◌then◌else◌, option_map, slice_get, slice_set}
@@ -32,11 +34,13 @@ use Rattle.kcl_script.specs.Line.{IsLine}
 use Rattle.kcl_sim.specs.Output.{Ran, with_command, with_handed, with_line, with_release, with_step, with_stop}
 use Rattle.kcl_sim.specs.Workers.{Employed, all_called, command_at, employed_by, index_of, release_by, state_of}
 
--- ---- The consumers of a worker read at most as many records as a Read may ask for
+-- ---- The consumers of a worker ask for no more records than a Read may ask for
 
+-- The consumer asks in a Read for a number of records that is in the range of the API.
 unfoldable pub HasLimit : Known → Type 0
 HasLimit k = IsLimit k.made.limit
 
+-- Each of these consumers does so (`HasLimit`).
 unfoldable pub AllLimits : List Known → Type 0
 AllLimits ks = AllByRecursion HasLimit ks
 
@@ -136,6 +140,8 @@ released_limits : (o : Option Release) (w : WorkerState) → AllLimits w.consume
 released_limits None w h = h
 released_limits (Some r) w h = all_without (id_of_held r.held) w.consumers h
 
+-- If the limit in the settings of a worker is in the range of the API, so is the limit of each of its consumers, after
+-- any record.
 pub limits_after : (made : WorkerMade) → IsLimit made.settings.limit → (past : WorkerPast)
     → AllLimits (worker_after made past).consumers
 unfolding AllLimits
@@ -160,14 +166,17 @@ found_by : (b : Bool) (k j : Known) (o : Option Known) → cond b (Some k) o ≡
 found_by true k j o is h rest = let e : k ≡ j = cc in subst HasLimit e h
 found_by false k j o is h rest = rest is
 
+-- If all consumers have a limit in range, the consumer that is found has one.
 pub found_limit : (p : Known → Bool) (ks : List Known) (k : Known) → find p ks ≡ Some k → AllLimits ks → HasLimit k
 unfolding AllLimits
 found_limit p [] k is h = absurd cc
 found_limit p (j ∷ ks) k is h = found_by (p j) j k _ is h.0 (λ more. found_limit p ks k more h.1)
 
+-- If two commands are the same, and the first is lawful, the second is.
 pub so_lawful : (a b : Command) → Some a ≡ Some b → IsLawfulCommand a → IsLawfulCommand b
 so_lawful a b is h = let e : a ≡ b = cc in subst IsLawfulCommand e h
 
+-- If a consumer's limit is in range, the command that comes next for it is lawful.
 pub stage_command : (made : Tenancy) (p : Stage) (counter : ℕ) (what : Command)
     → next_command made p counter ≡ Some what → IsLimit made.limit
     → IsLawfulCommand what
@@ -178,6 +187,7 @@ stage_command made (Marking reach waiting to) counter what is limit = so_lawful 
 stage_command made MarkingEnd counter what is limit = so_lawful _ _ is tt
 stage_command made _ counter what is limit = absurd cc
 
+-- If a consumer's limit is in range, the command that comes next for the worker on its behalf is lawful.
 consumer_lawful : (w : WorkerState) (o : Option Known) (what : Command) → consumer_command w o ≡ Some what
     → ((k : Known) → o ≡ Some k → HasLimit k) → IsLawfulCommand what
 unfolding HasLimit
@@ -189,6 +199,7 @@ sync_lawful : (step : SyncStep) → IsLawfulCommand (sync_command step)
 sync_lawful (Make key from) = tt
 sync_lawful (Cut key counter) = tt
 
+-- If the worker's name is at least 1 and all its consumers have a limit in range, the command of each chore is lawful.
 command_lawful : (made : WorkerMade) (w : WorkerState) (chore : Chore) (what : Command)
     → command_of made w chore ≡ Some what → 1 ≤ made.name → AllLimits w.consumers → IsLawfulCommand what
 command_lawful made w (Syncing step syncs takes) what is name limits = so_lawful _ _ is (sync_lawful step)
@@ -210,13 +221,15 @@ chore_lawful made w None what is name limits = absurd cc
 chore_lawful made w (Some chore) what is name limits =
     pending_lawful made w chore (command_of made w chore) what is (λ c. command_lawful made w chore what c name limits)
 
--- ---- Workers of a run
+-- ---- The workers of a run
 
--- The worker has a number, and its reads are bounded.
+-- The worker was made with a name that is at least 1, and with a limit of records for a Read that is in the range of
+-- the API.
 pub record IsBounded (e : Employed) : Type 0 where
   pub name : 1 ≤ e.made.name
   pub limit : IsLimit e.made.settings.limit
 
+-- Each worker is bounded (`IsBounded`).
 abbrev pub AreBounded : List Employed → Type 0
 AreBounded es = AllByRecursion IsBounded es
 
@@ -248,7 +261,7 @@ by_some : (low : Bool) (place : ℕ) (es : List Employed) (e : Employed)
 by_some true place es e is h = absurd cc
 by_some false place es e is h = bounded_at es place e is h
 
--- The worker of an actor is bounded.
+-- If all workers are bounded (`IsBounded`), the worker of the actor `by` is bounded.
 pub bounded_by : (by : ℕ) (es : List Employed) (e : Employed) → employed_by by es ≡ Some e → AreBounded es → IsBounded e
 bounded_by by es e is h = by_some (nat_le by MOST_ACTOR) (index_of by) es e is h
 
@@ -287,6 +300,7 @@ hand_bounded ran at by key None is h = h
 hand_bounded ran at by key (Some e) is h =
     release_bounded ran at by key e (release_by key (Some e)) (bounded_by by ran.workers e is h) h
 
+-- If all workers of a run are bounded, they still are after a line with values in their ranges (`IsLine`).
 pub line_bounded : (ran : Ran) (l : Line) → IsLine l → AreBounded ran.workers → AreBounded (with_line ran l).workers
 line_bounded ran (Api at operation body) is h = h
 line_bounded ran (Raw at by what long) is h = h
@@ -312,10 +326,13 @@ step_lawful_by ran at by (Some e) is early h past =
     turn_lawful ran at by (all_called e) (command_at at (all_called e)) early
     (λ what next. next_lawful _ at (all_called e) what next (record { name = g.name; limit = g.limit })) past
 
+-- If the turns of a run are lawful, they still are after a step of the worker of the actor `by`, made at a moment below
+-- 2^62.
 pub step_lawful : (ran : Ran) (at by : ℕ) → at < 2 ^ 62 → AreBounded ran.workers → IsHistory ran.history
     → IsHistory (with_step ran at by (employed_by by ran.workers)).history
 step_lawful ran at by early h past = step_lawful_by ran at by (employed_by by ran.workers) refl early h past
 
+-- A stop adds no turn, so the turns of a run stay lawful.
 pub stop_lawful : (ran : Ran) (by : ℕ) (o : Option Employed) → IsHistory ran.history
     → IsHistory (with_stop ran by o).history
 stop_lawful ran by None past = past

@@ -1,4 +1,5 @@
--- A line adds at most three turns.
+-- A line of a schedule adds at most three turns to a run (`GrowsFew`), even if memory runs out in the middle of the
+-- line.
 use Rattle.std.proofs.Common.{◌≡◌, ℕ, zero, suc, ◌+◌, ◌≤◌, List, [], ◌∷◌, ◌++◌, length, Option, Some, None, Result, Ok}
 use Rattle.std.proofs.Common.{Err, refl, sym, ap, subst, ◌∙◌, arith}
 use Rattle.std.specs.Prelude.{option_map}
@@ -27,7 +28,7 @@ nothing_more h = record { more = []; few = omega arith; grows = refl }
 one_more : (h : List Turn) (turn : Turn) → GrowsFew h (turn ∷ h)
 one_more h turn = record { more = turn ∷ []; few = omega arith; grows = refl }
 
--- The new history has at most `n` more turns.
+-- The history `new` is the history `old` with at most `n` turns added.
 record GrowsBy (n : ℕ) (old new : List Turn) : Type 0 where
   more : List Turn
   few : length more ≤ n
@@ -37,6 +38,7 @@ length_end : (more : List Turn) (turn : Turn) → length (more ++ turn ∷ []) �
 length_end [] turn = refl
 length_end (t ∷ more) turn = ap suc (length_end more turn) ∙ omega arith
 
+-- A run of a hand-off with the next command `o`, if any, and at most `n` commands after it adds at most `n` + 1 turns.
 grows_by : (n at by : ℕ) (h : List Turn) (x : HandOff) (o : Option Command)
     → ((k : List Turn) (y : HandOff) → GrowsBy n k (run_hand n at by k y).history)
     → GrowsBy (suc n) h (rounds n at by h x o).history
@@ -49,6 +51,7 @@ grows_by n at by h x (Some what) rest =
       grows = g.grows ∙ sym (append_assoc g.more (turn_of at by what ∷ []) h);
     }
 
+-- A run of a hand-off with at most `n` commands adds at most `n` turns.
 run_grows : (n at by : ℕ) (h : List Turn) (x : HandOff) → GrowsBy n h (run_hand n at by h x).history
 run_grows zero at by h x = record { more = []; few = omega arith; grows = refl }
 run_grows (suc n) at by h x =
@@ -89,6 +92,7 @@ handed_grows : (ran : Ran) (at by : ℕ) (key : ShardRef) (o : Option Employed)
 handed_grows ran at by key None = nothing_more ran.history
 handed_grows ran at by key (Some e) = release_grows ran at by key e (release_by key (Some e))
 
+-- A line adds at most three turns to the run `ran`.
 pub line_grows : (ran : Ran) (l : Line) → GrowsFew ran.history (with_line ran l).history
 line_grows ran (Api at operation body) = request_grows ran.history at (asked operation body)
 line_grows ran (Raw at by what long) = one_more ran.history (raw_turn at by what)
@@ -112,5 +116,6 @@ part_of_line n ran (Hand at by key) k is few =
     part_by n at by ran.history k (release_by key (employed_by by ran.workers)) is few
 part_of_line n ran _ k is few = absurd cc
 
+-- If memory ran out in the middle of a line, the line added at most three turns to the run `ran`.
 pub part_grows : (s : SimValue) (ran : Ran) (l : Line) → HasRunPart s ran l → GrowsFew ran.history s.history
 part_grows s ran l p = part_of_line p.ran_of_it ran l s.history p.history p.few

@@ -1,4 +1,7 @@
--- What the lines of workers make of a run.
+-- The lines of a schedule that start, step or stop a worker lead to the run that `with_line` defines. In the lemmas,
+-- `old` is the run before the line, which stands for `ran`, and `new` is the run after it. `before` and `after` are the
+-- output before and after, and `wanted` says whether answers are output. `GoesOn`: the line was run, its output was
+-- added if answers are wanted, and memory didn't run out.
 use Rattle.std.proofs.Common.{◌≡◌, ℕ, ◌+◌, ◌<◌, Bool, true, false, List, [], ◌∷◌, ◌++◌, length, Option, Some, None}
 use Rattle.std.proofs.Common.{Result, Ok, Err, codes, decimal, sym, ap, subst, ◌∙◌, arith, inl, inr, ◌⊎◌}
 use Rattle.std.specs.Prelude.{IsSome, MatchOption, OnErr, OnOk, get_or, slice_get, slice_set}
@@ -22,16 +25,20 @@ use Rattle.kcl_sim.specs.Workers.{Employed, actor_at, all_called, command_at, em
 use Rattle.kcl_sim.proofs.Employing.{employ_at, employ_length, employ_more, employ_set, got_set, got_there, lent_again}
 use Rattle.kcl_sim.proofs.Employing.{nobody, set_again, somebody}
 
+-- What holds in any case holds if the result is Ok.
 pub on_any : {A B : Type 0} {P : Type 0} (r : Result A B) → P → OnOk r P
 on_any (Ok x) h = h
 on_any (Err e) h = tt
 
+-- If `P` holds if the result is Ok, so does everything that follows from `P`.
 pub on_ok_so : {A B : Type 0} {P Q : Type 0} (r : Result A B) → OnOk r P → (P → Q) → OnOk r Q
 on_ok_so (Ok x) h f = f h
 on_ok_so (Err e) h f = tt
 
 -- ---- One more worker
 
+-- The worker `w` was made with the name, the kind and the origin of a line that starts a worker. If it was added to the
+-- run, and its actor's number to the output, the line was run (`GoesOn`).
 pub hired_goes : (wanted : Bool) (old new : SimValue) (ran : Ran) (w : Stepped) (at name by : ℕ) (kind : Kind)
     (from : Origin) (before after : List ℕ)
     → RunsSo old ran → old.over ≡ false
@@ -57,6 +64,7 @@ hired_goes wanted old new ran w at name by kind from before after s going is mad
 
 -- ---- An actor without a worker
 
+-- If the actor `by` has no worker, a line that stops its worker changes nothing, and its output is "none".
 pub nobody_stops : (wanted : Bool) (old new : SimValue) (ran : Ran) (at by : ℕ) (before after : List ℕ) → RunsSo old ran
     → old.over ≡ false → new ≡ old
     → index_among by (length old.workers) ≡ None
@@ -71,6 +79,7 @@ nobody_stops wanted old new ran at by before after s going same none wrote =
       going = ap (λ (v : SimValue). v.over) same ∙ going;
     }
 
+-- If the actor `by` has no worker, a line that steps its worker changes nothing, and its output is "none".
 pub nobody_steps : (wanted : Bool) (old new : SimValue) (ran : Ran) (at by : ℕ) (before after : List ℕ) → RunsSo old ran
     → old.over ≡ false → new ≡ old
     → index_among by (length old.workers) ≡ None
@@ -132,7 +141,8 @@ stop_goes wanted old new ran at by place was now before after s going there stoo
       going = going;
     })
 
--- The worker after a step is that of the record after this step.
+-- If `h` is the history of the run, the record of a worker after a step at `h` is that after a step at the run's
+-- history.
 same_employed : (h : List Turn) (ran : Ran) (at by : ℕ) (o : Option Command) (e : Employed) → h ≡ ran.history
     → (v : Stepped) → Employs v (employed_after h at by o e) → Employs v (employed_after ran.history at by o e)
 same_employed h ran at by o e is v s = subst (λ k. Employs v (employed_after k at by o e)) is s
@@ -188,11 +198,12 @@ step_may old new ran at by place s going there over (inr t) =
       workers = λ g. absurd (apart new.over over g);
     })))
 
+-- If `P` holds if the result is an error, so does everything that follows from `P`.
 pub err_so : {A B : Type 0} {P Q : Type 0} (r : Result A B) → OnErr r P → (P → Q) → OnErr r Q
 err_so (Ok x) h f = tt
 err_so (Err e) h f = f h
 
--- ---- A step by its parts
+-- ---- A step in its parts
 
 -- The worker at an index, once its calls were made and it was asked for a command.
 pub record Asked (at place : ℕ) (old : SimValue) (result : Option Command) (now : Stepped) : Type 0 where
@@ -202,10 +213,12 @@ pub record Asked (at place : ℕ) (old : SimValue) (result : Option Command) (no
   pub idle : result ≡ None → IsFree now × ((e : Employed) → Employs was e → Employs now (all_called e))
   pub asked : (what : Command) → result ≡ Some what → (e : Employed) → Employs was e → HasAsked at now (all_called e)
 
+-- If an Option is None, what `MatchOption` states for None holds.
 where_none : {A : Type 0} (P : Type 0) (Q : A → Type 0) (o : Option A) → o ≡ None → MatchOption o P Q → P
 where_none P Q None is h = h
 where_none P Q (Some x) is h = absurd cc
 
+-- If an Option has the value `x`, what `MatchOption` states for a value holds for `x`.
 where_some : {A : Type 0} (P : Type 0) (Q : A → Type 0) (o : Option A) (x : A) → o ≡ Some x → MatchOption o P Q → Q x
 where_some P Q None x is h = absurd cc
 where_some P Q (Some y) x is h = subst Q (same_some y x is) h
@@ -319,16 +332,18 @@ turn_may old new at by place result what h now a some same (inr is) =
       history = is ∙ ap (λ k. raw_turn at by what ∷ k) same;
     })
 
+-- If `P`, `Q` and `R` hold if the result is Ok, so does everything that follows from the three together.
 pub on_ok_all : {A B : Type 0} {P Q R S : Type 0} (r : Result A B) → OnOk r P → OnOk r Q → OnOk r R → (P → Q → R → S)
     → OnOk r S
 on_ok_all (Ok x) p q h f = f p q h
 on_ok_all (Err e) p q h f = tt
 
+-- What holds in any case holds if the result is an error.
 pub on_any_err : {A B : Type 0} {P : Type 0} (r : Result A B) → P → OnErr r P
 on_any_err (Ok x) h = tt
 on_any_err (Err e) h = h
 
--- ---- Whether a run is over says nothing of its turns and workers
+-- ---- The flag `unfinished` of a run doesn't matter for its turns and workers
 
 steps_as : (wanted : Bool) (old new : SimValue) (b d : Bool) (at by place : ℕ) (before after : List ℕ)
     → StepsAt wanted at by place (record old { over = b }) new before after

@@ -1,4 +1,6 @@
--- The workers of a schedule are told of their turns, so that their processors are called for what is given.
+-- The turns of each worker's actor are the answered commands of the worker's joint record, in the run of every
+-- schedule. So the laws for one worker hold for each worker: its processors are called for the given reads of their
+-- tenures, and records of a hand-off that freed its row aren't read again.
 use Rattle.std.proofs.Common.{◌≡◌, ℕ, zero, suc, pred, ◌<◌, ◌≤◌, Bool, true, false, List, [], ◌∷◌, ◌++◌, length}
 use Rattle.std.proofs.Common.{Option, Some, None, Result, Ok, Err, refl, sym, ap, subst, ◌∙◌, arith, ◌⊎◌, inl, inr}
 use Rattle.std.specs.Prelude.{◌==◌, if◌then◌else◌, nat_le, option_map, slice_get, slice_set}
@@ -45,20 +47,23 @@ use Rattle.kcl_sim.specs.Workers.{Employed, actor_at, all_called, answered, ask_
 use Rattle.kcl_sim.specs.Workers.{index_of, release_by, state_of, stopped, with_calls}
 use Rattle.kcl_sim.proofs.HandTelling.{of_another_run, released_free, run_tells, worker_past_hand}
 
--- The actor's turns are those of the worker's record, and no command of the worker waits.
+-- The turns of the actor `by` in `h` are the answered commands of the joint record of the worker `e`. This record is
+-- possible (`AreOrderly`), and no command of the worker waits for its answer.
 record IsTold (h : List Turn) (by : ℕ) (e : Employed) : Type 0 where
   orderly : AreOrderly e.made e.past
   told : AreToldIn by h e.made e.past
   free : (state_of e).waiting ≡ None
 
--- `IsTold` holds for each worker, and the workers to come made no turn.
+-- `IsTold` holds for each worker of the run and its actor. The actors of workers that the run may still start have made
+-- no turn.
 record AreTold (ran : Ran) : Type 0 where
   each : (place : ℕ) (e : Employed) → slice_get ran.workers place ≡ Some e → IsTold ran.history (actor_at place) e
   later : (place : ℕ) → length ran.workers ≤ place → deals_of (actor_at place) ran.history ≡ []
 
--- ---- What happens to a worker
+-- ---- Events of a worker that aren't turns
 
--- Calls of processors aren't turns.
+-- The joint record `later` has the same answered commands as `past`, it is possible (`AreOrderly`), and no command of
+-- the worker waits for its answer after it.
 record Follows (made : WorkerMade) (past later : JointPast) : Type 0 where
   orderly : AreOrderly made later
   deals : joint_deals made later ≡ joint_deals made past
@@ -69,6 +74,8 @@ either_follows : (b : Bool) (made : WorkerMade) (past p q : JointPast) → Follo
 either_follows true made past p q h g = h
 either_follows false made past p q h g = g
 
+-- If the due calls of the consumers `ks` are added to a record, it has the same answered commands, and no command waits
+-- (`Follows`).
 calls_follow : (made : WorkerMade) (kind : Kind) (ks : List Known) (past : JointPast) → AreOrderly made past
     → (worker_in made past).waiting ≡ None
     → Follows made past (with_calls kind ks past)
@@ -82,11 +89,13 @@ calls_follow made kind (k ∷ ks) past orderly free =
     (record { orderly = due.orderly; deals = due.deals; free = due.free })
     (calls_follow made kind ks past orderly free)
 
+-- `IsTold` still holds after all due calls of the worker were made.
 told_called : (h : List Turn) (by : ℕ) (e : Employed) → IsTold h by e → IsTold h by (all_called e)
 told_called h by e t =
     let f = calls_follow e.made e.kind (state_of e).consumers e.past t.orderly t.free in
     record { orderly = f.orderly; told = t.told ∙ sym f.deals; free = f.free }
 
+-- `IsTold` still holds after the worker was told to stop.
 told_stopped : (h : List Turn) (by : ℕ) (e : Employed) → IsTold h by e → IsTold h by (stopped e)
 told_stopped h by e t = record { orderly = (t.free, t.orderly); told = t.told; free = t.free }
 
@@ -114,18 +123,22 @@ chore_free made now a (Taking step takes) w h = take_free made now step a _ h
 chore_free made now a (Renewing held) w h = renewal_free now held a _ h
 chore_free made now a _ w h = h
 
--- After the answer that was waited for, no command waits.
+-- If a command of the worker waits for its answer, none waits after the answer was taken.
 absorbed_free : (made : WorkerMade) (now : ℕ) (a : Result Reply Refusal) (w : WorkerState) (p : Pending)
     → w.waiting ≡ Some p → (absorbed made now a w w.waiting).waiting ≡ None
 absorbed_free made now a w p is =
     ap (λ o. (absorbed made now a w o).waiting) is ∙ chore_free made now a p.chore (record w { waiting = None }) refl
 
+-- If the command that comes next is `what`, where `b` says whether the worker is idle, then `o` has a value, and its
+-- command is `what`.
 pending_by : (b : Bool) (o : Option Pending) (what : Command) → (if b then None else option_map (λ p. p.what) o)
     ≡ Some what → (p : Pending) × (o ≡ Some p) × (p.what ≡ what)
 pending_by true o what h = absurd cc
 pending_by false None what h = absurd cc
 pending_by false (Some p) what h = (p, refl, cc)
 
+-- If the worker's next command `what` becomes a turn of its actor and the worker takes the answer, `IsTold` holds after
+-- both.
 told_answered : (h : List Turn) (at by : ℕ) (e : Employed) (what : Command) → command_at at e ≡ Some what
     → IsTold h by e
     → IsTold (raw_turn at by what ∷ h) by (answered at (answer h (raw_turn at by what)) e)
@@ -147,6 +160,8 @@ told_answered h at by e what next t =
 
 -- ---- A hand-off of what a worker releases
 
+-- If the worker releases a lease and the hand-off of this lease runs to its end, `IsTold` holds for the history and the
+-- joint record after it.
 told_handed : (h : List Turn) (at by : ℕ) (key : ShardRef) (e : Employed) (r : Release)
     → released key (state_of e) ≡ Some r → IsTold h by e
     → IsTold (hand_run at by h (hand_of r [])).history by
@@ -164,6 +179,7 @@ told_handed h at by key e r which t =
 
 -- ---- A turn of another actor
 
+-- `IsTold` still holds after a turn of another actor.
 told_on : (by : ℕ) (turn : Turn) (h : List Turn) (e : Employed) → (turn.by == by) ≡ false → IsTold h by e
     → IsTold (turn ∷ h) by e
 told_on by turn h e other t = record { orderly = t.orderly; told = others_turn by turn h other ∙ t.told; free = t.free }
@@ -171,6 +187,7 @@ told_on by turn h e other t = record { orderly = t.orderly; told = others_turn b
 below : (by place : ℕ) → by ≤ MOST_ACTOR → (by == actor_at place) ≡ false
 below by place low = grind (arith, nat_tests)
 
+-- Workers at different indexes have different actors.
 apart : (p q : ℕ) → (p ≡ q → ⊥) → (actor_at p == actor_at q) ≡ false
 apart p q h = by_test (actor_at p == actor_at q) refl
   where
@@ -178,7 +195,7 @@ apart p q h = by_test (actor_at p == actor_at q) refl
     by_test false is = is
     by_test true is = absurd (h (grind (arith, nat_tests)))
 
--- `AreTold` holds after a turn that isn't a worker's.
+-- `AreTold` still holds after a turn of an actor that has no worker.
 outer : (ran : Ran) (turn : Turn) → turn.by ≤ MOST_ACTOR → AreTold ran
     → AreTold (record ran { history = turn ∷ ran.history })
 outer ran turn low t = record {
@@ -188,7 +205,8 @@ outer ran turn low t = record {
 
 -- ---- One worker changes
 
--- What is found at an index after one worker has changed.
+-- After `x` was put at the index `p` of a list, the worker at the index `q` is `x` if `q` is `p`, and otherwise it is
+-- the one that was there before.
 got_with : (es : List Employed) (p q : ℕ) (x e : Employed) → slice_get (slice_set es p x) q ≡ Some e
     → ((p ≡ q) × (x ≡ e)) ⊎ ((p ≡ q → ⊥) × (slice_get es q ≡ Some e))
 got_with [] p q x e is = absurd cc
@@ -202,7 +220,8 @@ got_with (d ∷ es) (suc p) (suc q) x e is = on (got_with es p q x e is)
     on (inl h) = inl (ap suc h.0, h.1)
     on (inr h) = inr ((λ same. h.0 (ap pred same)), h.1)
 
--- `IsTold` holds for the worker that changed, and still for the others.
+-- If `IsTold` holds for the worker `x`, which was put at the index `p`, and for the workers at all other indexes, then
+-- it holds for each worker of the new list.
 changed : (h : List Turn) (es : List Employed) (p : ℕ) (x : Employed) → IsTold h (actor_at p) x
     → ((q : ℕ) (e : Employed) → (p ≡ q → ⊥) → slice_get es q ≡ Some e → IsTold h (actor_at q) e)
     → (place : ℕ) (e : Employed) → slice_get (slice_set es p x) place ≡ Some e → IsTold h (actor_at place) e
@@ -212,7 +231,8 @@ changed h es p x own others place e is = on (got_with es p place x e is)
     on (inl same) = subst (IsTold h (actor_at place)) same.1 (subst (λ n. IsTold h (actor_at n) x) same.0 own)
     on (inr other) = others place e other.0 other.1
 
--- Only the record of the worker changed.
+-- If only the record of the worker at the index `p` changes, to `x`, and `IsTold` holds for `x`, then `AreTold` still
+-- holds.
 kept : (ran : Ran) (p : ℕ) (x : Employed) → AreTold ran → IsTold ran.history (actor_at p) x
     → AreTold (record ran { workers = slice_set ran.workers p x })
 kept ran p x t own = record {
@@ -220,7 +240,8 @@ kept ran p x t own = record {
   later = λ place past. t.later place (omega (arith, past, length-set ran.workers p x));
 }
 
--- The worker's record changed, and its turn ran.
+-- If the worker at the index `p` made a turn, and `IsTold` holds for its new record `x` and the history with this turn,
+-- then `AreTold` still holds.
 turned : (ran : Ran) (turn : Turn) (p : ℕ) (x : Employed) → turn.by ≡ actor_at p → p < length ran.workers → AreTold ran
     → IsTold (turn ∷ ran.history) (actor_at p) x
     → AreTold (record { history = turn ∷ ran.history; workers = slice_set ran.workers p x })
@@ -236,7 +257,8 @@ turned ran turn p x by lt t own = record {
     differs : (q : ℕ) → (p ≡ q → ⊥) → (turn.by == actor_at q) ≡ false
     differs q other = ap (λ n. n == actor_at q) by ∙ apart p q other
 
--- The worker's record changed, and its hand-off ran.
+-- A hand-off of the worker at the index `p` led to the history `h` and the record `x`. If `IsTold` holds for these, and
+-- no other worker's actor made a turn, then `AreTold` still holds.
 handed : (ran : Ran) (h : List Turn) (p : ℕ) (x : Employed) → p < length ran.workers → AreTold ran
     → IsTold h (actor_at p) x
     → ((q : ℕ) → (p ≡ q → ⊥) → deals_of (actor_at q) h ≡ deals_of (actor_at q) ran.history)
@@ -252,7 +274,8 @@ handed ran h p x lt t own others = record {
 
 -- ---- Lines
 
--- The worker of an actor is at the actor's index.
+-- If the actor `by` has the worker `e`, then `e` is at the index of the actor. `low` says whether `by` is at most
+-- `MOST_ACTOR`, in which case the actor has no worker.
 placed_by : (low : Bool) (by : ℕ) (es : List Employed) (e : Employed) → nat_le by MOST_ACTOR ≡ low
     → (if low then None else slice_get es (index_of by)) ≡ Some e
     → (by ≡ actor_at (index_of by)) × (slice_get es (index_of by) ≡ Some e)
@@ -262,10 +285,13 @@ placed_by false by es e l is = (high by l, is)
     high : (n : ℕ) → nat_le n MOST_ACTOR ≡ false → n ≡ actor_at (index_of n)
     high n h = grind (arith, nat_tests)
 
+-- If the actor `by` has the worker `e`, then `by` is the actor of the index that is computed from `by`, and `e` is at
+-- this index.
 placed : (by : ℕ) (es : List Employed) (e : Employed) → employed_by by es ≡ Some e → (by ≡ actor_at (index_of by))
     × (slice_get es (index_of by) ≡ Some e)
 placed by es e is = placed_by (nat_le by MOST_ACTOR) by es e refl is
 
+-- `AreTold` still holds after the worker of the actor `by` gave its next command, if any, and took the answer.
 command_told : (ran : Ran) (at by : ℕ) (e : Employed) (o : Option Command) → command_at at e ≡ o
     → by ≡ actor_at (index_of by) → index_of by < length ran.workers → AreTold ran
     → IsTold ran.history by e → AreTold (with_command ran at by e o)
@@ -277,6 +303,7 @@ command_told ran at by e (Some what) next own lt t told =
     (subst (λ n. IsTold (turn ∷ ran.history) n (answered at (answer ran.history turn) e)) own
     (told_answered ran.history at by e what next told))
 
+-- `AreTold` still holds after a step of the worker of the actor `by`, if the actor has one.
 step_told : (ran : Ran) (at by : ℕ) (o : Option Employed) → employed_by by ran.workers ≡ o → AreTold ran
     → AreTold (with_step ran at by o)
 step_told ran at by None is t = t
@@ -286,6 +313,7 @@ step_told ran at by (Some e) is t =
     command_told ran at by (all_called e) (command_at at (all_called e)) refl p.0
     (slice_get_within ran.workers (index_of by) e p.1) t (told_called ran.history by e told)
 
+-- `AreTold` still holds after a stop of the worker of the actor `by`, if the actor has one.
 stop_told : (ran : Ran) (by : ℕ) (o : Option Employed) → employed_by by ran.workers ≡ o → AreTold ran
     → AreTold (with_stop ran by o)
 stop_told ran by None is t = t
@@ -294,6 +322,8 @@ stop_told ran by (Some e) is t =
     kept ran (index_of by) (stopped e) t
     (told_stopped ran.history (actor_at (index_of by)) e (t.each (index_of by) e p.1))
 
+-- `AreTold` still holds after the worker of the actor `by` released a lease, if it has one to release, and the hand-off
+-- ran.
 release_told : (ran : Ran) (at by : ℕ) (key : ShardRef) (e : Employed) (o : Option Release)
     → release_by key (Some e) ≡ o → by ≡ actor_at (index_of by)
     → index_of by < length ran.workers → AreTold ran
@@ -307,6 +337,7 @@ release_told ran at by key e (Some r) which own lt t told =
     (λ q other. of_another_run 3 at by (actor_at q) (λ h what. others_turn (actor_at q) (turn_of at by what) h
     (ap (λ n. n == actor_at q) own ∙ apart (index_of by) q other)) ran.history (hand_of r []))
 
+-- `AreTold` still holds after a hand-off line of the actor `by`.
 hand_told : (ran : Ran) (at by : ℕ) (key : ShardRef) (o : Option Employed) → employed_by by ran.workers ≡ o
     → AreTold ran
     → AreTold (with_handed ran at by key o)
@@ -317,7 +348,8 @@ hand_told ran at by key (Some e) is t =
     release_told ran at by key e (release_by key (Some e)) refl p.0 (slice_get_within ran.workers (index_of by) e p.1)
     t told
 
--- What is found at an index of a list with one more worker.
+-- After `x` was added at the end of a list, the worker at the index `q` is `x` if `q` is the old length, or else the
+-- one that was there before.
 got_more : (es : List Employed) (x : Employed) (q : ℕ) (e : Employed) → slice_get (es ++ x ∷ []) q ≡ Some e
     → ((q ≡ length es) × (x ≡ e)) ⊎ (slice_get es q ≡ Some e)
 got_more [] x zero e is = inl (refl, cc)
@@ -330,7 +362,7 @@ got_more (d ∷ es) x (suc q) e is = on (got_more es x q e is)
     on (inl h) = inl (ap suc h.0, h.1)
     on (inr h) = inr h
 
--- `AreTold` holds with a new worker, which made no turn.
+-- `AreTold` still holds after a new worker was added, since its actor has made no turn yet.
 hired_told : (ran : Ran) (name : ℕ) (kind : Kind) (from : Origin) → AreTold ran
     → AreTold (record ran { workers = ran.workers ++ hired name kind from ∷ [] })
 hired_told ran name kind from t = record {
@@ -346,11 +378,13 @@ hired_told ran name kind from t = record {
     on place e (inl h) = subst (IsTold ran.history (actor_at place)) h.1 (none place h.0)
     on place e (inr h) = t.each place e h
 
+-- `AreTold` still holds after a request, since the actor of requests has no worker.
 request_told : (ran : Ran) (at : ℕ) (r : Result Command Fault) → AreTold ran
     → AreTold (record ran { history = requested ran.history at r })
 request_told ran at (Ok what) t = outer ran (request_turn at what) (omega arith) t
 request_told ran at (Err f) t = t
 
+-- `AreTold` still holds after any line with values in their ranges (`IsLine`).
 line_told : (ran : Ran) (l : Line) → IsLine l → AreTold ran → AreTold (with_line ran l)
 line_told ran (Api at operation body) is t = request_told ran at (asked operation body) t
 line_told ran (Raw at by what long) is t = outer ran (raw_turn at by what) is.1.0.1 t
@@ -359,11 +393,12 @@ line_told ran (Step at by) is t = step_told ran at by (employed_by by ran.worker
 line_told ran (Stop at by) is t = stop_told ran by (employed_by by ran.workers) refl t
 line_told ran (Hand at by key) is t = hand_told ran at by key (employed_by by ran.workers) refl t
 
+-- `AreTold` still holds after a list of lines with values in their ranges (`IsLine`).
 schedule_told : (ran : Ran) (ls : List Line) → AllByRecursion IsLine ls → AreTold ran → AreTold (with_schedule ran ls)
 schedule_told ran [] are t = t
 schedule_told ran (l ∷ ls) are t = schedule_told (with_line ran l) ls are.1 (line_told ran l are.0 t)
 
--- `AreTold` holds for the workers of a schedule.
+-- `AreTold` holds for the run of any list of lines with values in their ranges (`IsLine`).
 all_told : (ls : List Line) → AllByRecursion IsLine ls → AreTold (with_schedule fresh ls)
 all_told ls are =
     let none : AreTold fresh =
@@ -373,22 +408,30 @@ all_told ls are =
     nothing : (place : ℕ) (e : Employed) → slice_get fresh.workers place ≡ Some e → ⊥
     nothing place e is = absurd cc
 
--- What is known of one worker holds of all workers of a schedule.
+-- The first of three laws for one worker that the lemmas take as given. If the joint record is possible (`AreOrderly`),
+-- and the actor's turns are its answered commands, then the processors of the worker and of its hand-offs are called
+-- for the given reads of their tenures (`AreServed`).
 abbrev pub Serves : Type 0
 Serves = (by : ℕ) (h : List Turn) (made : WorkerMade) (past : JointPast) → AreOrderly made past
     → AreToldIn by h made past → AreServed by h made past
 
+-- If the law `Serves` holds, the processors of all workers of the run, and of their hand-offs, are called for the given
+-- reads of their tenures.
 pub all_served : Serves → (ls : List Line) → AllByRecursion IsLine ls → AreAllServed (with_schedule fresh ls)
 all_served serves ls are =
     let t = all_told ls are in
     λ place e is. serves (actor_at place) (with_schedule fresh ls).history e.made e.past (t.each place e is).orderly
     (t.each place e is).told
 
+-- The second of these laws. The actor's turns are the answered commands of the joint record. Then for each hand-off
+-- that has freed its row, every batch that its processor was handed is given. The records that were given in its tenure
+-- are at or below the row's checkpoint.
 abbrev pub Hands : Type 0
 Hands = (by : ℕ) (h : List Turn) (made : WorkerMade) (past : JointPast) → IsHistory h → AreOrderly made past
     → AreToldIn by h made past
     → AllByRecursion (IsHandedOffIfFreed by h) (hands_after made past)
 
+-- If the law `Hands` holds, it holds for the hand-offs of all workers of the run of the lines `ls` (`AreHandedOff`).
 pub all_handed : Hands → (ls : List Line) → AllByRecursion IsLine ls → IsHistory (with_schedule fresh ls).history
     → AreHandedOff (with_schedule fresh ls)
 all_handed hands ls are lawful =
@@ -396,11 +439,16 @@ all_handed hands ls are lawful =
     λ place e is. hands (actor_at place) (with_schedule fresh ls).history e.made e.past lawful
     (t.each place e is).orderly (t.each place e is).told
 
+-- The third of these laws. The actor's turns in `before` are the answered commands of the joint record, which has a
+-- hand-off that has freed its row. Then a tenure of the key that begins in `h` right after `before` reads no record
+-- that was given in the hand-off's tenure.
 abbrev pub ReadsOnce : Type 0
 ReadsOnce = (by : ℕ) (h before : List Turn) (made : WorkerMade) (past : JointPast) → IsHistory h → IsHistory before
     → AreOrderly made past
     → AreToldIn by before made past → AllByRecursion (IsNeverReadAgain by h before) (hands_after made past)
 
+-- If the law `ReadsOnce` holds, the same is true of the hand-offs of all workers of the run of the lines `ls`, where
+-- `before` is the history of this run (`AreNeverReadAgain`).
 pub all_read_once : ReadsOnce → (h : List Turn) (ls : List Line) → AllByRecursion IsLine ls → IsHistory h
     → IsHistory (with_schedule fresh ls).history
     → AreNeverReadAgain h (with_schedule fresh ls)

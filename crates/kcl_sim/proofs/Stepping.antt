@@ -1,4 +1,5 @@
--- A step of a worker, and the worker's record.
+-- The parts of a worker's step keep `Employs`: the worker stands for its record, with the calls, the command and the
+-- answer of the step added. In a step, all due calls are made, and then the next command is given and answered.
 use Rattle.std.proofs.Common.{◌≡◌, ℕ, true, false, ◌∷◌, Option, Some, None, Result, refl, sym, ap, subst, ◌∙◌}
 use Rattle.std.specs.Prelude.{if◌then◌else◌, is_some, option_map}
 use Rattle.kds_defs.specs.declared.command.Command.{Command}
@@ -16,11 +17,13 @@ use Rattle.kcl_sim.specs.Workers.{Employed, all_called, answered, command_at, st
 use Rattle.kcl_worker.proofs.Outlooks.{idle_same, none_due}
 use Rattle.kcl_sim.proofs.Calling.{all_made, ask_of, one_called}
 
+-- If `is_some` is false for an Option, the Option is None.
 pub no_some : {A : Type 0} (o : Option A) → false ≡ is_some o → o ≡ None
 no_some None h = refl
 no_some (Some x) h = absurd cc
 
--- A due call was made.
+-- `old` stands for the record `d`, which leads to the same record as `e` once all due calls are made. If one due call
+-- was made, which gave `new`, then `new` stands for a record `f` that leads there too.
 pub called_on : (old new : Stepped) (e d : Employed) → new.made ≡ old.made → new.maker ≡ old.maker
     → AddsCall Calls (λ batch a. a ≡ asked_of old.maker batch) old new
     → Employs old d → all_called d ≡ all_called e → (f : Employed) × Employs new f × (all_called f ≡ all_called e)
@@ -34,7 +37,8 @@ called_on old new e d made maker adds s same =
       one_called d k.0 r.0 is k.2 ∙ same,
     )
 
--- No call is due any more.
+-- The worker `w` stands for a record `d` that leads to the same record as `e` once all due calls are made. If no call
+-- of `w` is due any more, then `w` stands for that record, `all_called e`.
 pub all_done : (w : Stepped) (e d : Employed) → due_in w.consumers ≡ None → Employs w d → all_called d ≡ all_called e
     → Employs w (all_called e)
 all_done w e d none s same =
@@ -44,7 +48,7 @@ all_done w e d none s same =
     ∙ quiet in
     subst (Employs w) (sym (all_made d is) ∙ same) s
 
--- An idle worker has no command.
+-- If the worker `w` is idle, no command comes next for its record `e`.
 pub idle_command : (w : Stepped) (e : Employed) (at : ℕ) → is_idle_in w ≡ true → Employs w e → command_at at e ≡ None
 idle_command w e at idle s =
     let is : is_idle (state_of e) ≡ true =
@@ -52,7 +56,8 @@ idle_command w e at idle s =
     ∙ sym (idle_same Calls w (worker_past e.past) s.stands) ∙ idle in
     ap (λ b. if b then None else option_map (λ p. p.what) (next_pending e.made at (state_of e))) is
 
--- A worker that isn't idle returns the command that comes next.
+-- If the worker `old` isn't idle and gave the command `what`, which left the worker `new`, then `what` comes next for
+-- its record `e`, and `new` waits for the answer (`HasAsked`).
 pub next_command : (old new : Stepped) (e : Employed) (at : ℕ) (what : Command) → is_idle_in old ≡ false
     → new.made ≡ old.made → new.maker ≡ old.maker → AddsCommand Calls old new at what → Employs old e
     → (command_at at e ≡ Some what) × HasAsked at new e
@@ -68,7 +73,8 @@ next_command old new e at what busy made maker adds s =
       record { made = made ∙ s.made; kind = λ batch. ap (λ m. asked_of m batch) maker ∙ s.kind batch; stands = r.3 },
     )
 
--- The worker has taken the answer.
+-- The worker `old` of the record `e` waits for the answer to a command. If it took the answer `answer`, which left the
+-- worker `new`, then `new` stands for `e` with the command and the answer added.
 pub answer_on : (old new : Stepped) (e : Employed) (at : ℕ) (answer : Result Reply Refusal) → new.made ≡ old.made
     → AllowsSame (λ batch a. a ≡ asked_of new.maker batch) (λ batch a. a ≡ asked_of old.maker batch)
     → AddsAnswer Calls old new at answer → HasAsked at old e → Employs new (answered at answer e)
@@ -79,6 +85,8 @@ answer_on old new e at answer made same adds s =
       stands = adds (Gave_command at ∷ worker_past e.past) s.stands;
     }
 
+-- If the worker `old` of the record `e` was told to stop, which left the worker `new`, then `new` stands for `e` with
+-- this event added.
 pub stop_on : (old new : Stepped) (e : Employed) → new.made ≡ old.made → new.maker ≡ old.maker → AddsStop Calls old new
     → Employs old e → Employs new (stopped e)
 stop_on old new e made maker adds s =

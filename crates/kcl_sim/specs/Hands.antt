@@ -1,4 +1,4 @@
--- A hand-off that is under way in a run, and its record.
+-- A hand-off in the middle of its run: what it stands for, and what one of its commands, or all of them, changes.
 use Rattle.std.specs.Prelude.{◌≡◌, ◌≤◌, ℕ, Bool, List, ◌∷◌, ◌++◌, Some}
 use Rattle.kds_defs.specs.declared.command.Command.{Command}
 use Rattle.kds_defs.specs.declared.command.Turn.{Turn}
@@ -14,26 +14,29 @@ use Rattle.kcl_sim.specs.Keeping.{if_wanted}
 use Rattle.kcl_sim.specs.Output.{deal_text, raw_turn, run_text}
 use Rattle.kcl_sim.specs.Standing.{SimValue}
 
--- The hand-off of a lease whose processor is a ready-made one.
+-- A hand-off as callers see it, with one of the ready-made processors (`Stock`).
 abbrev pub Handing : Type 0
 Handing = HandStanding Stock
 
--- The hand-off `v` is that of the record `x`, and its consumer was told of the loss.
+-- The hand-off `v` stands for the record `x`: it has the same lease, its consumer was made with the same values, and
+-- its state is the one that `x` leads to. Its consumer is in a stage after the loss of a lease.
 pub record IsHandOf (v : Handing) (x : HandOff) : Type 0 where
   pub held : v.held ≡ x.held
   pub made : v.consumer.made ≡ x.made
   pub stands : StandsFor Calls v x.before x.since
   pub leaving : IsLeaving v.consumer.stage
 
--- The command `what` of the actor `by` at the moment `at` after the history `h`, with its answer.
+-- The command `what`, sent by the actor `by` at the moment `at` right after the history `h`, paired with its answer.
 abbrev pub deal_at : ℕ → ℕ → List Turn → Command → Deal
 deal_at at by h what = record { what = what; answer = answer h (raw_turn at by what) }
 
--- The command `what` comes next.
+-- `what` is the next command of the hand-off `v`: it comes next for every record `x` for which `v` stands.
 abbrev pub ComesNext : Handing → Command → Type 0
 ComesNext v what = (x : HandOff) → IsHandOf v x → hand_command x.held x.made (state_of x) ≡ Some what
 
--- The command that comes next ran and was answered, and the call that was due then was made.
+-- The next command of the hand-off `v` became a turn and was answered, and then the due call of the processor, if any,
+-- was made. The hand-off is now `w`. `old` and `new` are the run before and after. If answers are wanted (`wanted`),
+-- the command with its answer was added to the output, which was `before` and is now `after`.
 pub record MadeRound (wanted : Bool) (at by : ℕ) (old new : SimValue) (v w : Handing) (before after : List ℕ) :
     Type 0 where
   pub what : Command
@@ -42,20 +45,23 @@ pub record MadeRound (wanted : Bool) (at by : ℕ) (old new : SimValue) (v w : H
   pub hand : (x : HandOff) → IsHandOf v x → IsHandOf w (called_up (answered_by at by old.history x what))
   pub wrote : after ≡ before ++ if_wanted wanted (deal_text (deal_at at by old.history what))
 
--- Memory ran out after the turn of the next command had run.
+-- Memory ran out after the next command `what` of the hand-off `v` became a turn. `old` and `new` are the run before
+-- and after, and only their histories are compared.
 pub record RanCommand (at by : ℕ) (old new : SimValue) (v : Handing) : Type 0 where
   pub what : Command
   pub next : ComesNext v what
   pub history : new.history ≡ raw_turn at by what ∷ old.history
 
--- The hand-off ran to its end, and its line of output was added if answers are wanted.
+-- The hand-off `v` ran to its end: `old` is the run before and `new` the run after. If answers are wanted (`wanted`),
+-- its line of output was added to the output, which was `before` and is now `after`.
 pub record RanToEnd (wanted : Bool) (at by : ℕ) (old new : SimValue) (v : Handing) (before after : List ℕ) :
     Type 0 where
   pub history : (x : HandOff) → IsHandOf v x → new.history ≡ (hand_run at by old.history x).history
   pub wrote : (x : HandOff) → IsHandOf v x
       → after ≡ before ++ if_wanted wanted (run_text (hand_run at by old.history x))
 
--- Memory ran out after the first turns of the hand-off, at most three, had run.
+-- Memory ran out in the middle of the hand-off `v`: only its first commands became turns, at most three and perhaps
+-- none. `old` is the run before it, and `new` the run after these turns.
 pub record RanFirst (at by : ℕ) (old new : SimValue) (v : Handing) : Type 0 where
   pub ran_of_it : ℕ
   pub few : ran_of_it ≤ 3

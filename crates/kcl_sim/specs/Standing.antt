@@ -1,4 +1,4 @@
--- A run as callers see it, and what it stands for.
+-- A run as callers see it (`SimValue`), the run of lines that it stands for (`Ran`), and what a line or a step changes.
 use Rattle.std.specs.Prelude.{◌≡◌, ◌≤◌, ◌⊎◌, ℕ, nat_le, nat_lt, if◌then◌else◌, List, [], ◌∷◌, ◌++◌, length, slice_get}
 use Rattle.std.specs.Prelude.{slice_set, Bool, true, false, Option, Some, None}
 use Rattle.kds_defs.specs.declared.command.Turn.{Turn}
@@ -17,100 +17,110 @@ use Rattle.kcl_sim.specs.Keeping.{AddsText, if_wanted}
 use Rattle.kcl_sim.specs.Output.{Ran, command_output, output_of, part_of, raw_turn, with_line}
 use Rattle.kcl_sim.specs.Workers.{Employed, all_called, answered, command_at, index_of}
 
--- A worker whose processors are ready-made ones.
+-- A worker as callers see it, with ready-made processors (`Stock`).
 abbrev pub Stepped : Type 0
 Stepped = WorkerStanding Stock Kind
 
--- The turns that ran, the newest first, those of them that ran before the text of the turns was last emptied, the
--- workers, and whether memory ran out in a step or a hand-off of a worker.
+-- A run as callers see it: all its turns, the newest first, and its workers. `since` are the turns that came before the
+-- text gathered from the turns was last emptied. `unfinished`: whether a worker's step or a hand-off was begun and
+-- hasn't finished, since memory ran out in it.
 pub record SimValue : Type 0 where
   pub history : List Turn
   pub told : List Turn
   pub workers : List Stepped
   pub over : Bool
 
+-- The run `s` with the turn added to its history.
 abbrev pub turned : SimValue → Turn → SimValue
 turned s turn = record s { history = turn ∷ s.history }
 
--- No command of the worker waits for its answer.
+-- The worker `w` has no command that waits for its answer.
 abbrev pub IsFree : Stepped → Type 0
 IsFree w = w.waiting ≡ None
 
--- The worker `w` is that of the record `e`.
+-- The worker `w` stands for the record of `e`: both were made with the same settings, their processors ask for the same
+-- checkpoint after each batch, and `w` stands for the worker's own events in the record.
 pub record Employs (w : Stepped) (e : Employed) : Type 0 where
   pub made : w.made ≡ e.made
   pub kind : (batch : List Stored) → asked_of w.maker batch ≡ asked_of e.kind batch
   pub stands : StandsFor Calls w (worker_past e.past)
 
--- Each worker is that of the record at the same index.
+-- The two lists have the same length, and at each index the worker stands for the record (`Employs`).
 abbrev pub EmployAll : List Stepped → List Employed → Type 0
 EmployAll [] [] = Unit {0}
 EmployAll (w ∷ ws) (e ∷ es) = Employs w e × EmployAll ws es
 EmployAll [] (e ∷ es) = ⊥
 EmployAll (w ∷ ws) [] = ⊥
 
--- The turns of `s` are those of the run `ran`, and so are the workers, unless memory ran out in a step or a hand-off.
+-- `s` stands for the run `ran`: it has the same history, and its workers stand for those of `ran`. If memory ran out in
+-- a worker's step or a hand-off (`unfinished`), only the history is the same.
 pub record RunsSo (s : SimValue) (ran : Ran) : Type 0 where
   pub history : s.history ≡ ran.history
   pub workers : s.over ≡ false → EmployAll s.workers ran.workers
 
--- ---- What a line does
+-- ---- What a line changes
 
--- The line was run after the run `ran`. Its output was added if answers are wanted, `s` is the run with the line, and
--- `s` isn't over.
+-- The line was run: `ran` is the run before it, and `s` stands for the run after it and isn't over. If answers are
+-- wanted (`wanted`), the line's output was added to the output, which was `before` and is now `after`.
 pub record GoesOn (wanted : Bool) (s : SimValue) (ran : Ran) (line : Line) (before after : List ℕ) : Type 0 where
   pub made : RunsSo s (with_line ran line)
   pub wrote : after ≡ before ++ if_wanted wanted (output_of ran line)
   pub going : s.over ≡ false
 
--- What is told of a line was added: its answer if answers are wanted, and otherwise the text of its turns.
+-- What is to be written for a line, run after `ran`, was added to the output, which was `before` and is now `after`. If
+-- the Bool is true, this is the line's output. Otherwise it is what the line's turns add to the text of the history.
 abbrev pub IsTold : Bool → (List Turn → List ℕ) → Ran → Line → List ℕ → List ℕ → Type 0
 IsTold true text ran line before after = after ≡ before ++ output_of ran line
 IsTold false text ran line before after = AddsText (text ran.history) (text (with_line ran line).history) before after
 
--- The line was run after the run `ran`, and what is told of it was added.
+-- The line was run: `ran` is the run before it, and `s` stands for the run after it. What is to be written for it was
+-- added to the output, which was `before` and is now `after` (`IsTold`): its answer if `wanted` is true, and otherwise
+-- what `text` gains by its turns.
 pub record Tells (wanted : Bool) (text : List Turn → List ℕ) (s : SimValue) (ran : Ran) (line : Line)
     (before after : List ℕ) : Type 0 where
   pub made : RunsSo s (with_line ran line)
   pub wrote : IsTold wanted text ran line before after
 
--- Memory ran out, and the line was run or not.
+-- Memory ran out, and the line was run as a whole or not at all: `s` stands for `ran`, the run before the line, or for
+-- the run after it.
 abbrev pub MayHaveRun : SimValue → Ran → Line → Type 0
 MayHaveRun s ran line = RunsSo s ran ⊎ RunsSo s (with_line ran line)
 
--- Memory ran out in the middle of the line, which is a hand-off. The first turns of the line, at most three, ran, and
--- the run is over.
+-- Memory ran out in the middle of the line, which is a hand-off: `s` has the history of `ran` and of the first turns of
+-- the line, at most three and perhaps none. `s` is over, so it runs no further line.
 pub record HasRunPart (s : SimValue) (ran : Ran) (line : Line) : Type 0 where
   pub ran_of_it : ℕ
   pub few : ran_of_it ≤ 3
   pub history : part_of ran_of_it ran line ≡ Some s.history
   pub over : s.over ≡ true
 
--- Memory ran out, and the line was run, or not, or in part.
+-- Memory ran out, and the line was run as a whole, not at all, or, if it is a hand-off, in part.
 abbrev pub MayHaveBroken : SimValue → Ran → Line → Type 0
 MayHaveBroken s ran line = MayHaveRun s ran line ⊎ HasRunPart s ran line
 
--- `new` has at most three more turns than `old`.
+-- The history `new` is the history `old` with at most three turns added.
 pub record GrowsFew (old new : List Turn) : Type 0 where
   pub more : List Turn
   pub few : length more ≤ 3
   pub grows : new ≡ more ++ old
 
--- ---- Steps
+-- ---- What a step changes
 
--- The index of the worker of the actor `by` among `count` workers, if the actor has one.
+-- The index of the worker of the actor `by` among `count` workers. It is None if `by` isn't the number of one of these
+-- workers.
 abbrev pub index_among : ℕ → ℕ → Option ℕ
 index_among by count =
     if nat_le by MOST_ACTOR then None else (if nat_lt (index_of by) count then Some (index_of by) else None)
 
--- The worker of the record `e` was asked for a command at the moment `at`, and waits for the answer.
+-- The worker `w` was made as the record `e` says, and it stands for the events of `e` and a command that it gave at the
+-- moment `at`. This command waits for its answer.
 pub record HasAsked (at : ℕ) (w : Stepped) (e : Employed) : Type 0 where
   pub made : w.made ≡ e.made
   pub kind : (batch : List Stored) → asked_of w.maker batch ≡ asked_of e.kind batch
   pub stands : StandsFor Calls w (Gave_command at ∷ worker_past e.past)
 
--- The worker `w`, which was asked for the command `what` at the moment `at` after the history `h`, took the answer and
--- became `v`.
+-- The worker `w` was asked for its next command at the moment `at`, and this was `what`. After it took the answer,
+-- which is the one after the history `h`, it is `v`.
 abbrev pub TookAnswer : ℕ → ℕ → Command → List Turn → Stepped → Stepped → Type 0
 TookAnswer at by what h w v =
     IsFree v × ((e : Employed) → HasAsked at w e → Employs v (answered at (answer h (raw_turn at by what)) e))
@@ -123,17 +133,20 @@ pub record ChangedAt (place : ℕ) (R : Stepped → Stepped → Type 0) (old new
   pub stands : new ≡ slice_set old place is
   pub related : R was is
 
--- The history after a step that gave a command, or none.
+-- The history after a step of the actor `by` at the moment `at`: `h` with the turn of the step's command added, if the
+-- step gave a command.
 abbrev pub history_after : List Turn → ℕ → ℕ → Option Command → List Turn
 history_after h at by None = h
 history_after h at by (Some what) = raw_turn at by what ∷ h
 
--- The record of the worker after a step that gave a command, or none.
+-- The record of the worker `e` after a step at the moment `at`: the due calls were made, and then the command of the
+-- step, if any, was answered.
 abbrev pub employed_after : List Turn → ℕ → ℕ → Option Command → Employed → Employed
 employed_after h at by None e = all_called e
 employed_after h at by (Some what) e = answered at (answer h (raw_turn at by what)) (all_called e)
 
--- All due calls were made, the command `what` came next, or none, and its answer was taken.
+-- The worker `w` became `v` by a step at the moment `at`: all due calls were made, and then `what` was the next
+-- command, if there was one. Its answer, the one after the history `h`, was taken.
 abbrev pub MadeStep : ℕ → ℕ → Option Command → List Turn → Stepped → Stepped → Type 0
 MadeStep at by what h w v =
     IsFree v × ((e : Employed) → Employs w e → (command_at at (all_called e) ≡ what)

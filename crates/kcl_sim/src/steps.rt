@@ -103,7 +103,7 @@ impl<M: Machine, K: Keep> Sim<M, K> {
         }
     }
 
-    /// Applies the command `what` as a turn of the worker at the index `place`, and adds a line of output with the
+    /// Applies the command `what` as a turn of the worker at the index `index`, and adds a line of output with the
     /// command and its answer. If memory runs out, no output is added, and the turn may already have been applied.
     fn turn_of(
         &mut self,
@@ -139,7 +139,7 @@ impl<M: Machine, K: Keep> Sim<M, K> {
         to.extend(text.as_slice())
     }
 
-    /// Makes a step of the worker at the index `place`: makes all processor calls that are due, and then makes the
+    /// Makes a step of the worker at the index `index`: makes all processor calls that are due, and then makes the
     /// worker's next turn. If the worker is idle, it makes no turn, and the line `idle` is added. If memory runs out,
     /// no output is added, and the turn may already have been applied.
     fn step_at(

@@ -1,4 +1,5 @@
--- What a scribe knows of a journal after a line that doesn't make a stream.
+-- After lines that make no stream, what the scribe knows of the streams, changed by the entries of these lines, is what
+-- the journal says.
 use Rattle.std.proofs.Common.{◌≡◌, ℕ, ◌+◌, ◌<◌, ◌≤◌, List, [], ◌∷◌, length, map, Bool, true, false, refl, sym, ap, ◌∙◌}
 use Rattle.std.proofs.Common.{arith, inl, inr, subst}
 use Rattle.std.proofs.lemmas.Bool.{cases_Bool, eqb-true, ne_eqb}
@@ -18,28 +19,34 @@ use Rattle.kds_defs.proofs.Counted.{length_split, length_merged}
 use Rattle.kcl_sim_scribe.specs.Known.{IsKnown, Known, Knows, changed, changed_by, is_gone, known_as, renumbered}
 use Rattle.kcl_sim_scribe.proofs.Lists.{all_kept, both_tests, mapped, same_kept, up_to}
 
+-- The number of the stream `v`.
 abbrev pub no_of : Known → ℕ
 no_of v = v.no
 
--- ---- The stream of a name
+-- ---- The stream with a name
 
+-- Searching the numbers of the known streams for a name by the journal finds the same stream as searching what the
+-- scribe knows.
 named_among : (log : Journal) (name : List ℕ) (vs : List Known) → AllByRecursion (IsKnown log) vs
     → find (λ s. same_name (name_of log s) name) (map no_of vs) ≡ option_map no_of (known_as name vs)
 named_among log name [] all = refl
 named_among log name (v ∷ vs) all = grind (arith, all.0.named, named_among log name vs all.1)
 
+-- The live stream with a name in the journal is the one that the scribe finds by this name.
 pub named_is : (log : Journal) (made : ℕ) (vs : List Known) (name : List ℕ) → Knows log made vs
     → stream_named log name ≡ option_map no_of (known_as name vs)
 named_is log made vs name k = ap (find (λ s. same_name (name_of log s) name)) k.live ∙ named_among log name vs k.known
 
--- A live stream was made.
+-- Each live stream has a number that isn't above the number of streams that were made.
 pub live_below : (log : Journal) → AllByRecursion (λ s. s ≤ made_count log) (live_streams log)
 live_below log = all_filter (λ s. s ≤ made_count log) (is_live log) (numbers_from 1 (made_count log))
     (up_to 1 (made_count log) (made_count log) (omega arith))
 
--- ---- Lines
+-- ---- Lines that make no stream
 
--- The line uses the next number of a stream that was made, and its children come after the stream's shards.
+-- The entry fits the journal. It makes no stream. If it is a put, a split or a merge, its stream was made, and it takes
+-- the stream's next sequence number, which isn't the last number. The last new shard of a split or a merge has the
+-- number that follows from how many shards the stream has.
 abbrev pub Fits : Journal → Entry → Type 0
 Fits log (entry.Made s name count) = ⊥
 Fits log (entry.Put s sh number hash bytes key_bytes) =
@@ -51,6 +58,7 @@ Fits log (entry.Merged s sh other number child) =
     (s ≤ made_count log) × (((number ≡ next_number log s) × (number < last_number)) × (child ≡ length (shards log s)))
 Fits log _ = Unit {0}
 
+-- Each of the lines, in order, fits the journal with the lines before it added (`Fits`).
 abbrev pub FitAll : Journal → List Line → Type 0
 FitAll log [] = Unit {0}
 FitAll log (line ∷ lines) = Fits log line.what × FitAll (line ∷ log) lines
@@ -67,7 +75,7 @@ lives : (log : Journal) (e : Entry) (n : ℕ) (b : Bool) → Fits log e → is_l
 lives log (entry.Made s name' count) n b f = absurd f
 lives log _ n b f = refl
 
--- ---- The numbers that a line uses
+-- ---- The sequence numbers that a line takes
 
 other_stream : (s n m : ℕ) → s ≤ m → m < n → (s == n) ≡ false
 other_stream s n m a b = ne_eqb s n (λ e. absurd (omega arith))
@@ -78,9 +86,10 @@ none_drawn log (entry.Split s sh at q low high) n f h = rw (other_stream s n (ma
 none_drawn log (entry.Merged s sh other q child) n f h = rw (other_stream s n (made_count log) f.0 h) refl
 none_drawn log _ n f h = refl
 
--- ---- A stream that is known
+-- ---- A stream that the scribe knows
 
--- What an entry leaves of the journal's readings of a stream.
+-- After an entry, `w` is right for the stream that the scribe knew as `v`: it has the same number and name, and its
+-- last sequence number and last shard are those after the entry. A further sequence number is left.
 record Kept (log : Journal) (line : Line) (e : Entry) (v w : Known) : Type 0 where
   same : w.no ≡ v.no
   name : w.name ≡ v.name
@@ -88,6 +97,7 @@ record Kept (log : Journal) (line : Line) (e : Entry) (v w : Known) : Type 0 whe
   many : (start : ℕ) → length (shards_after line e v.no start (shards log v.no)) ≡ w.shard + 1
   left : w.drawn < last_number
 
+-- If the entry takes no sequence number of the stream and leaves its shards as they are, `v` itself is right after it.
 as_before : (log : Journal) (line : Line) (e : Entry) (v : Known) → IsKnown log v → draws e v.no ≡ 0
     → ((start : ℕ) → shards_after line e v.no start (shards log v.no) ≡ shards log v.no) → Kept log line e v v
 as_before log line e v k none shards_same = record {
@@ -98,7 +108,8 @@ as_before log line e v k none shards_same = record {
   left = k.left;
 }
 
--- `Kept` holds if the entry uses a number of a stream, whose last shard then has the number `last`.
+-- The entry takes the sequence number `q` of the stream `s`, whose last shard is then `last`. Then what the scribe
+-- knows is right if it changes the stream `s` alone to these numbers.
 drawn_kept : (log : Journal) (line : Line) (e : Entry) (s q last : ℕ) (v : Known) → IsKnown log v
     → q ≡ next_number log s → q < last_number
     → draws e v.no ≡ (if s == v.no then 1 else 0)
@@ -116,6 +127,7 @@ drawn_kept log line e s q last v k drawn left draws_is its_shards same_shards = 
   | inr other ↦ rw other (as_before log line e v k (draws_is ∙ rw other refl) (same_shards other))
 ]
 
+-- If an entry fits the journal, the stream `v` with the numbers that the entry leaves (`renumbered`) is right after it.
 entry_kept : (log : Journal) (line : Line) (e : Entry) (v : Known) → Fits log e → IsKnown log v
     → Kept log line e v (renumbered e v)
 entry_kept log line (entry.Made s name count) v f k = absurd f
@@ -136,6 +148,8 @@ entry_kept log line (entry.Merged s sh other_sh q child) v f k =
     (λ other start. rw other refl)
 entry_kept log line e v f k = as_before log line e v k refl (λ start. refl)
 
+-- If a line fits the journal, what the scribe knows of the stream `v`, changed by the line, is what the journal with
+-- the line says (`IsKnown`).
 known_after : (log : Journal) (line : Line) (v : Known) → Fits log line.what → IsKnown log v
     → IsKnown (line ∷ log) (renumbered line.what v)
 known_after log line v f k =
@@ -151,20 +165,24 @@ known_after log line v f k =
 
 -- ---- The live streams
 
+-- An entry changes no stream's number.
 same_no : (log : Journal) (line : Line) (e : Entry) (v : Known) → Fits log e → IsKnown log v
     → (renumbered e v).no ≡ v.no
 same_no log line e v f k = (entry_kept log line e v f k).same
 
+-- The numbers of the streams, without that of a deleted one, are the numbers of the changed streams.
 gone_among : (log : Journal) (line : Line) (e : Entry) (vs : List Known) → Fits log e → AllByRecursion (IsKnown log) vs
     → filter (λ s. not (is_gone e s)) (map no_of vs) ≡ map no_of (changed e vs)
 gone_among log line e [] f all = refl
 gone_among log line e (v ∷ vs) f all = grind (arith, same_no log line e v f all.0, gone_among log line e vs f all.1)
 
+-- After an entry that fits the journal, a stream is live exactly if it was live before and the entry didn't delete it.
 agree : (log : Journal) (e : Entry) (ns : List ℕ) → Fits log e
     → AllByRecursion (λ s. is_live_after e s (is_live log s) ≡ (not (is_gone e s) && is_live log s)) ns
 agree log e [] f = tt
 agree log e (n ∷ ns) f = (lives log e n (is_live log n) f, agree log e ns f)
 
+-- After a line that fits the journal, the live streams are those that the scribe knows, changed by the line.
 live_after : (log : Journal) (line : Line) (made : ℕ) (vs : List Known) → Fits log line.what → Knows log made vs
     → live_streams (line ∷ log) ≡ map no_of (changed line.what vs)
 live_after log line made vs f k =
@@ -176,8 +194,10 @@ live_after log line made vs f k =
     ∙ ap (filter (λ s. not (is_gone line.what s))) k.live
     ∙ gone_among log line line.what vs f k.known
 
--- ---- Lines, one after another
+-- ---- Several lines, one after another
 
+-- If the scribe knows the streams and a line fits the journal, then it knows the streams after the line, changed by its
+-- entry.
 pub knows_after : (log : Journal) (line : Line) (made : ℕ) (vs : List Known) → Fits log line.what → Knows log made vs
     → Knows (line ∷ log) made (changed line.what vs)
 knows_after log line made vs f k = record {
@@ -192,13 +212,15 @@ knows_after log line made vs f k = record {
       omega (arith, none, k.unmade s above);
 }
 
+-- If the scribe knows the streams and each of the lines fits the journal, then it knows the streams after these lines,
+-- changed by their entries.
 pub knows_all : (log : Journal) (lines : List Line) (made : ℕ) (vs : List Known) → FitAll log lines → Knows log made vs
     → Knows (with_lines lines log) made (changed_by (map (λ (l : Line). l.what) lines) vs)
 knows_all log [] made vs f k = k
 knows_all log (line ∷ lines) made vs f k =
     knows_all (line ∷ log) lines made (changed line.what vs) f.1 (knows_after log line made vs f.0 k)
 
--- An entry that doesn't say that a stream is gone leaves each stream in the list.
+-- An entry that deletes no stream keeps each stream in the list.
 pub stay : (e : Entry) → ((s : ℕ) → e ≡ entry.Gone s → ⊥) → (vs : List Known)
     → filter (λ v. not (is_gone e v.no)) vs ≡ vs
 stay (entry.Gone s) h vs = absurd (h s refl)

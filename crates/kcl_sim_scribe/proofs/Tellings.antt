@@ -1,4 +1,5 @@
--- The lines of an accepted command are those that a scribe tells.
+-- The lines that the scribe writes for an accepted command other than CreateStream are those that the command adds to
+-- the journal.
 use Rattle.std.proofs.Common.{◌≡◌, ℕ, suc, ◌+◌, ◌<◌, ◌≤◌, List, [], ◌∷◌, length, map, false, Option, Some, None, refl}
 use Rattle.std.proofs.Common.{sym, ap, ◌∙◌, arith, inl, inr, ◌⊎◌}
 use Rattle.std.proofs.lemmas.Bool.{cases_Bool, or_parts}
@@ -30,8 +31,9 @@ use Rattle.kcl_sim_scribe.specs.Telling.{put_entries, put_entry}
 use Rattle.kcl_sim_scribe.proofs.Lists.{found_is}
 use Rattle.kcl_sim_scribe.proofs.Readings.{FitAll, live_below, named_is, no_of}
 
--- ---- Numbers and names
+-- ---- Numbers, and streams found by their names
 
+-- If a search for a stream gives the number `s`, it found a stream, and this has the number `s`.
 one_of : (o : Option Known) (s : ℕ) → option_map no_of o ≡ Some s → (v : Known) × (o ≡ Some v) × (v.no ≡ s)
 one_of None s h = absurd (cc)
 one_of (Some v) s h = let e : v.no ≡ s = cc in (v, refl, e)
@@ -42,8 +44,9 @@ below_last n d e l h = grind (arith, nat_tests, e, l, h)
 at_most : (n m : ℕ) → nat_lt n m ≡ false → m ≤ n
 at_most n m h = grind (arith, nat_tests, h)
 
--- ---- Puts and steps, one after another
+-- ---- The lines of puts and of the steps of a scaling
 
+-- The lines of a put of several items fit the journal, one after another, if the sequence numbers last for all of them.
 puts_fit : (log : Journal) (c by s : ℕ) (items : List NewItem) → s ≤ made_count log
     → next_number log s + length (put_lines log c by s items) ≤ last_number
     → FitAll log (put_lines log c by s items)
@@ -61,6 +64,7 @@ puts_fit log c by s (item ∷ items) below fits =
           rw free ((below, (refl, omega arith)), puts_fit (line ∷ log) c by s items below (omega arith))
     ]
 
+-- The lines of a put of several items are those that the scribe writes from their outcomes.
 puts_told : (log : Journal) (c by s : ℕ)
     (items : List NewItem)
     → map told_by (put_lines log c by s items) ≡ lines_by c by (put_entries s items (put_outcomes log c by s items))
@@ -72,7 +76,7 @@ puts_told log c by s (item ∷ items) =
       puts_told (put_line log c by s (next_number log s) item ∷ log) c by s items,
     )
 
--- If no item or no outcome is left, there is no further entry.
+-- If no item or no outcome is left, no entry of a put is left.
 pub none_put : (s : ℕ) (items : List NewItem) (outcomes : List Outcome) → (items ≡ []) ⊎ (outcomes ≡ [])
     → put_entries s items outcomes ≡ []
 none_put s [] outcomes h = refl
@@ -80,6 +84,7 @@ none_put s (item ∷ items) [] h = refl
 none_put s (item ∷ items) (o ∷ outcomes) (inl e) = absurd (cc e)
 none_put s (item ∷ items) (o ∷ outcomes) (inr e) = absurd (cc e)
 
+-- The lines of the steps of a scaling fit the journal, one after another, if the sequence numbers last for all of them.
 steps_fit : (log : Journal) (c by s : ℕ) (steps : List ScaleStep) → s ≤ made_count log
     → next_number log s + length steps ≤ last_number
     → FitAll log (step_lines log c by s steps)
@@ -97,6 +102,7 @@ steps_fit log c by s (Cut b ∷ steps) below fits =
       steps_fit (line ∷ log) c by s steps below (omega (arith, fits)),
     )
 
+-- The lines of the steps of a scaling are those that the scribe writes from the entries in the reply.
 steps_told : (log : Journal) (c by s : ℕ)
     (steps : List ScaleStep)
     → map told_by (step_lines log c by s steps)
@@ -109,25 +115,30 @@ steps_told log c by s (Cut b ∷ steps) =
     let line : Line = plain_line c by (step_entry log s (Cut b)) in
     ap (λ ls. told_by line ∷ ls) (steps_told (line ∷ log) c by s steps)
 
+-- The sequence numbers of the records of a batch are those that the scribe reads from the reply.
 read_told : (rs : List Logged) → map (λ (r : Logged). r.seq) rs ≡ numbers_read (map stored rs)
 read_told [] = refl
 read_told (r ∷ rs) = ap (λ ns. r.seq ∷ ns) (read_told rs)
 
--- ---- What each command tells
+-- ---- The lines of each command
 
--- The command makes no stream.
+-- The command isn't CreateStream.
 abbrev pub IsOther : Command → Type 0
 IsOther (command.Create name count) = ⊥
 IsOther _ = Unit {0}
 
+-- What the scribe does with an accepted command other than CreateStream: the numbers that the command takes are left
+-- (`MayNumber`), its lines fit the journal (`FitAll`), and the scribe writes just these lines.
 pub record Told (log : Journal) (c by : ℕ) (vs : List Known) (what : Command) (lines : List Line) (r : Reply) :
     Type 0 where
   pub can : MayNumber (changed_name what) vs what
   pub fits : FitAll log lines
   pub told : map told_by lines ≡ lines_by c by (entries_of vs what r)
 
+-- In this module, `vs` are the live streams that the scribe knows, and what it knows is what the journal `log` says.
 module _ (log : Journal) (c by made : ℕ) (vs : List Known) (k : Knows log made vs) where
-  -- What is known of a stream that is found by a name.
+  -- If `s` is the live stream with the name `name`, the scribe finds by this name a stream `v` with the number `s`. It
+  -- knows the stream's next sequence number and number of shards. So whatever follows from these facts holds.
   in_named : {A : Type 0} (name : List ℕ) (s : ℕ) → stream_named log name ≡ Some s
       → ((v : Known) → known_as name vs ≡ Some v → s ≡ v.no → s ≤ made_count log → next_number log s ≡ v.drawn + 1
       → length (shards log s) ≡ v.shard + 1
@@ -141,7 +152,7 @@ module _ (log : Journal) (c by made : ℕ) (vs : List Known) (k : Knows log made
       each m.0 m.1 (sym m.2) below (ap (next_number log) (sym m.2) ∙ known.next)
       (ap (λ n. length (shards log n)) (sym m.2) ∙ known.many) known.left
 
-  -- The scribe tells the one line of a command.
+  -- If an accepted command other than CreateStream adds just the line `line`, the scribe writes this line (`Told`).
   tells_line : (what : Command) (line : Line) (r : Reply) → walks.Tells log c by what line r → IsOther what
       → Told log c by vs what (line ∷ []) r
   tells_line _ _ _ (walks.Creates name count fits) other = absurd other
@@ -186,7 +197,7 @@ module _ (log : Journal) (c by made : ℕ) (vs : List Known) (k : Knows log made
   }
   tells_line _ _ _ _ other = record { can = tt; fits = (tt, tt); told = refl }
 
-  -- The scribe tells the lines of any command that doesn't make a stream.
+  -- The scribe writes the lines of each accepted command other than CreateStream (`Told`).
   pub tells : (what : Command) (lines : List Line) (r : Reply) → walks.Outcome log c by what lines (Ok r) → IsOther what
       → Told log c by vs what lines r
   tells _ _ _ (walks.Answers _ _ (walks.Surveys keys rows)) other = record { can = tt; fits = tt; told = refl }

@@ -1,5 +1,5 @@
--- The entries of an accepted command, as they follow from its reply and from what a scribe knows. A scribe writes the
--- journal.
+-- The entries that an accepted command adds to the journal, as they follow from the reply to the command and from what
+-- the scribe knows of the streams. The scribe is the writer of the journal's text.
 use Rattle.std.specs.Prelude.{◌≡◌, ℕ, ◌+◌, ◌<◌, ◌≤◌, ◌==◌, Bool, true, false, if◌then◌else◌, List, [], ◌∷◌, length, map}
 use Rattle.std.specs.Prelude.{Option, Some, None}
 use Rattle.std.specs.List.{filter}
@@ -20,26 +20,29 @@ use Rattle.kds_defs.specs.Subjects.{name_of_command}
 use Rattle.kcl_journal.specs.declared.line.EntryLine.{EntryLine}
 use Rattle.kcl_sim_scribe.specs.Known.{Known, ScribeValue, changed_by, known_as, with_made}
 
--- ---- Streams
+-- ---- Commands on a stream
 
--- The entry of a record that was put.
+-- The entry of a put of the item `item` into the stream `s`. The reply says in which shard and with which sequence
+-- number it was stored (`place`).
 abbrev pub put_entry : ℕ → NewItem → Place → Entry
 put_entry s item place = entry.Put s place.shard place.seq item.hash (length item.payload) (length item.key)
 
--- The entries of records that were put together. Records that the limits held back have no entry.
+-- The entries of a put of several items into the stream `s`, given the outcome of each. An item that the limits held
+-- back has none.
 abbrev pub put_entries : ℕ → List NewItem → List Outcome → List Entry
 put_entries s [] outcomes = []
 put_entries s (item ∷ items) [] = []
 put_entries s (item ∷ items) (outcome.Stored place ∷ outcomes) = put_entry s item place ∷ put_entries s items outcomes
 put_entries s (item ∷ items) (outcome.Throttled sh ∷ outcomes) = put_entries s items outcomes
 
--- The entry is a step of a scaling.
+-- Whether the entry is a step of a scaling: a split or a merge.
 abbrev pub is_step : Entry → Bool
 is_step (entry.Split s sh at number low high) = true
 is_step (entry.Merged s sh other number child) = true
 is_step _ = false
 
--- The entries of a command on the stream `v`.
+-- The entries of an accepted command on the stream `v`, given the reply to the command. The numbers of a split or a
+-- merge are those after the last ones that the scribe knows.
 abbrev pub stream_entries : Known → Command → Reply → List Entry
 stream_entries v (command.Delete name) r = entry.Gone v.no ∷ []
 stream_entries v (command.Put name item) (reply.Put place) = put_entry v.no item place ∷ []
@@ -51,21 +54,25 @@ stream_entries v (command.Scale name target) (reply.Scaled of before after entri
 stream_entries v (command.Enforce name on) r = entry.Enforced v.no on ∷ []
 stream_entries v _ r = []
 
--- The name of the stream that a command changes without making it.
+-- The name of the stream that the command changes. It is None if the command changes no stream, or makes one.
 abbrev pub changed_name : Command → Option (List ℕ)
 changed_name what = if is_change what then name_of_command what else None
 
--- The numbers that a split or a merge of the stream uses are still available.
+-- If the command is a split or a merge of the stream `v`, the sequence number and the shard numbers that it takes are
+-- still left.
 abbrev pub HasNumbers : Known → Command → Type 0
 HasNumbers v (command.Split name sh at) = (v.drawn < last_number) × (v.shard + 1 < last_number)
 HasNumbers v (command.Merge name sh other) = (v.drawn < last_number) × (v.shard < last_number)
 HasNumbers v _ = Unit {0}
 
--- ---- Leases
+-- ---- Commands on leases
 
+-- The sequence numbers of the records in the batch.
 abbrev pub numbers_read : List Stored → List ℕ
 numbers_read batch = map (λ (r : Stored). r.seq) batch
 
+-- The entry of an accepted command on leases, given the reply to the command, as a list of at most one. A survey has
+-- none.
 abbrev pub lease_entries : Command → Reply → List Entry
 lease_entries (command.MakeLease key from) (reply.Leased origin) = entry.LeaseMade key origin ∷ []
 lease_entries (command.Take key counter owner) (reply.Taken t n start) = entry.Taken key t n owner ∷ []
@@ -79,50 +86,60 @@ lease_entries (command.Mark t counter to) (reply.Counter n) = entry.Marked t n t
 lease_entries (command.CutLease key counter) r = entry.LeaseCut key counter ∷ []
 lease_entries _ r = []
 
--- ---- Any command that doesn't make a stream
+-- ---- All commands but CreateStream
 
+-- The entries of an accepted command on the stream that was found, or none if no stream was found.
 abbrev pub of_stream : Option Known → Command → Reply → List Entry
 of_stream None what r = []
 of_stream (Some v) what r = stream_entries v what r
 
+-- The entries of an accepted command on the stream with the name, if there is a name. If there is none, the command is
+-- one on leases.
 abbrev pub named_entries : Option (List ℕ) → List Known → Command → Reply → List Entry
 named_entries None streams what r = lease_entries what r
 named_entries (Some name) streams what r = of_stream (known_as name streams) what r
 
+-- The entries of an accepted command other than CreateStream, given the reply to it and the live streams that the
+-- scribe knows.
 abbrev pub entries_of : List Known → Command → Reply → List Entry
 entries_of streams what r = named_entries (changed_name what) streams what r
 
+-- `HasNumbers` holds for the command on the stream that was found, if one was found.
 abbrev pub HasNumbersIn : Option Known → Command → Type 0
 HasNumbersIn None what = Unit {0}
 HasNumbersIn (Some v) what = HasNumbers v what
 
--- `HasNumbers` holds for the known stream that the command names, if there is one.
+-- `HasNumbers` holds for the command on the stream with the name, if there is a name and the scribe knows such a
+-- stream.
 abbrev pub MayNumber : Option (List ℕ) → List Known → Command → Type 0
 MayNumber None streams what = Unit {0}
 MayNumber (Some name) streams what = HasNumbersIn (known_as name streams) what
 
--- ---- Lines
+-- ---- Lines of the journal's text
 
--- The line of an entry.
+-- The line with the entry `what`, by the actor `by` at the clock `clock`.
 abbrev pub line_by : ℕ → ℕ → Entry → EntryLine
 line_by clock by what = record { clock = clock; by = by; what = what }
 
+-- The lines with these entries, all by the actor `by` at the clock `clock`.
 abbrev pub lines_by : ℕ → ℕ → List Entry → List EntryLine
 lines_by clock by entries = map (line_by clock by) entries
 
--- ---- A command that was accepted
+-- ---- An accepted command
 
--- The lines of a command at the clock `clock`, by the actor `by`.
+-- The lines that the scribe writes for an accepted command of the actor `by` at the clock `clock`, given the reply to
+-- it.
 abbrev pub told_lines : ScribeValue → ℕ → ℕ → Command → Reply → List EntryLine
 told_lines s clock by (command.Create name count) r = line_by clock by (entry.Made (s.made + 1) name count) ∷ []
 told_lines s clock by what r = lines_by clock by (entries_of s.streams what r)
 
--- What the scribe knows after the command.
+-- What the scribe `s` knows after an accepted command, given the reply to it. Its clock stays.
 abbrev pub told_after : ScribeValue → Command → Reply → ScribeValue
 told_after s (command.Create name count) r = with_made name count s
 told_after s what r = record s { streams = changed_by (entries_of s.streams what r) s.streams }
 
--- The numbers that the command uses are still available, and a stream that it makes has a shard.
+-- The scribe can write the lines of the command. If it makes a stream, a number is left for the stream, and it has at
+-- least one shard. Otherwise the numbers that the command takes are left (`MayNumber`).
 abbrev pub CanTell : ScribeValue → Command → Type 0
 CanTell s (command.Create name count) = ((s.made == last_number) ≡ false) × (1 ≤ count)
 CanTell s what = MayNumber (changed_name what) s.streams what

@@ -1,4 +1,4 @@
--- A key is in a list if an index for it was found.
+-- A row, or a shard, of a key is in a list exactly if an index of it was found.
 use Rattle.std.proofs.Common.{◌≡◌, ℕ, suc, ◌+◌, nat_lt, length, Bool, true, false, List, [], ◌∷◌, Some, None, refl, sym}
 use Rattle.std.proofs.Common.{◌∙◌, is_some, arith}
 use Rattle.std.specs.Prelude.{cond, not, ◌||◌, slice_get}
@@ -31,18 +31,22 @@ anywhere : {X : Type 0} (p : X → Bool) (xs : List X) → is_some (position p x
 anywhere p [] = refl
 anywhere p (x ∷ xs) = anywhere_here (p x) (list_any p xs) (position_or_len p xs) (length xs) (anywhere p xs)
 
+-- An index of a row with the key `key` is found among `rows` exactly if one of `rows` has this key.
 pub row_anywhere : (key : ShardRef) (rows : List Row) → is_some (position (λ r. same_key r.key key) rows)
     ≡ has_row rows key
 row_anywhere key rows = anywhere (λ r. same_key r.key key) rows
 
+-- An index of the key `key` is found among `shards` exactly if `shards` has this key.
 pub shard_anywhere : (key : ShardRef) (shards : List ShardRef) → is_some (position (λ k. same_key k key) shards)
     ≡ has_key shards key
 shard_anywhere key shards = anywhere (λ k. same_key k key) shards
 
+-- If the row at the index `i` of `rows` has the key `key`, one of `rows` has this key.
 pub row_at : (key : ShardRef) (rows : List Row) (i : ℕ) (r : Row) → slice_get rows i ≡ Some r
     → same_key r.key key ≡ true → has_row rows key ≡ true
 row_at key rows i r h same = any_passes_from_place (λ r. same_key r.key key) rows i r h same
 
+-- If the shard at the index `i` of `shards` has the key `key`, `shards` has this key.
 pub shard_at : (key : ShardRef) (shards : List ShardRef) (i : ℕ) (k : ShardRef) → slice_get shards i ≡ Some k
     → same_key k key ≡ true
     → has_key shards key ≡ true

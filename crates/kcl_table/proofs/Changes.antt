@@ -1,4 +1,5 @@
--- What a write at a row's place makes of the rows. The order of the rows is kept.
+-- The rows of the lease table after one row was changed, inserted or removed at the index of its key. Their keys still
+-- rise, and the switches of each row still are at most its counter.
 use Rattle.std.proofs.Common.{◌≡◌, ℕ, suc, ◌+◌, ◌<◌, ◌≤◌, Bool, true, false, List, [], ◌∷◌, length, slice_set, Some}
 use Rattle.std.proofs.Common.{None, refl, sym, ap, subst, ◌∙◌, arith}
 use Rattle.std.specs.Prelude.{if◌then◌else◌}
@@ -27,28 +28,30 @@ found_here key x r rs true same h counted rest =
     subst (λ (y : Row). (y.key ≡ key) × (y.switches ≤ y.counter)) e (same_ref x.key key same, counted.0)
 found_here key x r rs false same h counted rest = rest h counted.1
 
--- The row that is found has the key, and its switches are at most its counter.
+-- The row that is found for the key `key` has this key, and its switches are at most its counter.
 pub found : (key : ShardRef) (r : Row) (rs : List Row) → AreCounted rs → row_of rs key ≡ Some r
     → (r.key ≡ key) × (r.switches ≤ r.counter)
 found key r [] counted h = absurd cc
 found key r (x ∷ rs) counted h =
     found_here key x r rs (same_key x.key key) refl h counted (λ g all. found key r rs all g)
 
--- After a take, the switches are still at most the counter.
+-- After a take, the switches are still at most the counter. `b` is true if the take counts as a switch.
 switches_if : (b : Bool) (n m : ℕ) → n ≤ m → (if b then n + 1 else n) ≤ m + 1
 switches_if true n m h = omega arith
 switches_if false n m h = omega arith
 
+-- If the switches of the row `r` are at most its counter, they still are after a take.
 pub switches_taken : (tenure owner : ℕ) (r : Row) → r.switches ≤ r.counter
     → (taken_row tenure owner r).switches ≤ (taken_row tenure owner r).counter
 switches_taken tenure owner r h = switches_if (is_other r.owner owner) r.switches r.counter h
 
--- After a renewal or a freeing, the switches are still at most the counter. The key stays.
+-- If the switches of the row `r` are at most its counter, they still are after a renewal or a freeing.
 pub switches_written : (change : Change) (r : Row) → r.switches ≤ r.counter
     → (written_row change r).switches ≤ (written_row change r).counter
 switches_written Renewed r h = omega arith
 switches_written Freed r h = omega arith
 
+-- A renewal or a freeing doesn't change the key of a row.
 pub key_written : (change : Change) (r : Row) → (written_row change r).key ≡ r.key
 key_written Renewed r = refl
 key_written Freed r = refl
@@ -67,11 +70,14 @@ changed_by : (f : Row → Row) (key : ShardRef) (r : Row) (rs : List Row) → ro
 changed_by f key r [] h = absurd cc
 changed_by f key r (x ∷ rs) h = changed_here f key x r rs (same_key x.key key) refl h (changed_by f key r rs)
 
--- The row that is put is the row of the key, changed.
+-- The row `row` is the row of the key `key` after the change `f`. So writing `row` over that row gives the same rows as
+-- changing that row by `f`.
 pub record Puts (f : Row → Row) (key : ShardRef) (row : Row) (rs : List Row) : Type 0 where
   pub there : row_of rs row.key ≡ None → ⊥
   pub rows : changed (λ _. row) row.key rs ≡ changed f key rs
 
+-- If `r` is the row of the key `key` and `row` is `f r`, then writing `row` over `r` gives the same rows as changing
+-- `r` by `f` (`Puts`). `f` doesn't change the key.
 pub puts : (f : Row → Row) (key : ShardRef) (r row : Row) (rs : List Row) → AreCounted rs → row_of rs key ≡ Some r
     → row ≡ f r → (f r).key ≡ r.key → Puts f key row rs
 puts f key r row rs counted h is keeps =
@@ -99,6 +105,8 @@ set_here row x rs false true before same order there rest = (omega arith, refl)
 set_here row x rs false false before same order there rest =
     absurd (there (absent row.key rs (before_all row.key x.key rs (after_else x.key row.key before same) order.0)))
 
+-- If the key of `row` has a row, the index of this key is within the list, and writing `row` at this index replaces the
+-- key's row.
 pub set_is : (row : Row) (rs : List Row) → AreInOrder rs → (row_of rs row.key ≡ None → ⊥)
     → (index_of row.key rs < length rs) × (slice_set rs (index_of row.key rs) row ≡ changed (λ _. row) row.key rs)
 set_is row [] order there = absurd (there refl)
@@ -126,6 +134,8 @@ table_here row x rs true same counted table rest =
 table_here row x rs false same counted table rest =
     ((before_changed x.key row rs table.0.0, rest.0), (table.1.0, rest.1))
 
+-- If the rows can be those of a lease table (`IsTable`), they still can after `row` has replaced the row of its key.
+-- The switches of `row` are at most its counter.
 pub table_changed : (row : Row) (rs : List Row) → row.switches ≤ row.counter → IsTable rs
     → IsTable (changed (λ _. row) row.key rs)
 table_changed row [] counted table = table
@@ -133,7 +143,7 @@ table_changed row (x ∷ rs) counted table =
     table_here row x rs (same_key x.key row.key) refl counted table
     (table_changed row rs counted (table.0.1, table.1.1))
 
--- ---- One row more
+-- ---- A row is inserted
 
 none_of : (key : ShardRef) (x : Row) (rs : List Row) (d : Bool) → same_key x.key key ≡ d
     → (if d then Some x else row_of rs key) ≡ None → (d ≡ false) × (row_of rs key ≡ None)
@@ -153,6 +163,8 @@ insert_here new x rs true before same rest =
 insert_here new x rs false before same rest =
     ap (λ e. if e then new ∷ x ∷ rs else x ∷ with_row new rs) (sym (after_else x.key new.key before same))
 
+-- If the key of `new` has no row, inserting `new` at the index of its key gives the rows with `new` in the order of the
+-- keys.
 pub insert_is : (new : Row) (rs : List Row) → row_of rs new.key ≡ None
     → insert rs (index_of new.key rs) new ≡ with_row new rs
 insert_is new [] h = refl
@@ -180,6 +192,8 @@ with_here new x rs true before same counted table rest =
 with_here new x rs false before same counted table rest =
     ((before_with x.key new rs (before_else x.key new.key before same) table.0.0, rest.0), (table.1.0, rest.1))
 
+-- If the rows can be those of a lease table (`IsTable`), they still can with the row `new`, whose key has no row yet.
+-- The switches of `new` are at most its counter.
 pub table_with : (new : Row) (rs : List Row) → row_of rs new.key ≡ None → new.switches ≤ new.counter → IsTable rs
     → IsTable (with_row new rs)
 table_with new [] h counted table = ((tt, tt), (counted, tt))
@@ -188,7 +202,7 @@ table_with new (x ∷ rs) h counted table =
     with_here new x rs (is_before new.key x.key) refl n.0 counted table
     (table_with new rs n.1 counted (table.0.1, table.1.1))
 
--- ---- One row less
+-- ---- A row is removed
 
 remove_here : (key : ShardRef) (x r : Row) (rs : List Row) (b d : Bool) → is_before x.key key ≡ b
     → same_key x.key key ≡ d → AreInOrder (x ∷ rs) → (if d then Some x else row_of rs key) ≡ Some r
@@ -206,6 +220,8 @@ remove_here key x r rs false false before same order h rest =
     none_some : (r : Row) → None ≡ Some r → ⊥
     none_some r h = cc
 
+-- If the key `key` has a row, the index of this key is within the list, and removing the row at this index gives the
+-- rows without the key's row.
 pub remove_is : (key : ShardRef) (r : Row) (rs : List Row) → AreInOrder rs → row_of rs key ≡ Some r
     → (index_of key rs < length rs) × (remove rs (index_of key rs) ≡ without_row key rs)
 remove_is key r [] order h = absurd cc
@@ -227,6 +243,7 @@ without_here : (key : ShardRef) (x : Row) (rs : List Row) (d : Bool) → IsTable
 without_here key x rs true table rest = (table.0.1, table.1.1)
 without_here key x rs false table rest = ((before_without x.key key rs table.0.0, rest.0), (table.1.0, rest.1))
 
+-- If the rows can be those of a lease table (`IsTable`), they still can without the row of the key `key`.
 pub table_without : (key : ShardRef) (rs : List Row) → IsTable rs → IsTable (without_row key rs)
 table_without key [] table = table
 table_without key (x ∷ rs) table =

@@ -1,4 +1,5 @@
--- The answer to each conditional write of a row: a refusal, or the row's counter after the write.
+-- The answer of the lease table to each conditional write of a row: the row's counter after the write, or a refusal.
+-- The row in the argument `o` is None if the table doesn't have it.
 use Rattle.std.specs.Prelude.{ℕ, ◌+◌, Bool, ◌==◌, if◌then◌else◌, Option, Result, Ok, Err}
 use Rattle.kds_defs.specs.declared.command.Target.{Target}
 use Rattle.kds_defs.specs.declared.reply.Refusal.{Refusal}
@@ -14,11 +15,12 @@ use Rattle.kcl_table.specs.declared.writes.Change.TheVariants as change
 abbrev pub counted : ℕ → Result ℕ Refusal
 counted counter = if counter == last_number then Err refusal.Spent else Ok (counter + 1)
 
--- The answer if a worker takes the row at the counter `counter`.
+-- The answer to a take of the row `o`: its counter after the take. It is refused if there is no row, its counter isn't
+-- `counter` or can't rise, or its checkpoint is the shard's end.
 abbrev pub take_answer : Option Row → ℕ → Result ℕ Refusal
 take_answer o counter = past_take results o counter (λ r. r.counter == last_number) (λ r. Ok (r.counter + 1))
 
--- The answer is `next` if the row names the tenure and has the counter.
+-- The answer `next`, or a refusal if the row `o` doesn't name the tenure `tenure` or its counter isn't `counter`.
 abbrev pub held_answer : Option Row → ℕ → ℕ → Result ℕ Refusal → Result ℕ Refusal
 held_answer o tenure counter next = past_held results o tenure counter next
 
@@ -26,20 +28,26 @@ held_answer o tenure counter next = past_held results o tenure counter next
 abbrev pub renew_answer : Option Row → ℕ → ℕ → Result ℕ Refusal
 renew_answer o tenure counter = past_renewal results o tenure counter (Ok (counter_in o + 1))
 
--- The row after it was renewed, or freed.
+-- The row after this change: after a renewal, or after a freeing.
 abbrev pub written_row : Change → Row → Row
 written_row change.Renewed = renewed_row
 written_row change.Freed = freed_row
 
--- The answer if the tenure sets the checkpoint to `to`. Records below `delivered` were given, and `at_end` says whether
--- the last read that was given ended the shard.
+-- The answer to a mark of the row `o` at `to` by a tenure that may write the row: the row's counter after the mark. It
+-- is refused if the checkpoint can't be set to `to`, or if the counter can't rise. Below `delivered` are the numbers
+-- that were given in the tenure, and `at_end` is true if its last given read ended the shard.
 abbrev pub target_answer : Option Row → Target → ℕ → Bool → Result ℕ Refusal
 target_answer o to delivered at_end = past_checkpoint results o to delivered at_end (counted (counter_in o))
 
+-- The answer to a mark of the row `o` at `to` by the tenure `tenure`: the row's counter after the mark. It is refused
+-- if the row doesn't name this tenure, its counter isn't `counter` or can't rise, or the checkpoint can't be set to
+-- `to`. Below `delivered` are the numbers that were given in the tenure, and `at_end` is true if its last given read
+-- ended the shard.
 abbrev pub mark_answer : Option Row → ℕ → ℕ → Target → ℕ → Bool → Result ℕ Refusal
 mark_answer o tenure counter to delivered at_end =
     past_mark results o tenure counter to delivered at_end (Ok (counter_in o + 1))
 
--- The answer if the row is removed at the counter `counter`, which isn't allowed while its shard is listed.
+-- The answer to the removal of the row `o`. It is refused if there is no row, its counter isn't `counter`, or its shard
+-- is still listed (`listed` is true).
 abbrev pub cut_answer : Option Row → ℕ → Bool → Result (Unit {0}) Refusal
 cut_answer o counter listed = past_cut results o counter listed (Ok tt)

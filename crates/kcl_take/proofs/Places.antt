@@ -1,4 +1,4 @@
--- A lease is among those of a worker if an index for it was found.
+-- A worker has a lease of a row exactly if an index of such a lease was found.
 use Rattle.std.proofs.Common.{◌≡◌, ℕ, suc, ◌+◌, nat_lt, length, Bool, true, false, List, [], ◌∷◌, Some, None, refl, sym}
 use Rattle.std.proofs.Common.{◌∙◌, is_some, arith}
 use Rattle.std.specs.Prelude.{cond, not, ◌&&◌, ◌||◌, slice_get}
@@ -30,14 +30,17 @@ anywhere : {X : Type 0} (p : X → Bool) (xs : List X) → is_some (position p x
 anywhere p [] = refl
 anywhere p (x ∷ xs) = anywhere_here (p x) (list_any p xs) (position_or_len p xs) (length xs) (anywhere p xs)
 
+-- An index of a lease with the key and the tenure of the row `r` is found among `held` exactly if `held` has such a
+-- lease.
 pub mine_anywhere : (r : Row) (held : List Held) → is_some (position (is_held_at r) held) ≡ is_mine held r
 mine_anywhere r held = anywhere (is_held_at r) held
 
+-- If the lease at the index `i` of `held` has the key and the tenure of the row `r`, `held` has such a lease.
 pub mine_at : (r : Row) (held : List Held) (i : ℕ) (h : Held) → slice_get held i ≡ Some h → is_held_at r h ≡ true
     → is_mine held r ≡ true
 mine_at r held i h at same = any_passes_from_place (is_held_at r) held i h at same
 
--- The order of two tests doesn't matter.
+-- The order of the two parts of a conjunction doesn't matter.
 pub both_ways : (a b : Bool) → (a && b) ≡ (b && a)
 both_ways true true = refl
 both_ways true false = refl

@@ -1,4 +1,5 @@
--- Notes on rows in the order of their keys, and what is kept of each key.
+-- The notes on rows after rows were seen, as the code writes them at the indexes of their keys. A note has a row's key,
+-- a counter, and the moment at which this counter was first seen.
 use Rattle.std.proofs.Common.{◌≡◌, ℕ, zero, suc, ◌<◌, ◌≤◌, length, slice_set, Bool, true, false}
 use Rattle.std.proofs.Common.{List, [], ◌∷◌, Option, Some, None, refl, sym, ap, subst, ◌∙◌, arith}
 use Rattle.std.specs.Prelude.{◌==◌, cond, if◌then◌else◌, slice_get, slice_index_or}
@@ -20,9 +21,9 @@ before_all : (a b : ShardRef) (xs : List Seen) → is_before a b ≡ true → Is
 before_all a b [] h all = tt
 before_all a b (s ∷ xs) h all = (before_both a b s.key h all.0, before_all a b xs h all.1)
 
--- ---- The place of a note
+-- ---- The index of a note
 
--- Whether the note comes before the key.
+-- Whether the key of the note `s` comes before the key `key`.
 abbrev pub comes_before : ShardRef → Seen → Bool
 comes_before key s = is_before s.key key
 
@@ -32,6 +33,7 @@ all_at key [] j d all h = absurd (omega arith)
 all_at key (s ∷ xs) zero d all h = all.0
 all_at key (s ∷ xs) (suc j) d all h = all_at key xs j d all.1 (omega arith)
 
+-- If the keys of the notes rise, the notes before the key `key` come first in the list, and the others after them.
 pub partitioned : (key : ShardRef) (xs : List Seen) → AreInOrder xs → IsPartitionedBy (comes_before key) xs
 partitioned key [] order i j d le within is = absurd (omega arith)
 partitioned key (s ∷ xs) order zero zero d le within is = is
@@ -70,13 +72,15 @@ seen_here key s xs false false before same order rest =
     absent key xs (before_all key s.key xs (after_else s.key key before same) order.0)
     ∙ ap (λ d. if d then Some s else None) (sym same)
 
+-- If the keys of the notes rise, the note with the key `key`, if there is one, is at the index of this key
+-- (`index_of`).
 pub seen_there : (key : ShardRef) (xs : List Seen) → AreInOrder xs
     → seen_at xs key ≡ if_key key (slice_get xs (index_of key xs))
 seen_there key [] order = refl
 seen_there key (s ∷ xs) order =
     seen_here key s xs (is_before s.key key) (same_key s.key key) refl refl order (seen_there key xs order.1)
 
--- ---- One row: what is written at its place
+-- ---- One row: what is written at its index
 
 none_some : (s : Seen) → None ≡ Some s → ⊥
 none_some s h = cc
@@ -90,7 +94,9 @@ same_then a b h = grind (arith, nat_tests, h)
 differ : (a b : ℕ) → (a ≡ b → ⊥) → (a == b) ≡ false
 differ a b h = grind (arith, nat_tests, h)
 
--- A note with another counter is replaced.
+-- If writing `first` over the older note `s` gives the notes after `first` for the list `xs`, it does so for the list
+-- with the note `x` before `xs`. The counters of `s` and `first` differ. `b` stands for whether the key of `x` comes
+-- before that of `first`; the lemma holds for either value.
 set_here : (first s x : Seen) (xs : List Seen) (b : Bool)
     → if_key first.key (slice_get (x ∷ xs) (if b then suc (index_of first.key xs) else 0)) ≡ Some s
     → (s.counter ≡ first.counter → ⊥)
@@ -109,6 +115,8 @@ set_here first s x xs false h other rest = (omega arith, here (same_key x.key fi
         (sym (differ x.counter first.counter (λ e. other (ap (λ (y : Seen). y.counter) (sym (same_some x s h)) ∙ e))))
     here false h = absurd (none_some s h)
 
+-- If the older note `s` on the row of `first` has another counter than `first`, writing `first` over it gives the notes
+-- after the row was seen (`noted`).
 pub set_is : (first s : Seen) (xs : List Seen) → if_key first.key (slice_get xs (index_of first.key xs)) ≡ Some s
     → (s.counter ≡ first.counter → ⊥)
     → (index_of first.key xs < length xs) × (slice_set xs (index_of first.key xs) first ≡ noted first xs)
@@ -116,7 +124,9 @@ set_is first s [] h other = absurd (none_some s h)
 set_is first s (x ∷ xs) h other =
     set_here first s x xs (is_before x.key first.key) h other (λ g. set_is first s xs g other)
 
--- A note with the same counter stays.
+-- If the list `xs` with the older note `s` is also the list after the row was seen, so is the list with the note `x`
+-- before `xs`. The counters of `s` and `first` are the same. `b` stands for whether the key of `x` comes before that of
+-- `first`; the lemma holds for either value.
 kept_here : (first s x : Seen) (xs : List Seen) (b : Bool)
     → if_key first.key (slice_get (x ∷ xs) (if b then suc (index_of first.key xs) else 0)) ≡ Some s
     → s.counter ≡ first.counter
@@ -133,6 +143,8 @@ kept_here first s x xs false h same rest = here (same_key x.key first.key) h
         (sym (same_then x.counter first.counter (ap (λ (y : Seen). y.counter) (same_some x s h) ∙ same)))
     here false h = absurd (none_some s h)
 
+-- If the older note `s` on the row of `first` has the counter of `first`, the notes are the same after the row was seen
+-- (`noted`).
 pub kept_is : (first s : Seen) (xs : List Seen) → if_key first.key (slice_get xs (index_of first.key xs)) ≡ Some s
     → s.counter ≡ first.counter
     → xs ≡ noted first xs
@@ -140,7 +152,9 @@ kept_is first s [] h same = absurd (none_some s h)
 kept_is first s (x ∷ xs) h same =
     kept_here first s x xs (is_before x.key first.key) h same (λ g. kept_is first s xs g same)
 
--- If there is no note, the first one is inserted.
+-- If inserting `first` at the index of its key gives the notes after `first` for the list `xs`, it does so for the list
+-- with the note `x` before `xs`. There is no older note on this row. `b` stands for whether the key of `x` comes before
+-- that of `first`; the lemma holds for either value.
 insert_here : (first x : Seen) (xs : List Seen) (b : Bool)
     → if_key first.key (slice_get (x ∷ xs) (if b then suc (index_of first.key xs) else 0)) ≡ None
     → (if_key first.key (slice_get xs (index_of first.key xs)) ≡ None
@@ -156,6 +170,8 @@ insert_here first x xs false h rest = here (same_key x.key first.key) h
     here true h = absurd (some_none x h)
     here false h = refl
 
+-- If there is no older note on the row of `first`, inserting `first` at the index of its key gives the notes after the
+-- row was seen (`noted`).
 pub insert_is : (first : Seen) (xs : List Seen) → if_key first.key (slice_get xs (index_of first.key xs)) ≡ None
     → insert xs (index_of first.key xs) first ≡ noted first xs
 insert_is first [] h = refl
@@ -191,6 +207,7 @@ order_here first x xs false false e before same order rest =
     let after = after_else x.key first.key before same in
     ((after, before_all first.key x.key xs after order.0), order)
 
+-- If the keys of the notes rise, they rise after a row was seen (`noted`).
 pub order_noted : (first : Seen) (xs : List Seen) → AreInOrder xs → AreInOrder (noted first xs)
 order_noted first [] order = (tt, tt)
 order_noted first (x ∷ xs) order =
@@ -241,7 +258,7 @@ noted_at r now (s ∷ seen) key order =
     passed false true rest later h ih = refl
     passed false false rest later h ih = ih
 
-    -- A note that comes before a key isn't on this key's row.
+    -- If the key of the note `s` comes before that of the row `r`, they aren't both `key`.
     not_both : is_before s.key r.key ≡ true → same_key s.key key ≡ true → same_key r.key key ≡ true → ⊥
     not_both before sk rk =
         apart (same_key s.key r.key)
@@ -251,7 +268,8 @@ noted_at r now (s ∷ seen) key order =
         own : (k : ShardRef) → same_key s.key s.key ≡ true
         own k = grind (arith, nat_tests)
 
-    -- The row has no note.
+    -- If the row `r` has no note yet, what is found for each key is what was found before, and for the key of `r` it is
+    -- the new note.
     new : (rk : Bool) → same_key r.key key ≡ rk → is_before r.key s.key ≡ true
         → cond rk (Some (first_note r now)) (seen_at (s ∷ seen) key)
         ≡ (if rk then with_sight r now (seen_at (s ∷ seen) key) else seen_at (s ∷ seen) key)
@@ -281,6 +299,8 @@ noted_at r now (s ∷ seen) key order =
 
 -- ---- All rows
 
+-- If the keys of the notes rise, the note that is found for a key after the rows were seen one after another is the one
+-- of the definitions (`after_rows`).
 pub noted_all_at : (rows : List Row) (now : ℕ) (seen : List Seen) (key : ShardRef) → AreInOrder seen
     → seen_at (noted_all rows now seen) key ≡ after_rows rows now (seen_at seen) key
 noted_all_at [] now seen key order = refl

@@ -1,4 +1,5 @@
--- What an answer does to the fields of a worker, and what the answer adds to the worker's record.
+-- After the answer to a command of a worker, the worker with the fields that the code has written stands for its record
+-- (the list of its events) with this answer added. `stands` says which processor calls a processor stands for.
 use Rattle.std.proofs.Common.{◌≡◌, ℕ, ◌++◌, Bool, List, ◌∷◌, Option, Some, None, refl, sym, ap, subst, ◌∙◌}
 use Rattle.std.specs.Prelude.{Result}
 use Rattle.std.specs.Option.{option_map}
@@ -27,13 +28,15 @@ use Rattle.kcl_worker.proofs.Happenings.{answered_stand, lost_stand}
 use Rattle.kcl_worker.proofs.Outlooks.{IsFoundSo, found_so}
 use Rattle.kcl_worker.proofs.Standings.{settled_shows}
 
--- The command that waits in the record is that of the chore.
+-- If the worker's fields say that the command of the chore `chore` waits for its answer, then a command waits in the
+-- record too, and its chore is `chore`.
 waits_for : (o : Option Pending) (chore : Chore) → Some chore ≡ option_map (λ p. p.chore) o
     → (p : Pending) × (o ≡ Some p) × (p.chore ≡ chore)
 waits_for None chore e = absurd cc
 waits_for (Some p) chore e = (p, refl, cc)
 
--- The worker has absorbed an answer: it has done what the chore leads to, and then retired its consumers.
+-- The worker `new` stands for the record `past` with the answer added, if it is `w` with fields that agree with the
+-- state after the answer to the chore `chore`, and with the consumers that are over retired.
 pub absorbed_stands : {P F : Type 0} (stands : P → List Call → Type 0) (w new : WorkerStanding P F) (now : ℕ)
     (answer : Result Reply Refusal) (chore : Chore) (round : Round) (seen : List Seen) (held : List Held)
     (consumers : List (Standing P)) (maker : F) (past : WorkerPast) → w.waiting ≡ Some chore
@@ -71,6 +74,8 @@ absorbed_stands {P} {F} stands w new now answer chore round seen held consumers 
 
 -- ---- Chores
 
+-- If the worker `w` agrees with the state `s` (`ShowsState`), both still agree after the answer to a step of the sync
+-- plan: the steps `syncs` and `takes` are left, and no command waits.
 pub synced_shows : {P F : Type 0} (stands : P → List Call → Type 0) (w : WorkerStanding P F) (s : WorkerState)
     (syncs : List SyncStep) (takes : List TakeStep) → ShowsState stands w s
     → ShowsState stands (record w { round = AtSync syncs takes; waiting = None })
@@ -84,6 +89,8 @@ synced_shows stands w s syncs takes h = record {
   retired = h.retired;
 }
 
+-- If the worker `w` agrees with the state `s` (`ShowsState`), both still agree after the answer to a freeing: the lease
+-- `id` is dropped, and no command waits.
 pub freed_shows : {P F : Type 0} (stands : P → List Call → Type 0) (w : WorkerStanding P F) (s : WorkerState)
     (id : LeaseId) → ShowsState stands w s
     → ShowsState stands (record w { waiting = None; held = without_held id w.held })
@@ -97,6 +104,8 @@ freed_shows stands w s id h = record {
   retired = h.retired;
 }
 
+-- If the worker `w` agrees with the state `s` (`ShowsState`), both still agree after the answer to a Give at a stop:
+-- the consumer of the lease `id` took the answer, and no command waits.
 pub finished_shows : {P F : Type 0} (stands : P → List Call → Type 0) (w : WorkerStanding P F) (s : WorkerState)
     (id : LeaseId) (answer : Result Reply Refusal) → ShowsState stands w s
     → ShowsState stands (record w { waiting = None; consumers = answered_among id answer w.consumers })
@@ -125,6 +134,8 @@ kept_found id (Some c) (Some k) held f = ap (λ p. kept_unless_over id (Some (re
 kept_found id None (Some k) held f = absurd f
 kept_found id (Some c) None held f = absurd f
 
+-- If the worker `w` agrees with the state `s` (`ShowsState`), both still agree after the answer to a command of the
+-- consumer of the lease `id`.
 pub consumed_shows : {P F : Type 0} (stands : P → List Call → Type 0) (w : WorkerStanding P F) (s : WorkerState)
     (now : ℕ) (id : LeaseId) (answer : Result Reply Refusal) → ShowsState stands w s
     → ShowsState stands (record w {
@@ -156,8 +167,10 @@ consumed_shows stands w s now id answer h =
       retired = h.retired;
     }
 
--- ---- In terms of the fields that the code leaves, where those before had the value `old`
+-- ---- The fields that the code has written. `w` and `old` are the worker before the answer
 
+-- If the new fields agree with the state after the answer to the chore `chore`, the worker with these fields, and with
+-- the consumers that are over retired, stands for its record with the answer added.
 pub absorbed_leaves : {P F : Type 0} (stands : P → List Call → Type 0) (w old : WorkerStanding P F) → w ≡ old
     → (now : ℕ) (answer : Result Reply Refusal) (chore : Chore) (round : Round) (held : List Held)
     (consumers cs : List (Standing P)) (rs : List (Retirement P)) (past : WorkerPast) → old.waiting ≡ Some chore
@@ -179,7 +192,8 @@ absorbed_leaves stands w old is now answer chore round held consumers cs rs past
     }) leads
     (subst (λ v. StandsFor stands v past) (sym is) st)
 
--- The fields show the state after the answer to a renewal.
+-- If the worker `w` agrees with the state `s`, it agrees with the state `t` after it got the leases and the consumers
+-- of `t`, which otherwise equals `s` with the round `round` and no waiting command.
 left_shows : {P F : Type 0} (stands : P → List Call → Type 0) (w : WorkerStanding P F) (s t : WorkerState)
     (round : Round) (held : List Held) (cs : List (Standing P)) → ShowsState stands w s
     → Leaves stands (record s { waiting = None; round = round }) t held cs
@@ -193,6 +207,8 @@ left_shows stands w s t round held cs h l = record {
   retired = subst (λ ks. RetirementsStand stands w.retired ks) (sym l.retired) h.retired;
 }
 
+-- After the answer to the renewal of the lease `h`, the worker with the leases and consumers to which the answer leads
+-- stands for its record with this answer added.
 pub renewal_leaves : {P F : Type 0} (stands : P → List Call → Type 0) (w old : WorkerStanding P F) → w ≡ old
     → (now : ℕ) (answer : Result Reply Refusal) (h : Held) (id : LeaseId) (held : List Held)
     (consumers cs : List (Standing P)) (rs : List (Retirement P)) (past : WorkerPast) → id ≡ id_of_held h
@@ -220,7 +236,8 @@ renewal_leaves stands w old is now answer h id held consumers cs rs past same wa
     left_shows stands w s _ (AtRenewals (Some (id_of_held h))) held consumers shows
     (leaves (record s { waiting = None; round = AtRenewals (Some (id_of_held h)) }) shows.held shows.consumers)) st)
 
--- The worker stands for the record with the answer to a consumer's command added.
+-- After the answer to a command of the consumer of the lease `id`, the worker with the leases and consumers to which
+-- the answer leads stands for its record with this answer added.
 pub consumer_leaves : {P F : Type 0} (stands : P → List Call → Type 0) (w old : WorkerStanding P F) → w ≡ old
     → (now : ℕ) (answer : Result Reply Refusal) (id : LeaseId) (held : List Held) (consumers cs : List (Standing P))
     (rs : List (Retirement P)) (past : WorkerPast) → old.waiting ≡ Some (Consuming id)
@@ -241,7 +258,8 @@ consumer_leaves stands w old is now answer id held consumers cs rs past waits a 
     (λ i. record w { round = AtConsumers (Some id); waiting = None; held = sym a i; consumers = sym b i })
     (consumed_shows stands w s now id answer shows)) st
 
--- The worker stands for the record with the answer to a Give at a stop, or to a freeing, added.
+-- After the answer to a Give of the stopped worker, by the consumer of the lease `id`, the worker stands for its record
+-- with this answer added.
 pub give_leaves : {P F : Type 0} (stands : P → List Call → Type 0) (w old : WorkerStanding P F) → w ≡ old
     → (now : ℕ) (answer : Result Reply Refusal) (id : LeaseId) (consumers cs : List (Standing P))
     (rs : List (Retirement P)) (past : WorkerPast) → old.waiting ≡ Some (Finishing id)
@@ -255,6 +273,8 @@ give_leaves stands w old is now answer id consumers cs rs past waits b live over
     (λ i. record w { waiting = None; consumers = sym b i })
     (finished_shows stands w s id answer shows)) st
 
+-- After the answer to the freeing of the lease `h`, the worker without this lease stands for its record with this
+-- answer added.
 pub freeing_leaves : {P F : Type 0} (stands : P → List Call → Type 0) (w old : WorkerStanding P F) → w ≡ old
     → (now : ℕ) (answer : Result Reply Refusal) (h : Held) (held : List Held) (cs : List (Standing P))
     (rs : List (Retirement P)) (past : WorkerPast) → old.waiting ≡ Some (Freeing h)
@@ -269,7 +289,8 @@ freeing_leaves stands w old is now answer h held cs rs past waits a live over st
     (λ i. record w { waiting = None; held = sym a i })
     (freed_shows stands w s (id_of_held h) shows)) st
 
--- After a refused renewal, the leases and the consumers are those of the state that `after_renewal` leads to.
+-- After a refused renewal of the lease `h`, the worker's leases are `held` without `h`, and its consumers are `cs`
+-- after the consumer of `h` has learnt of the loss. This is what `after_renewal` leads to.
 pub refused_leaves : {P : Type 0} (stands : P → List Call → Type 0) (s : WorkerState) (now : ℕ) (h : Held)
     (answer : Result Reply Refusal) (loss : Bool) (id : LeaseId) (held held' : List Held) (cs cs' : List (Standing P))
     → id ≡ id_of_held h → after_renewal now h answer s ≡ renewal_by now h (written.Refused loss) s

@@ -1,4 +1,4 @@
--- After each call, fewer calls are due.
+-- Each processor call leaves fewer processor calls due.
 use Rattle.std.proofs.Common.{◌≡◌, ℕ, ◌+◌, ◌<◌, ◌≤◌, Bool, true, false, List, [], ◌∷◌, ◌++◌, length, refl, ap, ◌∙◌}
 use Rattle.std.proofs.Common.{arith}
 use Rattle.std.specs.Prelude.{cond, is_some, not}
@@ -13,7 +13,7 @@ use Rattle.kcl_consumer.specs.Standing.{Standing}
 use Rattle.kcl_worker_lists.specs.Changes.{FirstCalled, is_over_in, live_among}
 use Rattle.kcl_worker_lists.specs.Lists.{due_count, is_due}
 
--- After its call, a processor has no call that is due.
+-- After the processor call that is due in the stage `p` has returned, no call is due in the new stage.
 pub not_again : (made : Tenancy) (a : Ask) (p : Stage) → is_some (due_call p) ≡ true
     → is_some (due_call (after_call made a p)) ≡ false
 not_again made a Opening h = absurd cc
@@ -64,6 +64,7 @@ count_quiet : {P : Type 0} (c : Standing P) (cs : List (Standing P)) → is_due 
     → due_count (c ∷ cs) ≡ due_count cs
 count_quiet c cs h = ap (λ b. length (cond b (c ∷ filter is_due cs) (filter is_due cs))) h
 
+-- After the first due call has returned, and the consumers that are over are retired, fewer processor calls are due.
 pub fewer_due : {P : Type 0} (stands : P → List Call → Type 0) (asks : P → List Stored → Ask
     → Type 0) (asked : Ask) (old new settled : List (Standing P)) → FirstCalled stands asks asked old new
     → settled ≡ live_among new → due_count settled < due_count old

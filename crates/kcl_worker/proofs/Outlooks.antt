@@ -1,4 +1,5 @@
--- The next command, in terms of the consumers as the code keeps them, is the one of the record.
+-- The next command that the code chooses is the one that comes next after the worker's record (the list of its events).
+-- `stands` says which processor calls a processor stands for.
 use Rattle.std.proofs.Common.{◌≡◌, ℕ, ◌<◌, ◌≤◌, suc, get_or, drop, length, Bool, true, false, List, [], ◌∷◌, Option}
 use Rattle.std.proofs.Common.{Some, None, refl, sym, ap, subst, ◌∙◌, arith}
 use Rattle.std.specs.Prelude.{◌==◌, ◌&&◌, ◌||◌, cond, is_some, not}
@@ -33,7 +34,7 @@ use Rattle.kcl_worker.specs.Standing.{ConsumersStand, ShowsState, StandsFor, Wor
 use Rattle.kcl_worker.specs.Standing.{is_idle_in}
 use Rattle.kcl_worker.proofs.Happenings.{stage_known}
 
--- ---- The same consumer is found in the code's list and in the record
+-- ---- The same consumer is found in the code and in the record
 
 abbrev pub IsFoundSo : {P : Type 0} → Option (Standing P) → Option Known → Type 0
 IsFoundSo None None = Unit {0}
@@ -82,6 +83,7 @@ same_numbers a b c d e f h =
     three c f true h = grind (arith, nat_tests)
     three c f false h = absurd cc
 
+-- A test of leases gives the same result for two leases with the same identity.
 pub same_test : (t : LeaseId → Bool) (a b : LeaseId) → same_id a b ≡ true → t a ≡ t b
 same_test t a b h =
     let e = same_numbers a.key.stream a.key.shard a.tenure b.key.stream b.key.shard b.tenure h in
@@ -92,6 +94,7 @@ same_test t a b h =
 own_id : (a b c : ℕ) → ((a == a) && (b == b) && (c == c)) ≡ true
 own_id a b c = grind (arith, nat_tests)
 
+-- If `k` is the first consumer for whose lease `t` is true, `k` is also the first consumer of its lease.
 pub by_id : (t : LeaseId → Bool) (k : Known) (ks : List Known) → find (λ j. t (id_of j)) ks ≡ Some k
     → (known_of (id_of k) ks ≡ Some k) × (t (id_of k) ≡ true)
 by_id t k [] h = absurd cc
@@ -120,6 +123,7 @@ by_id t k (x ∷ xs) h = head (t (id_of x)) refl h (λ g. by_id t k xs g)
 
 -- ---- A fact about all consumers holds of the one that is found
 
+-- If `P` holds of all items of a list, it holds of the item that is found in the list.
 pub all_found : {A : Type 0} (P : A → Type 0) (t : A → Bool) (x : A) (xs : List A) → find t xs ≡ Some x
     → AllByRecursion P xs → P x
 all_found P t x [] h all = absurd cc
@@ -145,6 +149,8 @@ ready (c ∷ cs) none all = head (due_call c.stage) refl none (λ n. ready cs n 
 
 -- ---- A consumer's command
 
+-- If the worker is among its consumers and `c` is the first one after the lease `last`, then the next command of `c` is
+-- the worker's next command.
 pub consumer_given : {P : Type 0} (stands : P → List Call → Type 0) (made : WorkerMade) (s : WorkerState)
     (syncs : List SyncStep) (takes : List TakeStep) (place : Option LeaseId) (cs : List (Standing P)) (held : List Held)
     (c : Standing P) (what : Command) → ConsumersStand stands cs s.consumers → held ≡ s.held → past_in place cs ≡ Some c
@@ -171,6 +177,7 @@ consumer_given {P} stands made s syncs takes place cs held c what stand same fou
           command = ap (λ o. consumer_command s o) (by_id (is_past place) k s.consumers e).0 ∙ of_known;
         }
 
+-- If the worker is among its consumers and none comes after the lease `last`, a survey comes next.
 pub survey_given : {P : Type 0} (stands : P → List Call → Type 0) (made : WorkerMade) (s : WorkerState)
     (syncs : List SyncStep) (takes : List TakeStep) (place : Option LeaseId) (cs : List (Standing P))
     → ConsumersStand stands cs s.consumers → past_in place cs ≡ None
@@ -187,6 +194,7 @@ survey_given {P} stands made s syncs takes place cs stand found =
 
 -- ---- At a stop
 
+-- If the worker is stopped and `c` is the first consumer that has a batch to give, the Give of `c` comes next.
 pub giving_given : {P : Type 0} (stands : P → List Call → Type 0) (made : WorkerMade) (s : WorkerState)
     (syncs : List SyncStep) (takes : List TakeStep) (cs : List (Standing P)) (c : Standing P)
     → ConsumersStand stands cs s.consumers → giving_in cs ≡ Some c
@@ -219,6 +227,7 @@ none_giving {P} stands s cs stand found =
     go None f = refl
     go (Some k) f = absurd f
 
+-- If the worker is stopped, no consumer has a batch to give, and `h` is the first lease, the freeing of `h` comes next.
 pub freeing_given : {P : Type 0} (stands : P → List Call → Type 0) (made : WorkerMade) (s : WorkerState)
     (syncs : List SyncStep) (takes : List TakeStep) (cs : List (Standing P)) (held : List Held) (h : Held)
     (rest : List Held) → ConsumersStand stands cs s.consumers → held ≡ s.held → giving_in cs ≡ None → held ≡ h ∷ rest
@@ -243,6 +252,8 @@ none_mapped : (o : Option Pending) → None ≡ option_map (λ p. p.chore) o →
 none_mapped None e = refl
 none_mapped (Some p) e = absurd cc
 
+-- If `awaited` and `what` are the next chore and its command, the worker `new`, in which this command waits for its
+-- answer, stands for the record `past` with the command added.
 pub asked_stands : {P F : Type 0} (stands : P → List Call → Type 0) (w new : WorkerStanding P F) (now : ℕ)
     (syncs : List SyncStep) (takes : List TakeStep) (asked : Asked) (what : Command) (past : WorkerPast)
     → w.waiting ≡ None → new ≡ record w { waiting = chore_of asked syncs takes }
@@ -274,8 +285,9 @@ asked_stands {P} {F} stands w new now syncs takes asked what past free is g st =
       }),
     )
 
--- ---- Lists, told by their first element
+-- ---- Lists, by their first element
 
+-- A list with less than one item is empty.
 pub empty_list : {X : Type 0} (xs : List X) → length xs < 1 → xs ≡ []
 empty_list [] h = refl
 empty_list (x ∷ xs) h = absurd (none (length xs) h)
@@ -283,6 +295,7 @@ empty_list (x ∷ xs) h = absurd (none (length xs) h)
     none : (n : ℕ) → suc n < 1 → ⊥
     none n h = omega arith
 
+-- A list with at least one item consists of its item at the index 0 and the items after it.
 pub first_list : {X : Type 0} (xs : List X) (x : X) → 1 ≤ length xs → x ≡ get_or xs 0 x → xs ≡ x ∷ drop 1 xs
 first_list [] x h e = absurd (none h)
   where
@@ -290,6 +303,8 @@ first_list [] x h e = absurd (none h)
     none h = omega arith
 first_list (y ∷ ys) x h e = ap (λ z. z ∷ ys) (sym e)
 
+-- If the worker is stopped and `c` is the first consumer that has a batch to give, the Give of `c` comes next. `id` is
+-- the lease of `c`, and `t` is its tenure.
 pub giving_as : {P : Type 0} (stands : P → List Call → Type 0) (made : WorkerMade) (s : WorkerState)
     (syncs : List SyncStep) (takes : List TakeStep) (cs : List (Standing P)) (c : Standing P) (id : LeaseId) (t : ℕ)
     → id ≡ id_in c → t ≡ c.made.tenure → ConsumersStand stands cs s.consumers → giving_in cs ≡ Some c
@@ -301,6 +316,8 @@ giving_as stands made s syncs takes cs c id t a b stand found =
     (command.Give n)) (sym b)
     (giving_given stands made s syncs takes cs c stand found))
 
+-- If the worker is among its consumers and `c` is the first one after the lease `last`, then the next command of `c` is
+-- the worker's next command. `id` is the lease of `c`, and `counter` is the lease's counter.
 pub consumer_as : {P : Type 0} (stands : P → List Call → Type 0) (made : WorkerMade) (s : WorkerState)
     (syncs : List SyncStep) (takes : List TakeStep) (place : Option LeaseId) (cs : List (Standing P)) (held : List Held)
     (c : Standing P) (id : LeaseId) (counter : ℕ) (what : Command) → id ≡ id_in c → counter ≡ counter_of id held
@@ -324,6 +341,7 @@ none_due_any (c ∷ cs) none = head (due_call c.stage) none (λ n. none_due_any 
     head None n rest = rest n
     head (Some due) n rest = absurd cc
 
+-- If no item of a list is found for which `t` is true, `t` is true for none of them.
 pub none_found_any : {A : Type 0} (t : A → Bool) (xs : List A) → find t xs ≡ None → list_any t xs ≡ false
 none_found_any t [] none = refl
 none_found_any {A} t (x ∷ xs) none = head (t x) none (λ n. none_found_any t xs n)
@@ -357,6 +375,7 @@ stops_at : (failover now : ℕ) (s : WorkerState) (round : Round) → chore_from
 stops_at failover now s AtStopping none = (refl, none)
 stops_at failover now s _ none = absurd cc
 
+-- A worker with no due processor call and no next chore is idle.
 pub idle_so : {P F : Type 0} (stands : P → List Call → Type 0) (w : WorkerStanding P F) (s : WorkerState)
     (failover now : ℕ) → ShowsState stands w s → due_in w.consumers ≡ None → chore_from failover now s w.round ≡ None
     → is_idle_in w ≡ true
@@ -372,8 +391,10 @@ idle_so stands w s failover now shows none chore =
     (none_giving_in stands w.consumers s.consumers shows.consumers l.0))
     ∙ nothing_held w.held (ap freeing_chore shows.held ∙ l.1)
 
--- ---- In terms of the fields that the code has, whose value is `old`
+-- ---- The fields that the code has written. `w` and `old` are the worker before
 
+-- If `awaited` and `what` are the next chore and its command in each state with the worker's consumers and leases, the
+-- worker that waits for the answer to `what` stands for its record with this command added.
 pub asked_leaves : {P F : Type 0} (stands : P → List Call → Type 0) (w old : WorkerStanding P F) → w ≡ old
     → (now : ℕ) (syncs : List SyncStep) (takes : List TakeStep) (asked : Asked) (what : Command) (past : WorkerPast)
     → old.waiting ≡ None → ((s : WorkerState) → ConsumersStand stands w.consumers s.consumers → w.held ≡ s.held
@@ -390,6 +411,7 @@ asked_leaves {P} {F} stands w old is now syncs takes asked what past free given 
     (ap (λ v. v.waiting) is ∙ free) refl
     (given (worker_after w.made past) st0.shows.consumers st0.shows.held) st0)
 
+-- A worker with no due processor call that isn't idle has a next chore.
 pub none_left : {P F : Type 0} (stands : P → List Call → Type 0) (w old : WorkerStanding P F) → w ≡ old
     → (now : ℕ) (past : WorkerPast) → due_in old.consumers ≡ None → is_idle_in old ≡ false
     → ((s : WorkerState) → ConsumersStand stands w.consumers s.consumers → w.held ≡ s.held
@@ -430,7 +452,7 @@ any_same stands f (c ∷ cs) (k ∷ ks) s =
     ap (λ p. f p || list_any (λ d. f d.stage) cs) (stage_known stands c k (s.0, s.1))
     ∙ ap (λ r. f (stage_of_known k) || r) (any_same stands f cs ks s.2)
 
--- The worker is idle exactly if its record says so.
+-- The worker `w` is idle, as callers see it, exactly if it is idle in the state after its record.
 pub idle_same : {P F : Type 0} (stands : P → List Call → Type 0) (w : WorkerStanding P F) (past : WorkerPast)
     → StandsFor stands w past → is_idle_in w ≡ is_idle (worker_after w.made past)
 idle_same stands w past s =

@@ -1,4 +1,5 @@
--- What a call does to the fields of a worker, and what the call adds to the worker's record.
+-- After a processor call or a stop, the worker stands for its record (the list of its events) with this event added.
+-- `stands` says which processor calls a processor stands for.
 use Rattle.std.proofs.Common.{◌≡◌, true, List, ◌∷◌, ◌++◌, Option, Some, None, Ok, Err, refl, sym, subst, ◌∙◌}
 use Rattle.std.specs.Option.{option_map}
 use Rattle.std.specs.Prelude.{OnErr, Result}
@@ -20,12 +21,13 @@ none_mapped : (o : Option Pending) → None ≡ option_map (λ p. p.chore) o →
 none_mapped None e = refl
 none_mapped (Some p) e = absurd cc
 
--- No command waits in the record.
+-- If no command of the worker `w` waits for its answer, none waits in the state `s`, with which `w` agrees.
 pub is_free : {P F : Type 0} (stands : P → List Call → Type 0) (w : WorkerStanding P F) (s : WorkerState)
     → w.waiting ≡ None → ShowsState stands w s → s.waiting ≡ None
 is_free stands w s free shows = none_mapped s.waiting (sym free ∙ shows.waiting)
 
--- The fields still show the state after the consumers that are over were retired.
+-- If the worker `w` agrees with the state `s` (`ShowsState`), both still agree after the consumers that are over are
+-- retired.
 pub settled_shows : {P F : Type 0} (stands : P → List Call → Type 0) (w : WorkerStanding P F) (s : WorkerState)
     → ShowsState stands w s → ShowsState stands (settled_in w) (settled s)
 settled_shows stands w s h = record {
@@ -38,7 +40,8 @@ settled_shows stands w s h = record {
       (retired_stand stands w.consumers s.consumers h.consumers);
 }
 
--- The worker stands for the record with a stop added.
+-- The worker `new` stands for the record `past` with a stop added, if it is `w` after the stop: all consumers have lost
+-- their leases, and those that are over are retired.
 pub stop_stands : {P F : Type 0} (stands : P → List Call → Type 0) (w new : WorkerStanding P F) (past : WorkerPast)
     → w.waiting ≡ None → new
     ≡ settled_in (record w { round = AtStopping; consumers = lost_among (λ id. true) w.consumers })
@@ -60,7 +63,8 @@ stop_stands {P} {F} stands w new past free is st =
           });
     })
 
--- The worker stands for the record with the due call of a processor added.
+-- The worker `new` stands for the record `past` with a processor call added, if it is `w` after its first due call has
+-- returned, with the consumers that are over retired.
 pub call_stands : {P F : Type 0} (stands : P → List Call → Type 0) (asks : P → List Stored → Ask
     → Type 0) (asked : Ask) (w new : WorkerStanding P F) (cs : List (Standing P)) (past : WorkerPast)
     → w.waiting ≡ None → FirstCalled stands asks asked w.consumers cs → new ≡ settled_in (record w { consumers = cs })
@@ -82,7 +86,7 @@ call_stands {P} {F} stands asks asked w new cs past free called is st =
           });
     })
 
--- After a call that ran out of memory, the worker stands for the same record.
+-- The worker `new` stands for the same record as `w`, if it is `w` after a processor call that ran out of memory.
 pub uncalled_stands : {P F : Type 0} (stands : P → List Call → Type 0) (asks : P → List Stored → Ask
     → Type 0) (w new : WorkerStanding P F) (cs : List (Standing P)) (past : WorkerPast)
     → FirstUncalled stands asks w.consumers cs → new ≡ record w { consumers = cs } → StandsFor stands w past
@@ -102,7 +106,7 @@ uncalled_stands {P} {F} stands asks w new cs past f is st =
       };
     })
 
--- ---- In terms of the fields that the code leaves
+-- ---- The fields that the code has written
 
 -- The worker stands for the record with a stop added, given what was written of its consumers.
 pub stop_leaves : {P F : Type 0} (stands : P → List Call → Type 0) (w : WorkerStanding P F) (cs : List (Standing P))
@@ -114,7 +118,8 @@ stop_leaves stands w cs rs past free live over st =
     stop_stands stands w (record w { round = AtStopping; consumers = cs; retired = rs }) past free
     (λ i. record w { round = AtStopping; consumers = live i; retired = over i }) st
 
--- The worker stands for the record with a call added, given what was written of its consumers.
+-- After the first due processor call has returned, the worker with the fields that the code has written stands for its
+-- record with this call added.
 pub call_leaves : {P F : Type 0} (stands : P → List Call → Type 0) (asks : P → List Stored → Ask
     → Type 0) (asked : Ask) (w : WorkerStanding P F) (called cs : List (Standing P)) (rs : List (Retirement P))
     (past : WorkerPast) → w.waiting ≡ None → FirstCalled stands asks asked w.consumers called → cs ≡ live_among called
@@ -124,6 +129,7 @@ call_leaves stands asks asked w called cs rs past free f live over st =
     call_stands stands asks asked w (record w { consumers = cs; retired = rs }) called past free f
     (λ i. record w { consumers = live i; retired = over i }) st
 
+-- If `P` holds, it holds if the result is an error.
 pub on_err_so : {A E : Type 0} (P : Type 0) (r : Result A E) → P → OnErr r P
 on_err_so P (Ok x) h = tt
 on_err_so P (Err e) h = h

@@ -1,4 +1,5 @@
--- What the answer to a survey does to the fields of a worker, and what it adds to the worker's record.
+-- After the answer to a survey, the worker with the fields that the code has written stands for its record (the list of
+-- its events) with this answer added. `w` and `old` are the worker before the answer.
 use Rattle.std.proofs.Common.{◌≡◌, ℕ, ◌++◌, List, ◌∷◌, Some, None, Ok, Err, refl, sym, ap, subst, ◌∙◌}
 use Rattle.std.specs.Prelude.{Result}
 use Rattle.std.specs.List.{filter}
@@ -57,6 +58,8 @@ surveyed_shows stands w s now shards rows p is h =
       retired = h.retired;
     }
 
+-- After an answer from which `p` was planned, the worker with the new leases, plans and consumers stands for its record
+-- with this answer added.
 pub planned_leaves : {P F : Type 0} (stands : P → List Call → Type 0) (w old : WorkerStanding P F) → w ≡ old
     → (now : ℕ) (answer : Result Reply Refusal) (p : Planned) (syncs : List SyncStep) (takes : List TakeStep)
     (consumers cs : List (Standing P)) (rs : List (Retirement P)) (past : WorkerPast) → old.waiting ≡ Some Surveying
@@ -108,7 +111,7 @@ planned_leaves stands w old is now (Ok _) p syncs takes consumers cs rs past wai
 planned_leaves stands w old is now (Err r) p syncs takes consumers cs rs past waits planned a b e live over st =
     absurd planned
 
--- The fields still show the state after an answer that isn't a survey's.
+-- If the worker `w` agrees with the state `s` (`ShowsState`), both still agree once no command waits any more.
 kept_shows : {P F : Type 0} (stands : P → List Call → Type 0) (w : WorkerStanding P F) (s : WorkerState)
     → ShowsState stands w s → ShowsState stands (record w { waiting = None }) (record s { waiting = None })
 kept_shows stands w s h = record {
@@ -128,6 +131,8 @@ unplanned_shows stands w s now (Ok (reply.Survey shards rows)) none h = absurd n
 unplanned_shows stands w s now (Ok _) none h = kept_shows stands w s h
 unplanned_shows stands w s now (Err r) none h = kept_shows stands w s h
 
+-- After an answer from which nothing was planned, such as a refusal, the worker stands for its record with this answer
+-- added. Only the waiting command is gone, and the consumers that are over are retired.
 pub unplanned_leaves : {P F : Type 0} (stands : P → List Call → Type 0) (w old : WorkerStanding P F) → w ≡ old
     → (now : ℕ) (answer : Result Reply Refusal) (cs : List (Standing P)) (rs : List (Retirement P)) (past : WorkerPast)
     → old.waiting ≡ Some Surveying → IsPlannedAfter old.made old.seen old.held now answer None

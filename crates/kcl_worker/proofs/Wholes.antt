@@ -1,4 +1,4 @@
--- A worker stays one while its name and its settings stay.
+-- When the invariant of a worker (`IsWorker`) still holds after a call of one of its functions.
 use Rattle.std.proofs.Common.{ℕ, ◌+◌, ◌≤◌, List, Option}
 use Rattle.kcl_defs.specs.declared.consumer.Ask.{Ask}
 use Rattle.kcl_defs.specs.Workers.{Chore}
@@ -8,7 +8,9 @@ use Rattle.kcl_worker.specs.Asks.{AskWithin}
 use Rattle.kcl_worker.specs.Outlook.{IsAsking, NoneOver}
 use Rattle.kcl_worker.specs.Whole.{IsWorker}
 
--- The four facts that a call has to show of the new consumers, chore and retired consumers.
+-- The invariant of a worker still holds after a call if four facts are true: no consumer is over, no processor call is
+-- due while a command waits for its answer, there is room for all retired consumers, and the processors ask only for
+-- what `other` allows. The names with a prime are those after the call.
 pub still_worker : {P : Type 0} {asks : P → List Stored → Ask → Type 0} {may other : List Stored → Ask → Type 0}
     {name most retired many room retired' many' room' : ℕ} {chore chore' : Option Chore} {cs cs' : List (Standing P)}
     → IsWorker asks may name most chore cs retired many room → NoneOver cs' → IsAsking chore' cs'

@@ -1,4 +1,5 @@
--- What decides the next command, in terms of the consumers and the leases as the code keeps them.
+-- The next command of a worker, as the code finds it from its consumers `cs` and its leases `held`. `stands` says which
+-- processor calls a processor stands for.
 use Rattle.std.specs.Prelude.{ℕ, ◌≡◌, false, List, Option, Some, None}
 use Rattle.std.specs.List.{AllByRecursion, find}
 use Rattle.kds_defs.specs.declared.command.Command.{Command}
@@ -22,7 +23,8 @@ use Rattle.kcl_worker_lists.specs.Lists.{due_in}
 abbrev pub IsReady : {P : Type 0} → Standing P → Type 0
 IsReady c = (due_call c.stage ≡ None) × (over_at c.stage ≡ None)
 
--- There is a chore, which `asked` stands for, and `what` is its command.
+-- There is a chore in `chore`, and `what` is its command in the state `s`. The code stores this chore as `awaited`,
+-- with the steps `syncs` and `takes` left of the two plans.
 pub record IsGiven (made : WorkerMade) (s : WorkerState) (syncs : List SyncStep) (takes : List TakeStep)
     (chore : Option Chore) (asked : Asked)
     (what : Command) : Type 0 where
@@ -52,14 +54,17 @@ abbrev pub HasNoChore : {P : Type 0} → (P → List Call → Type 0) → List (
 HasNoChore stands cs held chore = (s : WorkerState) → ConsumersStand stands cs s.consumers → held ≡ s.held
     → chore s ≡ None
 
--- The chore of a state in a part of the round, and the chore at a stop.
+-- The next chore of a worker in the state `s` whose round is at the part `part`, with the steps `syncs` and `takes`
+-- left of its plans.
 abbrev pub chore_in : WorkerMade → ℕ → Part → List SyncStep → List TakeStep → WorkerState → Option Chore
 chore_in made now part syncs takes s = chore_from made.settings.failover now s (round_of part syncs takes)
 
+-- The next chore of a stopped worker in the state `s`: the Give of the first consumer that has a batch to give, or else
+-- the freeing of the first lease, if there is one.
 abbrev pub chore_at_stop : WorkerState → Option Chore
 chore_at_stop s = stopping_chore s (find is_giving s.consumers)
 
--- The command is lawful, and is a command on leases.
+-- The command has arguments within the ranges of the API, and is a command on leases.
 abbrev pub IsLeaseCommand : Command → Type 0
 IsLeaseCommand what = IsLawfulCommand what × (is_service what ≡ false)
 

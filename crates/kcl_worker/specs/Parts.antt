@@ -1,4 +1,5 @@
--- How a worker stores its round and the chore whose command waits.
+-- How the code stores a worker's round and the chore whose command waits for its answer. The steps that are left of the
+-- two plans are stored once, apart from both.
 use Rattle.std.specs.Prelude.{List, [], ◌∷◌, Option, Some, None}
 use Rattle.kcl_defs.specs.declared.plans.SyncStep.{SyncStep}
 use Rattle.kcl_defs.specs.declared.plans.TakeStep.{TakeStep}
@@ -9,7 +10,8 @@ use Rattle.kcl_worker.specs.declared.round.Part.TheVariants as part
 use Rattle.kcl_worker.specs.declared.round.Asked.{Asked}
 use Rattle.kcl_worker.specs.declared.round.Asked.TheVariants as asked
 
--- The round at this part, with the steps that are left.
+-- The round of a worker that is at the part in the first argument, with the steps `syncs` and `takes` left of its
+-- plans.
 abbrev pub round_of : Part → List SyncStep → List TakeStep → Round
 round_of part.Survey syncs takes = AtSurvey
 round_of part.Sync syncs takes = AtSync syncs takes
@@ -18,12 +20,14 @@ round_of (part.Renewals place) syncs takes = AtRenewals place
 round_of (part.Consumers place) syncs takes = AtConsumers place
 round_of part.Stopping syncs takes = AtStopping
 
--- `chore_of` is the chore whose command waits. A step of a plan that was asked for is the first of the steps that are
--- left.
+-- The chore that is the first of these steps of the sync plan, or None if no step is left. The chore contains the steps
+-- after it.
 abbrev pub syncing : List SyncStep → List TakeStep → Option Chore
 syncing [] takes = None
 syncing (step ∷ syncs) takes = Some (Syncing step syncs takes)
 
+-- The chore that is the first of these steps of the take plan, or None if no step is left. The chore contains the steps
+-- after it.
 abbrev pub taking : List TakeStep → Option Chore
 taking [] = None
 taking (step ∷ takes) = Some (Taking step takes)
@@ -38,11 +42,12 @@ chore_of (asked.Consume id) syncs takes = Some (Consuming id)
 chore_of (asked.Finish id) syncs takes = Some (Finishing id)
 chore_of (asked.Free h) syncs takes = Some (Freeing h)
 
--- The command that waits is a step of the sync plan (`IsSyncing`) or a take (`IsTaking`).
+-- There is a chore, and it is a step of the sync plan.
 abbrev pub IsSyncing : Option Chore → Type 0
 IsSyncing (Some (Syncing step syncs takes)) = Unit {0}
 IsSyncing _ = ⊥
 
+-- There is a chore, and it is a step of the take plan.
 abbrev pub IsTaking : Option Chore → Type 0
 IsTaking (Some (Taking step takes)) = Unit {0}
 IsTaking _ = ⊥

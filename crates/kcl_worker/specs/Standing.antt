@@ -1,4 +1,5 @@
--- A worker as callers see it, and the record that it stands for.
+-- A worker as callers see it, and the record that it stands for, which is the list of its events. `stands` says which
+-- processor calls a processor stands for.
 use Rattle.std.specs.Prelude.{ℕ, ◌≡◌, Bool, not, ◌&&◌, List, [], ◌∷◌, ◌++◌, Option, Some, None, Result}
 use Rattle.std.specs.List.{list_any, AllByRecursion}
 use Rattle.std.specs.Option.{option_map}
@@ -23,7 +24,9 @@ use Rattle.kcl_worker_lists.specs.Changes.{live_among, retired_among}
 use Rattle.kcl_worker_lists.specs.Lists.{Retirement, is_due}
 use Rattle.kcl_worker_lists.specs.Planning.{IsPlannedAfter}
 
--- The fields of a worker.
+-- A worker as callers see it: the values from which it was made; how far it has come in its round; the chore whose
+-- command waits for its answer, if one does; and for each key, what it has seen of the row. Then follow its leases, its
+-- consumers, what is kept of those that are over, and the maker of its processors.
 pub record WorkerStanding (P F : Type 0) : Type 0 where
   pub made : WorkerMade
   pub round : Round
@@ -34,7 +37,7 @@ pub record WorkerStanding (P F : Type 0) : Type 0 where
   pub retired : List (Retirement P)
   pub maker : F
 
--- `new` is the worker `old` after a call: its name, its settings and its maker are the same.
+-- The worker `new` was made with the same values as the worker `old`, and has the same maker of processors.
 pub record IsSameWorker {P F : Type 0} (new old : WorkerStanding P F) : Type 0 where
   pub made : new.made ≡ old.made
   pub maker : new.maker ≡ old.maker
@@ -45,22 +48,28 @@ pub record IsFreed {P F : Type 0} (new old : WorkerStanding P F) : Type 0 where
   pub maker : new.maker ≡ old.maker
   pub free : new.waiting ≡ None
 
--- The worker after its consumers that are over were retired.
+-- The worker `w` after its consumers that are over were retired: what is kept of them is added at the end of the
+-- retired ones.
 abbrev pub settled_in : {P F : Type 0} → WorkerStanding P F → WorkerStanding P F
 settled_in w = record w { consumers = live_among w.consumers; retired = w.retired ++ retired_among w.consumers }
 
--- `p` is what the worker plans after the answer at the moment `now`, given what it has seen and the leases that it has.
+-- `p` is what the worker `w` plans from the answer `answer` at the moment `now`. If the answer is that of an accepted
+-- survey, `p` has the new leases and plans, and otherwise it is None.
 abbrev pub IsPlannedIn : {P F : Type 0} → WorkerStanding P F → ℕ → Result Reply Refusal → Option Planned → Type 0
 IsPlannedIn w now answer p = IsPlannedAfter w.made w.seen w.held now answer p
 
 -- ---- What a caller can see of a worker
 
+-- Whether a processor call of one of the worker's consumers is due.
 abbrev pub is_due_in : {P F : Type 0} → WorkerStanding P F → Bool
 is_due_in w = list_any is_due w.consumers
 
+-- Whether one of the worker's consumers has a batch to give.
 abbrev pub is_giving_in : {P F : Type 0} → WorkerStanding P F → Bool
 is_giving_in w = list_any (λ c. is_giving_stage c.stage) w.consumers
 
+-- Whether the worker was stopped, and nothing is left to do: no processor call is due, no batch is to be given, and the
+-- worker holds no lease.
 abbrev pub is_idle_in : {P F : Type 0} → WorkerStanding P F → Bool
 is_idle_in w = is_stopping w.round && not (is_due_in w) && not (is_giving_in w) && is_nothing_held w.held
 
@@ -74,19 +83,24 @@ ConsumersStand stands (c ∷ cs) (k ∷ ks) = (c.made ≡ k.made) × ConsumerSta
 ConsumersStand stands [] (k ∷ ks) = ⊥
 ConsumersStand stands (c ∷ cs) [] = ⊥
 
+-- `r` is what is kept of the consumer `k`, which is over: its key, its tenure, the reason why it ended, and a processor
+-- that stands for the calls of its record.
 pub record IsRetirement {P : Type 0} (stands : P → List Call → Type 0) (r : Retirement P) (k : Known) : Type 0 where
   pub key : r.key ≡ k.made.key
   pub tenure : r.tenure ≡ k.made.tenure
   pub why : over_at (stage_of_known k) ≡ Some r.why
   pub calls : stands r.processor (calls_after k.made k.past)
 
+-- The two lists are equally long, and each item of the first list is what is kept of the consumer at the same index of
+-- the second list, which is over.
 abbrev pub RetirementsStand : {P : Type 0} → (P → List Call → Type 0) → List (Retirement P) → List Known → Type 0
 RetirementsStand stands [] [] = Unit {0}
 RetirementsStand stands (r ∷ rs) (k ∷ ks) = IsRetirement stands r k × RetirementsStand stands rs ks
 RetirementsStand stands [] (k ∷ ks) = ⊥
 RetirementsStand stands (r ∷ rs) [] = ⊥
 
--- The fields of the worker `w` are those of the state `s`.
+-- The worker `w`, as callers see it, agrees with the state `s`: the round, the waiting chore, what was seen of the
+-- rows, and the leases are equal, and the consumers and the retired ones stand for those of `s`.
 pub record ShowsState {P F : Type 0} (stands : P → List Call → Type 0) (w : WorkerStanding P F) (s : WorkerState) :
     Type 0 where
   pub round : w.round ≡ s.round
@@ -96,7 +110,8 @@ pub record ShowsState {P F : Type 0} (stands : P → List Call → Type 0) (w : 
   pub consumers : ConsumersStand stands w.consumers s.consumers
   pub retired : RetirementsStand stands w.retired s.retired
 
--- The worker `w` stands for the record `past`.
+-- The worker `w` stands for the record `past`: the record results from calls that meet their preconditions, and `w`
+-- agrees with the state after the record (`ShowsState`).
 pub record StandsFor {P F : Type 0} (stands : P → List Call → Type 0) (w : WorkerStanding P F) (past : WorkerPast) :
     Type 0 where
   pub orderly : IsOrderly w.made past
@@ -110,12 +125,15 @@ abbrev pub IsServedIn : {P : Type 0} → (P → List Call → Type 0) → ℕ �
 IsServedIn stands by h c =
     IsOfTenure by h c.made × ((calls : List Call) × stands c.processor calls × IsLifeIn by h c.made calls)
 
--- The retired consumer `r` is of a tenure of the history `h`, its processor's calls are those for the given reads of
--- that tenure, and no batch that it was handed waits to be given.
+-- The retired consumer `r` belonged to a tenure of the actor `by` in the history `h`. Its processor stands for calls
+-- that are for the given reads of this tenure, in order, and each batch that it was handed is given.
 abbrev pub IsRetiredIn : {P : Type 0} → (P → List Call → Type 0) → ℕ → List Turn → Retirement P → Type 0
 IsRetiredIn stands by h r = (made : Tenancy) × (r.key ≡ made.key) × (r.tenure ≡ made.tenure) × IsOfTenure by h made
     × ((calls : List Call) × stands r.processor calls × IsWholeLifeIn by h made calls)
 
+-- Each consumer of the worker `w`, retired or not, belongs to a tenure of the actor `by` in the history `h`, and its
+-- processor was called for the given reads of this tenure. Each batch that the processor of a retired consumer was
+-- handed is given.
 pub record AreServedIn {P F : Type 0} (stands : P → List Call → Type 0) (by : ℕ) (h : List Turn)
     (w : WorkerStanding P F) : Type 0 where
   pub consumers : AllByRecursion (IsServedIn stands by h) w.consumers

@@ -1,4 +1,4 @@
--- What holds of all parts of a worker together.
+-- The invariant of a worker, which concerns several of its fields together.
 use Rattle.std.specs.Prelude.{ℕ, ◌+◌, ◌≤◌, List, Option}
 use Rattle.kcl_defs.specs.declared.consumer.Ask.{Ask}
 use Rattle.kcl_defs.specs.Workers.{Chore}
@@ -8,9 +8,10 @@ use Rattle.kcl_consumer.specs.Standing.{Standing}
 use Rattle.kcl_worker.specs.Asks.{AskWithin}
 use Rattle.kcl_worker.specs.Outlook.{IsAsking, NoneOver}
 
--- A worker with the consumers `cs`, whose waiting command is for `chore`. Its processors ask as `asks` says, and its
--- maker allows what `may` says. `retired` and `many` are the lengths of the lists of retired and of present consumers,
--- and `room` is the capacity of the first.
+-- The invariant of a worker with the consumers `cs`. No consumer is over, and while a command waits for its answer
+-- (that of `chore`), no processor call is due. With `retired` retired consumers and `many` other ones, the list of
+-- retired ones has room for all (`room`). The worker's name is at least 1, and its limit of records per Read, `most`,
+-- is allowed. Whatever a processor may ask for (`asks`), `may` allows.
 pub record IsWorker {P : Type 0} (asks : P → List Stored → Ask → Type 0) (may : List Stored → Ask → Type 0)
     (name most : ℕ) (chore : Option Chore) (cs : List (Standing P)) (retired many room : ℕ) : Type 0 where
   pub live : NoneOver cs

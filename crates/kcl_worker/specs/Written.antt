@@ -1,4 +1,5 @@
--- The answer to a write of a row, in the form in which a worker uses it.
+-- The answer to a command that may write a row, in the form in which a worker uses it: the row's new counter, an
+-- acceptance without a counter, or a refusal. Of a refusal, it only matters whether it means the loss of the lease.
 use Rattle.std.specs.Prelude.{ℕ, ◌≡◌, ◌&&◌, Bool, if◌then◌else◌, List, Option, Some, None, Result, Ok, Err}
 use Rattle.kcl_defs.specs.declared.consumer.Call.{Call}
 use Rattle.kcl_defs.specs.declared.plans.Held.{Held}
@@ -35,7 +36,8 @@ pub record IsWritten (answer : Result Reply Refusal) (w : Written) : Type 0 wher
   pub held : (now : ℕ) (id : LeaseId) (stage : Stage) (held : List Held)
       → held_after now id stage answer held ≡ held_by now id (is_writing stage) w held
 
--- The leases `held` and the consumers `cs` are those of the state `t`, which is otherwise equal to `s`.
+-- The state `t` has the leases `held`, and its consumers are those for which `cs` stands. In the round, the waiting
+-- command, what was seen and the retired consumers it equals the state `s`.
 pub record Leaves {P : Type 0} (stands : P → List Call → Type 0) (s t : WorkerState) (held : List Held)
     (cs : List (Standing P)) : Type 0 where
   pub held_so : held ≡ t.held
@@ -45,8 +47,8 @@ pub record Leaves {P : Type 0} (stands : P → List Call → Type 0) (s t : Work
   pub seen : t.seen ≡ s.seen
   pub retired : t.retired ≡ s.retired
 
--- If a state has the leases `held` and the consumers `cs`, then after `change` it has the leases `held_after` and the
--- consumers `cs_after`, and is otherwise unchanged.
+-- If a state has the leases `held` and the consumers `cs`, then `change` leads to a state with the leases `held_after`
+-- and the consumers `cs_after`, which is otherwise the same.
 abbrev pub LeadsTo : {P : Type 0} → (P → List Call → Type 0) → (WorkerState → WorkerState) → List Held
     → List (Standing P) → List Held
     → List (Standing P) → Type 0
@@ -54,7 +56,8 @@ LeadsTo stands change held cs held_after cs_after = (s : WorkerState) → held �
     → ConsumersStand stands cs s.consumers
     → Leaves stands s (change s) held_after cs_after
 
--- What the answer to a Take says, or `None` if the row wasn't taken.
+-- `o` has the tenure, the counter and the starting checkpoint that the answer to a Take reports. It is None if the row
+-- wasn't taken.
 abbrev pub IsTaken : Result Reply Refusal → Option Taken → Type 0
 IsTaken (Ok (reply.Taken tenure counter start)) o =
     o ≡ Some (record { tenure = tenure; counter = counter; start = start })

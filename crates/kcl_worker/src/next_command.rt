@@ -20,7 +20,7 @@ use kcl_worker_lists::leases::{counter_of, next_due};
 use kds_base::Moment;
 use kds_defs::Command;
 
-/// Returns the next command of the first consumer whose lease comes after the lease `place`. If there is no such
+/// Returns the next command of the first consumer whose lease comes after the lease `last`. If there is no such
 /// consumer, returns a survey, which begins the next round.
 pub fn from_consumers<P: Processor>(
     consumers: &[Consumer<P>],
@@ -52,7 +52,7 @@ fn renewal_of(h: &Held) -> Command
     }
 }
 
-/// Returns the command that renews the first lease after the lease `place` that is due for renewal. If there is no such
+/// Returns the command that renews the first lease after the lease `last` that is due for renewal. If there is no such
 /// lease, the round goes on to its next part (the consumers), and the next command of that part is returned.
 pub fn from_renewals<P: Processor>(
     consumers: &[Consumer<P>],
@@ -74,7 +74,8 @@ pub fn from_renewals<P: Processor>(
 }
 
 /// Returns the command for the next step of the take plan. If no step is left, the round goes on to its next part (the
-/// renewals), and the next command of that part is returned.
+/// renewals), and the next command of that part is returned. Each consumer must be ready: no call of its processor is
+/// due, and it isn't over. The worker's name must be at least 1.
 pub fn from_takes<P: Processor>(
     made: &WorkerMade,
     takes: &[TakeStep],

@@ -1,4 +1,4 @@
--- The call of the first processor that must be called, and the consumer that absorbs an answer.
+-- The list of a worker's consumers after the first due processor call was made, and after one consumer took an answer.
 use Rattle.std.proofs.Common.{◌≡◌, ℕ, ◌+◌, ◌<◌, ◌++◌, get_or, map, set, take, drop, length, suc, List, ◌∷◌, Ok, Err}
 use Rattle.std.proofs.Common.{sym, ap, ◌∙◌}
 use Rattle.std.specs.Prelude.{OnErr, OnOk, Result, if◌then◌else◌}
@@ -23,6 +23,8 @@ split_at xs i x lt at =
     ∙ ap (λ l. take i xs ++ l) (drop-cons xs i x lt)
     ∙ ap (λ y. take i xs ++ (y ∷ drop (suc i) xs)) (sym at)
 
+-- Let the consumer at the index `i` be the first with a due processor call, and let `d` be this consumer after the
+-- call. Then the list with `d` in its place is the list after the first due call (`FirstCalled`).
 pub first_called : {P : Type 0} (stands : P → List Call → Type 0) (asks : P → List Stored → Ask
     → Type 0) (asked : Ask) (i : ℕ) (cs new : List (Standing P)) (c d : Standing P) → IsFirstDue i cs
     → c ≡ get_or cs i c → new ≡ set cs i d → HasCalled stands asks asked c d → FirstCalled stands asks asked cs new
@@ -38,6 +40,8 @@ first_called stands asks asked i cs new c d f at is has = record {
   has = has;
 }
 
+-- Let the consumer at the index `i` be the first with a due processor call, and let `d` be this consumer after the call
+-- ran out of memory. Then the list with `d` in its place is the list after this call (`FirstUncalled`).
 pub first_uncalled : {P : Type 0} (stands : P → List Call → Type 0) (asks : P → List Stored → Ask
     → Type 0) (i : ℕ) (cs new : List (Standing P)) (c d : Standing P) → IsFirstDue i cs → c ≡ get_or cs i c
     → new ≡ set cs i d → IsAsBefore stands asks c d → FirstUncalled stands asks cs new
@@ -51,22 +55,26 @@ first_uncalled stands asks i cs new c d f at is has = record {
   has = has;
 }
 
+-- If `P` implies `Q`, and `P` holds if the result is a success, `Q` holds if it is a success.
 pub on_ok : {A E : Type 0} (P Q : Type 0) (r : Result A E) → (P → Q) → OnOk r P → OnOk r Q
 on_ok P Q (Ok x) f h = f h
 on_ok P Q (Err e) f h = h
 
+-- If `P` implies `Q`, and `P` holds if the result is an error, `Q` holds if it is an error.
 pub on_err : {A E : Type 0} (P Q : Type 0) (r : Result A E) → (P → Q) → OnErr r P → OnErr r Q
 on_err P Q (Ok x) f h = h
 on_err P Q (Err e) f h = f h
 
 -- ---- A loop that writes over each element
 
+-- Let the first `i` items of `ys` be those of `xs` after `f`, and the others be those of `xs`. If the item at the index
+-- `i` is replaced by its value under `f` as well, the first `i + 1` items are those of `xs` after `f`.
 pub map_over : {X : Type 0} (f : X → X) (xs ys : List X) (i : ℕ) (x y : X) → i < length xs
     → ys ≡ map f (take i xs) ++ drop i xs → x ≡ get_or ys i x → y ≡ f x
     → set ys i y ≡ map f (take (i + 1) xs) ++ drop (i + 1) xs
 map_over f xs ys i x y lt so_far at is = ap (λ z. set ys i z) is ∙ map_over_more f xs ys i x lt so_far at
 
--- ---- The consumer that absorbs
+-- ---- The consumer that takes an answer
 
 pub answered_same : {P : Type 0} (answer : Result Reply Refusal) (c d : Standing P) → d.made ≡ c.made
     → d.stage ≡ after_answer c.made answer c.stage → d.given ≡ given_after answer c.stage c.given

@@ -1,4 +1,5 @@
--- What happens to consumers as the code keeps them.
+-- What happens to a worker's consumers and leases after an answer, a loss or a processor call, in terms of the lists
+-- that callers see.
 use Rattle.std.specs.Prelude.{ℕ, ◌<◌, ◌≡◌, ◌&&◌, Bool, true, false, not, is_some, if◌then◌else◌, List, [], ◌∷◌, ◌++◌}
 use Rattle.std.specs.Prelude.{drop, length, map, take, Option, Some, None, Result}
 use Rattle.std.specs.List.{AllByRecursion, filter, find, list_any, slice_index_or as get_or}
@@ -34,6 +35,7 @@ answered_in answer c =
 abbrev pub is_over_in : {P : Type 0} → Standing P → Bool
 is_over_in c = is_some (over_at c.stage)
 
+-- The reason why a consumer in the stage `Over` has ended. In any other stage the result is `Lost`, and isn't used.
 abbrev pub why_of : Stage → Why
 why_of (Over why) = why
 why_of _ = why.Lost
@@ -83,7 +85,8 @@ pub record IsFirstDue {P : Type 0} (i : ℕ) (cs : List (Standing P)) : Type 0 w
   pub none_due : AllByRecursion (λ c. is_due c ≡ false) (take i cs)
   pub due : (c : Standing P) → c ≡ get_or cs i c → is_due c ≡ true
 
--- The processor of the first consumer that has a due call was called.
+-- The due processor call of the first of the consumers `old` that has one was made, and the processor asked for
+-- `asked`. In `new` this consumer is as it is after the call, and all others are unchanged.
 pub record FirstCalled {P : Type 0} (stands : P → List Call → Type 0) (asks : P → List Stored → Ask
     → Type 0) (asked : Ask)
     (old new : List (Standing P)) : Type 0 where
@@ -117,7 +120,8 @@ held_in now id answer cs held =
     kept_unless_over id (one_of id (answered_among id answer cs))
     (held_after now id (stage_or_opening (one_of id cs)) answer held)
 
--- The processor call of one consumer ran out of memory, and nothing was done.
+-- A due processor call of one of the consumers `old` ran out of memory, so the call is still due and nothing has
+-- changed (`IsAsBefore`). In `new` the other consumers are unchanged, too.
 pub record FirstUncalled {P : Type 0} (stands : P → List Call → Type 0) (asks : P → List Stored → Ask
     → Type 0) (old new : List (Standing P)) : Type 0 where
   pub before : List (Standing P)

@@ -1,4 +1,4 @@
--- The consumers of a worker and those that are over, as lists that callers see.
+-- The consumers of a worker as lists that callers see: those that haven't ended, and what is kept of those that have.
 use Rattle.std.specs.Prelude.{ℕ, Bool, is_some, List, [], ◌∷◌, length, Option, Some, None}
 use Rattle.std.specs.List.{filter, find}
 use Rattle.kds_base.specs.declared.lease_key.ShardRef.{ShardRef}
@@ -9,7 +9,8 @@ use Rattle.kcl_defs.specs.Consumers.{due_call}
 use Rattle.kcl_defs.specs.Workers.{is_giving_stage, is_past}
 use Rattle.kcl_consumer.specs.Standing.{Standing}
 
--- A consumer that is over, with its processor.
+-- What is kept of a consumer that has ended: the key and the tenure of its lease, the reason why it ended, and its
+-- processor.
 pub record Retirement (P : Type 0) : Type 0 where
   pub key : ShardRef
   pub tenure : ℕ

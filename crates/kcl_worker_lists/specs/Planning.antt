@@ -1,4 +1,4 @@
--- What a worker knows and plans after a survey.
+-- What a worker plans after a survey, and which of its leases it keeps.
 use Rattle.std.specs.Prelude.{ℕ, ◌≡◌, Bool, not, List, Option, Some, None, Result, Ok}
 use Rattle.std.specs.List.{filter, list_any}
 use Rattle.kds_base.specs.declared.lease_key.ShardRef.{ShardRef}
@@ -18,10 +18,13 @@ use Rattle.kcl_worker_lists.specs.declared.planning.Planned.{Planned}
 abbrev pub gone : List Row → List Held → List Held
 gone rows held = filter (λ h. not (still_stands rows h)) held
 
--- Whether one of the leases `held` is the lease `id`.
+-- Whether one of the leases `held` has the identity `id`.
 abbrev pub is_among : List Held → LeaseId → Bool
 is_among held id = list_any (λ h. same_id (id_of_held h) id) held
 
+-- `p` is what a worker plans after a survey at `now` that found the shards `shards` and the rows `rows`. Before, the
+-- worker had seen `seen` and had the leases `held`. `p` contains what the worker has seen of each row since, the leases
+-- that it keeps, those whose row is gone or names another tenure, the sync plan, and the take plan.
 pub record IsPlanned (made : WorkerMade) (seen : List Seen) (held : List Held) (shards : List ShardRef)
     (rows : List Row) (now : ℕ) (p : Planned) : Type 0 where
   pub seen_so : (key : ShardRef) → seen_at p.observed key ≡ after_rows rows now (seen_at seen) key
@@ -31,7 +34,8 @@ pub record IsPlanned (made : WorkerMade) (seen : List Seen) (held : List Held) (
   pub takes_so : p.takes
       ≡ take_plan (expiry (seen_at p.observed) now made.settings.failover) made.name p.held.items rows
 
--- The plans were made from the answer if it is a survey's, and nothing was planned after any other answer.
+-- If the answer is that of an accepted survey, `p` exists and is what the worker plans then (`IsPlanned`). After any
+-- other answer there is no plan.
 abbrev pub IsPlannedAfter : WorkerMade → List Seen → List Held → ℕ → Result Reply Refusal → Option Planned → Type 0
 IsPlannedAfter made seen held now (Ok (reply.Survey shards rows)) (Some p) = IsPlanned made seen held shards rows now p
 IsPlannedAfter made seen held now (Ok (reply.Survey shards rows)) None = ⊥

@@ -35,7 +35,7 @@ pub fn id_of<P: Processor>(c: &Consumer<P>) -> LeaseId
     }
 }
 
-/// Returns the first consumer whose lease comes after the lease `place` in the list's order. If `place` is `None`,
+/// Returns the first consumer whose lease comes after the lease `last` in the list's order. If `last` is `None`,
 /// returns the first consumer in the list.
 pub fn first_past<'a, P: Processor>(
     consumers: &'a [Consumer<P>],
@@ -117,7 +117,7 @@ pub fn lose_one<P: Processor>(consumers: &mut Vec<Consumer<P>>, id: &LeaseId)
     }
 }
 
-/// Tells the consumers of each lease in `gone` that the lease is lost.
+/// Tells the consumers of each lease in `lost` that the lease is lost.
 #[tactic(auto, using(crate::proofs::Calls::map_over))]
 pub fn lose_gone<P: Processor>(consumers: &mut Vec<Consumer<P>>, gone: &[Held])
     ensures { consumers.new.items ≡ lost_among (is_among gone.now) consumers.old.items }
@@ -230,7 +230,7 @@ fn insertion_index<P: Processor>(consumers: &[Consumer<P>], c: &Consumer<P>) -> 
     consumers.len()
 }
 
-/// Inserts the consumer `c` at its place in the order of the list. Precondition: memory was reserved for the consumer.
+/// Inserts the consumer `c` at its index in the order of the list. Precondition: memory was reserved for the consumer.
 pub fn add_consumer<P: Processor + Drop>(consumers: &mut Vec<Consumer<P>>, c: Consumer<P>)
     requires { vec_len consumers.old < vec_capacity consumers.old }
     ensures added { consumers.new.items ≡ with_consumer c consumers.old.items }

@@ -32,7 +32,7 @@ pub fn is_before_id(a: &LeaseId, b: &LeaseId) -> bool
     }
 }
 
-/// Whether the lease `id` comes after the lease `place` in the order of the list. If `place` is `None`, the result is
+/// Whether the lease `id` comes after the lease `last` in the order of the list. If `last` is `None`, the result is
 /// `true`.
 pub fn is_past(place: &Option<LeaseId>, id: &LeaseId) -> bool
     ensures { result ≡ is_past place.now id.now }
@@ -126,7 +126,7 @@ fn insertion_index(held: &[Held], h: &Held) -> usize
     held.len()
 }
 
-/// Inserts the lease `h` at its place in the order of the list. Precondition: memory was reserved for the lease.
+/// Inserts the lease `h` at its index in the order of the list. Precondition: memory was reserved for the lease.
 pub fn add_held(held: &mut Vec<Held>, h: Held)
     requires { vec_len held.old < vec_capacity held.old }
     ensures { held.new.items ≡ with_held h held.old.items }

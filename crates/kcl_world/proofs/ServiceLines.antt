@@ -1,4 +1,4 @@
--- The lines of the commands to the stream service leave rows and tenures as they were.
+-- A command to the stream service adds only lines about streams, which change no row and no tenure.
 use Rattle.std.proofs.Common.{◌≡◌, ℕ, true, List, [], ◌∷◌, refl}
 use Rattle.std.specs.List.{AllByRecursion}
 use Rattle.std.specs.Prelude.{is_some, Result, Ok, Err, IfOk}
@@ -20,11 +20,12 @@ use Rattle.kcl_leases.proofs.LeaseSteps.{HasRows, HasTenures, rows_of, stands_of
 use Rattle.kcl_leases.proofs.StreamLines.{rows_beside, tenures_beside}
 use Rattle.kcl_world.specs.Standing.{Leads, world}
 
--- What leases see of the service.
+-- The shards of the service `s` as the commands on leases see them: its clock, and the journals that lead to its
+-- streams.
 abbrev pub seen : ServiceValue → Facing
 seen s = facing s.clock (ShowsAll s)
 
--- Each of the lines is about a stream.
+-- Each of the lines is about a stream, and not about a lease.
 abbrev AreOfStreams : List Line → Type 0
 AreOfStreams lines = AllByRecursion (λ line. is_some (stream_of line.what) ≡ true) lines
 
@@ -40,7 +41,7 @@ service_lines log c by what h =
     each_line (λ line. is_some (stream_of line.what) ≡ true) log c by what
     (λ line added. service_line log c by what line added h)
 
--- ---- What lines of streams leave
+-- ---- Lines about streams change no row and no tenure
 
 rows_along : (rs : List Row) (lines : List Line) (log : Journal) → AreOfStreams lines → HasRows log rs
     → HasRows (with_lines lines log) rs
@@ -54,7 +55,8 @@ tenures_along ts [] log of has = has
 tenures_along ts (line ∷ lines) log of has =
     tenures_along ts lines (line ∷ log) of.1 (tenures_beside log line ts (of_some (stream_of line.what) of.0) has)
 
--- If a command leads the service from one state to another, it leads the whole machine so.
+-- If a command to the stream service leads the service from `s` to `s'`, it leads the machine with `s` to the machine
+-- with `s'`, with the same rows and tenures and the same answer.
 pub service_leads : {E : Type 0} (r : Result (Result Reply Refusal) E) (s s' : ServiceValue) (rs : List Row)
     (ts : List TenureValue) (by : ℕ) (what : Command)
     → is_service what ≡ true → IfOk r (service.Leads s s' what)

@@ -1,4 +1,5 @@
--- The machine before and after a turn.
+-- If the machine stands for a history, it stands after a turn for the history with this turn. A turn raises the clock,
+-- applies the command, and settles one stream (its trimmed records are dropped).
 use Rattle.std.proofs.Common.{◌≡◌, ℕ, zero, suc, max, List, [], ◌∷◌, length, None, refl, sym, ap, subst, ◌∙◌, arith}
 use Rattle.std.specs.Prelude.{Result}
 use Rattle.std.specs.Option.{option_map}
@@ -21,7 +22,7 @@ no_tenure : (t : ℕ) → option_map kept None ≡ tenure_at [] t
 no_tenure zero = refl
 no_tenure (suc n) = refl
 
--- A machine without streams and leases has answered nothing.
+-- A machine without streams, rows and tenures, whose clock is 0, stands for the history without turns.
 pub stands_new : (s : ServiceValue) → s.clock ≡ 0 → s.next_to_settle ≡ 0 → ShowsAll s [] → StandsFor (world s [] []) []
 stands_new s clock first shows = record {
   clock_is = clock;
@@ -35,20 +36,22 @@ stands_new s clock first shows = record {
       (record { count_is = refl; few = omega arith; tenure_is = no_tenure; given = λ t. tt });
 }
 
--- A machine still stands for a journal at another clock.
+-- If the machine with the service `s` stands for a journal, and this journal also leads to the streams of the service
+-- `s'`, then the machine with `s'` and the same rows and tenures stands for it.
 pub stands_at : (s s' : ServiceValue) (rs : List Row) (ts : List TenureValue) (log : Journal)
     → Stands (world s rs ts) log → ShowsAll s' log → Stands (world s' rs ts) log
 stands_at s s' rs ts log st shows =
     stands_of (seen s') rs ts log shows (rows_of (seen s) rs ts log st) (tenures_of (seen s) rs ts log st)
 
--- What each part of a turn, which are the clock's, the command's and the settling, makes of the index of the stream
--- that is settled next.
+-- The index of the stream that is settled next changes only when a stream is settled, and is then the next one in a
+-- circle. The four services are those before the turn, at the turn's clock, after the command, and after the settling.
 abbrev pub TakesTurns : ServiceValue → ServiceValue → ServiceValue → ServiceValue → Type 0
 TakesTurns s at mid last = (at.next_to_settle ≡ s.next_to_settle) × (mid.next_to_settle ≡ at.next_to_settle)
     × (last.next_to_settle ≡ next_in_turn (length mid.streams) mid.next_to_settle)
 
--- The machine stands for the history with the turn added. The services are those before the turn, at its clock, after
--- the command, and settled.
+-- If each part of a turn does what its contract says, the answer is that of the definitions, and the machine stands for
+-- the history with the turn. The services `s`, `at`, `mid` and `last` are those before the turn, at the turn's clock,
+-- after the command, and after the settling.
 pub turn_done : (s at mid last : ServiceValue) (rs rs' : List Row) (ts ts' : List TenureValue) (h : List Turn)
     (turn : Turn) (gives : Result Reply Refusal) → StandsFor (world s rs ts) h
     → ShowsAll at (journal h) → at.clock ≡ max s.clock turn.at
@@ -71,7 +74,8 @@ turn_done s at mid last rs rs' ts ts' h turn gives stood shows at_is led mid_is 
       },
     )
 
--- The same holds for some history.
+-- If a machine stands for some history, it stands for some history after one more turn. The services `s`, `at`, `mid`
+-- and `last` are those before the turn, at the turn's clock, after the command, and after the settling.
 pub turn_stands : (s at mid last : ServiceValue) (rs rs' : List Row) (ts ts' : List TenureValue) (turn : Turn)
     (gives : Result Reply Refusal) → ((h : List Turn) × StandsFor (world s rs ts) h)
     → ((log : Journal) → ShowsAll s log → ShowsAll at log) → at.clock ≡ max s.clock turn.at

@@ -1,4 +1,4 @@
--- Each moment has one text.
+-- Each moment (a time in milliseconds) has exactly one text that is read as it.
 use Rattle.std.proofs.Common.{◌≡◌, ℕ, ◌<◌, ◌^◌, List, Option, Some, None, refl, ap, ◌∙◌, arith, decimal, inl, inr}
 use Rattle.std.proofs.lemmas.Grind.{common_steps}
 use Rattle.std.proofs.lemmas.Bool.{cases_Bool}
@@ -21,13 +21,13 @@ moment_of_text (Some n) text at e h =
     let d = decimal_of_number text n e in
     (d.0 ∙ ap decimal t.0, t.1)
 
--- A text that reads as the moment `at` is the decimal text of `at`.
+-- If `text` is read as the moment `at`, `text` is the decimal text of `at`, and `at` is below 2^62.
 pub moment_spells : (text : List ℕ) (at : ℕ) → moment_of text ≡ Some at → (text ≡ decimal at) × (at < 2 ^ 62)
 moment_spells text at h = moment_of_text (number_of 64 text) text at refl h
 
 in_time_again : (at : ℕ) → at < 2 ^ 62 → in_time at ≡ Some at
 in_time_again at small = grind (arith, common_steps)
 
--- The decimal text of the moment `at` reads as `at`.
+-- If `at` is below 2^62, its decimal text is read as the moment `at`.
 pub moment_again : (at : ℕ) → at < 2 ^ 62 → moment_of (decimal at) ≡ Some at
 moment_again at small = ap (option_and_then in_time) (number_of_decimal at (omega arith)) ∙ in_time_again at small

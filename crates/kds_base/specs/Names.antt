@@ -8,14 +8,15 @@ use Rattle.std.specs.List.{list_all}
 abbrev pub is_name_byte : ℕ → Bool
 is_name_byte b = is_ascii_alphanumeric b || b == 95 || b == 46 || b == 45
 
--- Whether `text` is a name: it has 1 to 128 bytes, and `is_name_byte` holds for each.
+-- Whether `text` is a name: it has 1 to 128 bytes, each of which is an ASCII letter or digit, `_`, `.` or `-`
+-- (`is_name_byte`).
 abbrev pub is_name : List ℕ → Bool
 is_name text = nat_lt 0 (length text) && nat_le (length text) 128 && list_all is_name_byte text
 
--- The text `text` is a name.
+-- The text `text` is a name: it has 1 to 128 bytes, each an ASCII letter or digit, `_`, `.` or `-`.
 abbrev pub IsName : List ℕ → Type 0
 IsName text = is_name text ≡ true
 
--- The name that `text` is, or `None` if `text` isn't a name.
+-- The text `text` if it is a name, and `None` if it isn't.
 abbrev pub name_of : List ℕ → Option (List ℕ)
 name_of text = if is_name text then Some text else None

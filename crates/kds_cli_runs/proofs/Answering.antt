@@ -1,4 +1,6 @@
--- What the reading of an input tells of a run of the schedule.
+-- If the reading of a schedule ended with an outcome, the status of this outcome is right for what was written
+-- (`TellsBy`) and for what was run (`RanBy`). The judgement of texts (`judge`) has the lines of a schedule among them,
+-- up to the first text that is no line, and how the schedule ends.
 use Rattle.std.proofs.Common.{◌≡◌, ℕ, ◌+◌, List, [], ◌∷◌, ◌++◌, length, Option, Some, None, refl, sym, ap, ◌∙◌, subst}
 use Rattle.std.proofs.Common.{inl, inr}
 use Rattle.std.proofs.lemmas.List.{append_assoc, append-nil}
@@ -28,29 +30,33 @@ use Rattle.kcl_sim.specs.Taking.{judged_texts, Broke, Took, IsNoLine}
 use Rattle.kds_cli_runs.specs.Answered.{status_of, AreHandedOn, HasMade, Remains, RanBy, RanSafely}
 use Rattle.kds_cli_runs.specs.Told.{TellsBy, IsReplayStatus}
 
--- What a line after the lines before it means.
+-- A premise of the lemmas here: if all texts of a list are lines of a schedule, the judgement of these texts and of
+-- more texts is that of the further texts, with the lines of the first texts in front.
 abbrev pub JudgesOn : Type 0
 JudgesOn = (texts more : List (List ℕ)) (end : End) → (judged_texts texts).ending ≡ whole
     → judge 0 (texts ++ more) end ≡ preceded_by (judged_texts texts).lines (judge (length texts) more end)
 
--- What is written for more lines goes on from what is written for fewer.
+-- A premise of the lemmas here: the output for some lines is a prefix of the output for these and more lines.
 abbrev pub OutputsOn : (List Line → List ℕ) → Type 0
 OutputsOn output = (ls ks : List Line) → GoesOn (output ls) (output (ls ++ ks))
 
+-- If the answers to the lines `ls` and then `ks` are those to `ls`, followed by those to `ks`, `OutputsOn` holds for
+-- the answers.
 pub outputs_grow : ((ran : Ran) (ls ks : List Line)
     → outputs ran (ls ++ ks) ≡ outputs ran ls ++ outputs (with_schedule ran ls) ks) → OutputsOn (outputs fresh)
 outputs_grow on ls ks = (outputs (with_schedule fresh ls) ks, on fresh ls ks)
 
--- ---- Where memory ran out
+-- ---- Memory ran out
 
--- The texts that were taken are all lines.
+-- If memory ran out, each of the texts that were taken before is a line of a schedule.
 all_lines : (s : SimValue) (texts rest : List (List ℕ))
     → HasTaken outcome.Memory (λ t. Took s t) (λ t x. Broke s t x) texts rest
     → (judged_texts texts).ending ≡ whole
 all_lines s texts rest (inl t) = t.are_lines
 all_lines s texts rest (inr part) = part.3.are_lines
 
--- The text in whose middle memory ran out is a line too.
+-- If the next text, at which memory ran out, is a line of a schedule, it is the first line of the judgement of the
+-- texts that weren't taken.
 next_line : (n : ℕ) (rest later : List (List ℕ)) (text : List ℕ) (line : Line) (end : End) → rest ≡ text ∷ later
     → line_of text ≡ Some line
     → (judge n rest end).lines ≡ line ∷ (judge (n + 1) later end).lines
@@ -71,25 +77,29 @@ made_broken s texts rest end (inr part) =
     )
 
 module _ (output : List Line → List ℕ) (more : JudgesOn) (grows : OutputsOn output) where
-  -- What is written for a schedule, and for texts of lines.
+  -- The output for the schedule with the bytes `bytes`.
   abbrev shown : List ℕ → List ℕ
   shown bytes = output (judged bytes).lines
 
+  -- The output for the schedule with the texts `texts` as its lines.
   abbrev texts_shown : List (List ℕ) → List ℕ
   texts_shown texts = output (judged_texts texts).lines
 
-  -- How the reading of the schedule's lines ended.
+  -- The reading of the schedule `bytes` by the run `s` ended with an outcome (`Told`). The bytes `left` are left, and
+  -- the sink's bytes went from `held` to `now`.
   abbrev pub Reads : Outcome → List ℕ → Option (List ℕ) → Option (List ℕ) → Option (List ℕ) → SimValue → Type 0
   Reads o bytes left held now s = Told o (λ t. Took s t) (λ t x. Broke s t x) IsNoLine texts_shown bytes left held now
 
-  -- The schedule's judgement after the first of its lines.
+  -- If the first texts of the schedule `bytes` are all lines, the judgement of the schedule is that of the other texts,
+  -- with the lines of the first texts in front.
   after : (bytes : List ℕ) (texts rest : List (List ℕ)) → (judged_texts texts).ending ≡ whole
       → (lined bytes).texts ≡ texts ++ rest
       → judged bytes ≡ preceded_by (judged_texts texts).lines (judge (length texts) rest (lined bytes).end)
   after bytes texts rest are parts =
       ap (λ ts. judge 0 ts (lined bytes).end) parts ∙ more texts rest (lined bytes).end are
 
-  -- The schedule has these lines and no more, and ends with `e`.
+  -- If the first texts of the schedule `bytes` are all lines, and no line comes after them, the schedule has just these
+  -- lines and the ending `e`.
   no_more : (bytes : List ℕ) (texts rest : List (List ℕ)) (e : Ending) → (judged_texts texts).ending ≡ whole
       → (lined bytes).texts ≡ texts ++ rest
       → judge (length texts) rest (lined bytes).end ≡ record { lines = []; ending = e }
@@ -107,7 +117,7 @@ module _ (output : List Line → List ℕ) (more : JudgesOn) (grows : OutputsOn 
   at_no_line n rest later t end is none =
       ap (λ r. judge n r end) is ∙ ap (λ o. judge_form n o (judge (n + 1) later end)) none
 
-  -- All of the output was written.
+  -- If all of the output but the part `back` was written, and `back` is empty, all of the output was written.
   all_written : (all front back : List ℕ) (held now : Option (List ℕ)) → all ≡ front ++ back → back ≡ []
       → Appends held now front → Appends held now all
   all_written all front back held now parts none w =
@@ -123,7 +133,8 @@ module _ (output : List Line → List ℕ) (more : JudgesOn) (grows : OutputsOn 
         (all_written (output ls) front back held now parts none w),
   )
 
-  -- A prefix of the output was written.
+  -- If a first part of the output for the first lines was written, it is a first part of the output for the whole
+  -- schedule.
   front_written : (bytes : List ℕ) (ls later : List Line) (front back : List ℕ) (held now : Option (List ℕ))
       → (judged bytes).lines ≡ ls ++ later
       → output ls ≡ front ++ back → Appends held now front → AppendsFront held now (shown bytes)
@@ -131,6 +142,8 @@ module _ (output : List Line → List ℕ) (more : JudgesOn) (grows : OutputsOn 
       let g = grows ls later in
       (front, back ++ g.0, ap output lines ∙ g.1 ∙ ap (λ z. z ++ g.0) parts ∙ append_assoc front back g.0, w)
 
+  -- If the reading of the schedule `bytes` ended with the outcome `o`, the status of this outcome is right for the
+  -- bytes and for what was written (`TellsBy`).
   pub tells : (o : Outcome) (bytes : List ℕ) (left held now : Option (List ℕ)) (s : SimValue)
       → Reads o bytes left held now s
       → TellsBy shown (status_of o) bytes left held now
@@ -188,6 +201,8 @@ module _ (output : List Line → List ℕ) (more : JudgesOn) (grows : OutputsOn 
     remains = remains;
   }
 
+  -- If the reading of the schedule `bytes` ended with the outcome `o`, the first lines were run and a first part of the
+  -- output for them was written (`RanBy`), with the status of this outcome.
   pub ran_so : (o : Outcome) (bytes : List ℕ) (left held now : Option (List ℕ)) (s : SimValue)
       → Reads o bytes left held now s
       → RanBy output (status_of o) bytes held now s
@@ -221,23 +236,29 @@ module _ (output : List Line → List ℕ) (more : JudgesOn) (grows : OutputsOn 
       ran_with outcome.Memory bytes left held now s t (all_lines s t.texts t.rest t.taken)
       (made_broken s t.texts t.rest (lined bytes).end t.taken) tt
 
+  -- If the source tells its bytes, and the reading of them ended with the outcome `o`, `TellsBy` holds of them with the
+  -- status of this outcome.
   pub tells_all : (o : Outcome) (all left held now : Option (List ℕ)) (s : SimValue)
       → IfSome all (λ bytes. Reads o bytes left held now s)
       → IfSome all (λ bytes. TellsBy shown (status_of o) bytes left held now)
   tells_all o None left held now s t = tt
   tells_all o (Some bytes) left held now s t = tells o bytes left held now s t
 
+  -- If the source tells its bytes, and the reading of them ended with the outcome `o`, `RanBy` holds of them with the
+  -- status of this outcome.
   pub ran_all : (o : Outcome) (all left held now : Option (List ℕ)) (s : SimValue)
       → IfSome all (λ bytes. Reads o bytes left held now s)
       → IfSome all (λ bytes. RanBy output (status_of o) bytes held now s)
   ran_all o None left held now s t = tt
   ran_all o (Some bytes) left held now s t = ran_so o bytes left held now s t
 
+-- The status of each outcome is one with which a replay may end.
 pub replays : (o : Outcome) → IsReplayStatus (status_of o)
 replays outcome.Whole = tt
 replays _ = tt
 
--- The turns of the first lines are lawful, also if memory ran out in the middle of the next line.
+-- A premise of the lemmas here: if memory ran out in the middle of a line of the schedule `bytes`, after the first
+-- lines `lines`, the turns that were made are lawful.
 abbrev pub LawfulPart : Type 0
 LawfulPart = (bytes : List ℕ) (lines later : List Line) (line : Line) (s : SimValue)
     → (judged bytes).lines ≡ lines ++ line ∷ later
@@ -255,7 +276,9 @@ history_made status.Memory bytes lines later s lawful part parts (inr made) =
 history_made _ bytes lines later s lawful part parts made =
     subst IsHistory (sym made.history) (lawful bytes lines later parts)
 
--- The laws of every schedule.
+-- The premises of the lemmas here on each schedule. The turns of its first lines are lawful, also with a part of the
+-- next line (`part`). After lawful turns, the state is safe. After its first lines, the processors were called for the
+-- given reads, and `AreHandedOn` holds.
 pub record Laws : Type 0 where
   pub lawful : (bytes : List ℕ) (lines later : List Line) → (judged bytes).lines ≡ lines ++ later
       → IsHistory (with_schedule fresh lines).history
@@ -265,7 +288,8 @@ pub record Laws : Type 0 where
       → AreAllServed (with_schedule fresh lines)
   pub handed : (bytes : List ℕ) → AreHandedOn bytes
 
--- The state of the turns that ran is safe, and the processors were called for what is given.
+-- If the first lines of a schedule were run as `RanBy` states, the state after the turns is safe, the processors were
+-- called for the given reads, and `IsHandedOn` holds (`RanSafely`).
 pub run_safely : (output : List Line → List ℕ) (status : Status) (bytes : List ℕ) (held now : Option (List ℕ))
     (s : SimValue)
     → Laws → RanBy output status bytes held now s → RanSafely output status bytes held now
@@ -277,6 +301,7 @@ run_safely output status bytes held now s laws so = record {
   handed = laws.handed bytes so.lines so.later so.parts;
 }
 
+-- If the source tells its bytes, and `RanBy` holds of a run of them, `RanSafely` holds of this run.
 pub ran_safely : (output : List Line → List ℕ) (status : Status) (all held now : Option (List ℕ)) (s : SimValue)
     → Laws → IfSome all (λ bytes. RanBy output status bytes held now s)
     → IfSome all (λ bytes. RanSafely output status bytes held now)

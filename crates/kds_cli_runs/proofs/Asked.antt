@@ -1,4 +1,4 @@
--- The end of a task is that of words that ask for it.
+-- What is known of the end of a task is known of the end of the program whose words ask for this task.
 use Rattle.std.proofs.Common.{◌≡◌, ℕ, true, false, List, Option, Some, None, refl, inl, inr, ap, ◌∙◌, subst}
 use Rattle.std.specs.Option.{IfSome}
 use Rattle.kds_ends.specs.declared.status.Status.{Status}
@@ -12,19 +12,21 @@ use Rattle.kds_cli_runs.specs.Ends.{Performed, Replayed, TaskEnds, reads_input, 
 use Rattle.kds_cli_runs.specs.Program.{asks_for_door, asks_for_input}
 use Rattle.kds_cli_runs.specs.Journal.{IsAuditedSound}
 
--- What is true of the task for which the words ask is true of what they ask for.
+-- If `P` holds of the task for which the words ask, it holds of what they ask for.
 pub asked_so : (P : Task → Type 0) (asked : Option Task) (task : Task) → Some task ≡ asked → P task → IfSome asked P
 asked_so P asked task is p = subst (λ (o : Option Task). IfSome o P) is p
 
--- Words that don't ask for a door or an input have no task that needs it.
+-- If the words don't ask for a door to be served, their task doesn't serve one.
 pub no_door : (asked : Option Task) (task : Task) → Some task ≡ asked → asks_for_door asked ≡ false
     → serves_door task ≡ false
 no_door asked task is none = ap asks_for_door is ∙ none
 
+-- If the words don't ask for the input to be read, their task doesn't read it.
 pub no_input : (asked : Option Task) (task : Task) → Some task ≡ asked → asks_for_input asked ≡ false
     → reads_input task ≡ false
 no_input asked task is none = ap asks_for_input is ∙ none
 
+-- If the words ask for `x`, they don't ask for nothing.
 pub not_none : {A : Type 0} (x : A) (o : Option A) → Some x ≡ o → o ≡ None → ⊥
 not_none x o is none = cc
 
@@ -32,13 +34,14 @@ sound_so : (status : Status) (input out : Around (Option (List ℕ))) → Replay
     → IfSome input.before IsAuditedSound
 sound_so status input out r done = r.sound refl done
 
--- A journal that was asked for and is whole is sound.
+-- If the words ask for a replay that writes the journal, and it ended with Done, an audit finds this journal sound,
+-- unless it is too long for an audit.
 pub sound_by : (asked : Option Task) (status : Status) (ends : TaskEnds) → IfSome asked (λ t. Performed t status ends)
     → asked ≡ Some (Replay true) → status ≡ Done → IfSome ends.input.before IsAuditedSound
 sound_by asked status ends p is done =
     sound_so status ends.input ends.out (subst (λ (o : Option Task). IfSome o (λ t. Performed t status ends)) is p) done
 
--- Memory that runs out before anything is read completes each task.
+-- Each task may end with Memory, whatever its input is (`Completed`).
 pub none_completed : (task : Task) (bytes : Option (List ℕ)) → Completed task Memory bytes
 none_completed (Replay journal) bytes = each _ (λ bs. inr refl) bytes
 none_completed Answer bytes = each _ (λ bs ms ending falls. inr refl) bytes
@@ -46,7 +49,8 @@ none_completed Audit bytes = each _ (λ bs. inr refl) bytes
 none_completed (Serve port passes) bytes = refl
 none_completed (Drill number workers records) bytes = inr refl
 
--- The end of a task whose door doesn't listen is one of a task whose door may listen.
+-- If a task ended with Memory and its door listened at no port, `Performed` holds for the task also if the door may
+-- listen at ports.
 pub listens_or_not : (task : Task) (input out : Around (Option (List ℕ))) (moments : Option (List ℕ)) (listens : ℕ
     → Type 0)
     → Performed task Memory (record { input = input; out = out; moments = moments; listens = λ port. ⊥ })

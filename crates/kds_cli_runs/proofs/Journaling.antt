@@ -1,4 +1,5 @@
--- What the writing of a journal tells, by its parts.
+-- A replay that writes the journal has written the first line, the entries and the last line, or a first part of them,
+-- as its status says (`JournalTells`, `RanBy`).
 use Rattle.std.proofs.Common.{◌≡◌, ◌≢◌, ◌<◌, ℕ, true, false, List, [], ◌∷◌, ◌++◌, length, Option, Some, None, refl, sym}
 use Rattle.std.proofs.Common.{ap, ◌∙◌, subst, inl, arith}
 use Rattle.std.proofs.lemmas.List.{append_assoc, append-nil, length-append}
@@ -26,10 +27,11 @@ use Rattle.kds_cli_runs.specs.Journal.{EndTells, IsAuditedSound, JournalTells, e
 use Rattle.kds_cli_runs.specs.Journal.{recorded}
 use Rattle.kds_cli_runs.specs.Told.{TellsBy}
 
+-- If nothing is written, a first part of any text is written, the empty one.
 pub nothing_written : (held : Option (List ℕ)) (xs : List ℕ) → AppendsFront held held xs
 nothing_written held xs = ([], xs, refl, Appends-nil held)
 
--- ---- A front that isn't all
+-- ---- A first part that isn't the whole text
 
 longer : (xs ys : List ℕ) → 0 < length ys → 0 < length (xs ++ ys)
 longer xs ys some = let both = length-append xs ys in omega arith
@@ -40,15 +42,16 @@ some_last c = longer (end_spelling c) (10 ∷ []) (omega arith)
 some_behind : (xs : List ℕ) (c : ℕ) → 0 < length (xs ++ last_line c)
 some_behind xs c = longer xs (last_line c) (some_last c)
 
--- Nothing of the last line was written.
+-- If nothing of the last line was written, a first part of it was written that isn't the whole line (`AppendsPart`).
 no_last : (c : ℕ) (held now : Option (List ℕ)) → Appends held now [] → AppendsPart held now (last_line c)
 no_last c held now e = ([], last_line c, some_last c, refl, e)
 
+-- If nothing is written, a first part of the journal of the history `h` is written that isn't the whole journal.
 pub nothing_recorded : (h : List Turn) (held : Option (List ℕ)) → AppendsPart held held (journal_text h)
 nothing_recorded h held =
     ([], journal_text h, some_behind (first_line ++ entries_text (history_entries h)) (clock h), refl, Appends-nil held)
 
--- ---- The first line
+-- ---- The first line of the journal
 
 broke_first : (bytes : List ℕ) (left held now : Option (List ℕ)) → AppendsFront held now first_line
     → JournalTells Write bytes left held now
@@ -56,17 +59,19 @@ broke_first bytes left held now f =
     front_part held now first_line (entries bytes ++ last_line (clock (history bytes))) f
     (some_behind (entries bytes) (clock (history bytes)))
 
+-- If only a first part of the journal's first line was written, `JournalTells` holds with Write.
 pub first_broke : (all left held now : Option (List ℕ)) (line : List ℕ) → line ≡ first_line → AppendsFront held now line
     → IfSome all (λ bytes. JournalTells Write bytes left held now)
 first_broke None left held now line is f = tt
 first_broke (Some bytes) left held now line is f =
     broke_first bytes left held now (subst (λ (l : List ℕ). AppendsFront held now l) is f)
 
+-- If `line` is the journal's first line, and it was written, the first line was written.
 pub first_there : (held now : Option (List ℕ)) (line : List ℕ) → line ≡ first_line → Appends held now line
     → Appends held now first_line
 first_there held now line is h = subst (λ (l : List ℕ). Appends held now l) is h
 
--- ---- And then the entries
+-- ---- The entries after the first line
 
 part_of_all : (bytes : List ℕ) (held now : Option (List ℕ)) → AppendsFront held now (first_line ++ entries bytes)
     → AppendsPart held now (journal_text (history bytes))
@@ -84,6 +89,8 @@ begins Write bytes left a b c not_done h t = part_of_all bytes a c (front_later 
 begins Memory bytes left a b c not_done h t = part_of_all bytes a c (front_later a b c first_line (entries bytes) h t)
 begins _ bytes left a b c not_done h t = absurd t
 
+-- If the first line was written, and then the entries, with a status `st` other than Done, `JournalTells` holds with
+-- `st`.
 pub begins_all : (st : Status) (all left a b c : Option (List ℕ)) (line : List ℕ) → line ≡ first_line → (st ≡ Done → ⊥)
     → Appends a b line
     → IfSome all (λ bytes. TellsBy entries st bytes left b c) → IfSome all (λ bytes. JournalTells st bytes left a c)
@@ -91,9 +98,9 @@ begins_all st None left a b c line is not_done h t = tt
 begins_all st (Some bytes) left a b c line is not_done h t =
     begins st bytes left a b c not_done (subst (λ (l : List ℕ). Appends a b l) is h) t
 
--- ---- And the last line
+-- ---- The last line after the entries
 
--- All turns of the schedule ran.
+-- If a replay of the schedule `bytes` ended with Done, all turns of the schedule were made.
 all_ran : (bytes : List ℕ) (b c : Option (List ℕ)) (s : SimValue) → RanBy lines_journal Done bytes b c s
     → s.history ≡ history bytes
 all_ran bytes b c s r =
@@ -117,6 +124,8 @@ ends_at Memory bytes left a b c d h t e =
     (no_last (clock (history bytes)) c d e)
 ends_at _ bytes left a b c d h t e = absurd e
 
+-- Let the first line, given as `line`, and then all entries be written. If the last line was then written as `EndTells`
+-- states for the status `st`, `JournalTells` holds with `st`.
 pub ends_all : (st : Status) (all left a b c d : Option (List ℕ)) (line : List ℕ) (s : SimValue) (last : ℕ)
     → line ≡ first_line → last ≡ clock s.history → Appends a b line
     → IfSome all (λ bytes. TellsBy entries Done bytes left b c)
@@ -127,7 +136,8 @@ ends_all st (Some bytes) left a b c d line s last is at h t r e =
     ends_at st bytes left a b c d (subst (λ (l : List ℕ). Appends a b l) is h) t
     (subst (λ (n : ℕ). EndTells st n c d) (at ∙ ap clock (all_ran bytes b c s r)) e)
 
--- The entries were written to the end, and then the last line.
+-- Let the first line be written, and then all entries, with the status `entered`, which is Done. If the last line was
+-- then written as `EndTells` states for the status `st`, `JournalTells` holds with `st`.
 pub ends_with : (entered st : Status) (all left a b c d : Option (List ℕ)) (s : SimValue) (last : ℕ) → entered ≡ Done
     → last ≡ clock s.history → Appends a b first_line
     → IfSome all (λ bytes. TellsBy entries entered bytes left b c)
@@ -138,22 +148,27 @@ ends_with entered st all left a b c d s last done at h t r e =
     (subst (λ (x : Status). IfSome all (λ bytes. TellsBy entries x bytes left b c)) done t)
     (subst (λ (x : Status). IfSome all (λ bytes. RanBy lines_journal x bytes b c s)) done r) e
 
+-- Write isn't Done.
 pub no_write : Write ≡ Done → ⊥
 no_write h = cc
 
+-- False isn't true.
 pub false_true : false ≡ true → ⊥
 false_true h = absurd cc
 
+-- If the test `is_done` is true of a status, the status is Done.
 pub done_by : (st : Status) → is_done st ≡ true → st ≡ Done
 done_by Done h = refl
 done_by _ h = absurd (false_true h)
 
+-- If the test `is_done` is false of a status, the status isn't Done.
 pub not_done_by : (st : Status) → is_done st ≡ false → st ≡ Done → ⊥
 not_done_by st h is = absurd (false_true (sym h ∙ ap is_done is))
 
--- ---- The numbers of the turns
+-- ---- The numbers in the turns
 
--- All of the schedule's turns ran, so what is true of the history is true of the schedule's.
+-- If the replay ended with Done, and the numbers in the turns that were made fit into their types (`HaveBits`), so do
+-- the numbers in all turns of the schedule.
 pub bits_all : (entered : Status) (all b c : Option (List ℕ)) (s : SimValue) → entered ≡ Done → HaveBits s.history
     → IfSome all (λ bytes. RanBy lines_journal entered bytes b c s) → IfSome all (λ bytes. HaveBits (history bytes))
 bits_all entered None b c s done a r = tt
@@ -161,7 +176,8 @@ bits_all entered (Some bytes) b c s done a r =
     subst (λ (z : List Turn). HaveBits z)
     (all_ran bytes b c s (subst (λ (x : Status). RanBy lines_journal x bytes b c s) done r)) a
 
--- The journal of such a history is sound.
+-- If the turns of each schedule are lawful, and the numbers in the turns of this one fit into their types (`HaveBits`),
+-- an audit finds its journal sound, unless it is too long for an audit.
 pub audited_all : (all : Option (List ℕ)) → ((bytes : List ℕ) → IsHistory (history bytes))
     → ((h : List Turn) → IsHistory h → HaveBits h → audit_of (journal_text h) ≢ over
     → audit_of (journal_text h) ≡ sound (counted 0 (history_entries h)))
@@ -180,7 +196,8 @@ between first all front back rest e =
     ap (λ z. first ++ (z ++ rest)) e ∙ ap (λ z. first ++ z) (append_assoc front back rest)
     ∙ sym (append_assoc first front (back ++ rest))
 
--- Entries that weren't written to the end stand behind the first line.
+-- If the first line was written, and then the entries of the lines that were run (`RanBy`), with a status other than
+-- Done, `RanBy` holds for the output that also has the first line.
 ran_behind : (st : Status) (bytes : List ℕ) (a b c : Option (List ℕ)) (s : SimValue) → (st ≡ Done → ⊥)
     → Appends a b first_line
     → RanBy lines_journal st bytes b c s → RanBy (recorded st) st bytes a c s
@@ -221,6 +238,8 @@ ran_behind _ bytes a b c s not_done h r = record {
   remains = r.remains;
 }
 
+-- If the source tells its bytes, `RanBy` for the entries alone gives `RanBy` for the first line and the entries. The
+-- status must be other than Done, and the first line must have been written before.
 pub ran_behind_all : (st : Status) (all a b c : Option (List ℕ)) (s : SimValue) → (st ≡ Done → ⊥)
     → Appends a b first_line
     → IfSome all (λ bytes. RanBy lines_journal st bytes b c s)
@@ -228,7 +247,8 @@ pub ran_behind_all : (st : Status) (all a b c : Option (List ℕ)) (s : SimValue
 ran_behind_all st None a b c s not_done h r = tt
 ran_behind_all st (Some bytes) a b c s not_done h r = ran_behind st bytes a b c s not_done h r
 
--- All entries were written, and the last line.
+-- If the first line was written, and then all entries of the lines that were run, the output is the first line followed
+-- by these entries.
 ran_whole : (bytes : List ℕ) (a b c : Option (List ℕ)) (s : SimValue) → Appends a b first_line
     → (r : RanBy lines_journal Done bytes b c s)
     → Appends a c (first_line ++ lines_journal r.lines)
@@ -285,6 +305,8 @@ ran_ended_all st None a b c d s last at h r e = tt
 ran_ended_all st (Some bytes) a b c d s last at h r e =
     ran_ended st bytes a b c d s h r (subst (λ (n : ℕ). EndTells st n c d) (at ∙ ap clock r.made.history) e)
 
+-- Let the first line and all entries be written. If the last line was then written as `EndTells` states for the status
+-- `st`, `RanBy` holds with `st` for the output that has the first and the last line too.
 pub ran_ends_with : (entered st : Status) (all a b c d : Option (List ℕ)) (s : SimValue) (last : ℕ) → entered ≡ Done
     → last ≡ clock s.history → Appends a b first_line
     → IfSome all (λ bytes. RanBy lines_journal entered bytes b c s) → EndTells st last c d
@@ -293,7 +315,7 @@ ran_ends_with entered st all a b c d s last done at h r e =
     ran_ended_all st all a b c d s last at h
     (subst (λ (x : Status). IfSome all (λ bytes. RanBy lines_journal x bytes b c s)) done r) e
 
--- No line was run.
+-- If no line was run, and only a first part of the first line was written, `RanBy` holds with Write.
 none_ran : (bytes : List ℕ) (a b : Option (List ℕ)) (s : SimValue) → RunsSo s fresh → AppendsFront a b first_line
     → RanBy (recorded Write) Write bytes a b s
 none_ran bytes a b s made f =
@@ -310,6 +332,8 @@ none_ran bytes a b s made f =
       remains = tt;
     }
 
+-- If the source tells its bytes, no line was run, and only a first part of the first line was written, `RanBy` holds of
+-- these bytes with Write.
 pub none_ran_all : (all a b : Option (List ℕ)) (s : SimValue) (line : List ℕ) → line ≡ first_line → RunsSo s fresh
     → AppendsFront a b line
     → IfSome all (λ bytes. RanBy (recorded Write) Write bytes a b s)

@@ -1,4 +1,4 @@
--- Memory that runs out before anything is read is an end of each task.
+-- Each task may end with Memory before anything is read or written.
 use Rattle.std.proofs.Common.{◌≡◌, ℕ, Bool, true, false, List, [], Option, Some, None, refl, inl, inr}
 use Rattle.std.specs.Option.{IfSome}
 use Rattle.std.proofs.KnownBytes.{Appends-nil}
@@ -19,7 +19,7 @@ use Rattle.kds_cli_runs.specs.Ends.{Answers, Audited, Performed, Replayed, Repla
 use Rattle.kds_cli_runs.proofs.Answering.{Laws, run_safely}
 use Rattle.kds_cli_runs.proofs.Journaling.{nothing_recorded, nothing_written}
 
--- No turn ran.
+-- A run in which no turn was made.
 still : SimValue
 still = record { history = []; told = []; workers = []; over = false }
 
@@ -45,7 +45,8 @@ tells_none (Some bytes) left held = record {
   written = λ ms ending falls later. nothing_written held _;
 }
 
--- A connection got no command.
+-- If memory ran out before anything was read, a connection had no command, no response was written, and `Answers` holds
+-- with Memory.
 unserved : (all left moments held : Option (List ℕ)) → Answers Memory (around all left) (around held held) moments
 unserved all left moments held = record {
   kind = tt;
@@ -95,6 +96,8 @@ module _ (laws : Laws) where
     sound = λ j e. absurd (not_done e);
   }
 
+  -- If memory ran out before anything was read or written, `Performed` holds with Memory for each task, if the laws on
+  -- schedules are given.
   pub wanting : (task : Task) (bytes left moments held : Option (List ℕ)) (listens : ℕ → Type 0)
       → Performed task Memory (record {
         input = around bytes left;

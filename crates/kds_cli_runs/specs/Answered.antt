@@ -1,4 +1,5 @@
--- Which lines of a schedule were answered when a run of it ended.
+-- Defines which lines of a schedule were run when a replay of it ended, and how much of the output for them was
+-- written.
 use Rattle.std.specs.Prelude.{◌≡◌, ◌⊎◌, ℕ, List, [], ◌∷◌, ◌++◌}
 use Rattle.std.specs.declared.option.Option.{Option}
 use Rattle.std.specs.Io.KnownBytes.{Appends}
@@ -14,7 +15,8 @@ use Rattle.kcl_sim.specs.Schedule.{history, judged}
 use Rattle.kcl_sim.specs.Serving.{AreAllServed, AreHandedOff, AreNeverReadAgain}
 use Rattle.kcl_sim.specs.Standing.{HasRunPart, RunsSo, SimValue}
 
--- The status with which a run ends, by the end of the reading of its input.
+-- The status of a replay, by the outcome of the reading of its input. A last line without a line feed counts as a bad
+-- line.
 abbrev pub status_of : Outcome → Status
 status_of outcome.Whole = Done
 status_of (outcome.Unfinished n) = BadLine n
@@ -24,24 +26,25 @@ status_of outcome.Read = Read
 status_of outcome.Write = Write
 status_of outcome.Memory = Memory
 
--- What is left of the lines (`later`) and of the output of those that were answered (`back`): nothing if the bytes
--- decide the end. After a read fault, all that was answered was written.
+-- The lines `later` weren't run, and the part `back` of the output wasn't written. With Write and Memory, both may be
+-- left over. With Read, lines may be left over, but no output. With any other status, neither is left over.
 abbrev pub Remains : Status → List Line → List ℕ → Type 0
 Remains Write later back = Unit {0}
 Remains Memory later back = Unit {0}
 Remains Read later back = back ≡ []
 Remains s later back = (later ≡ []) × (back ≡ [])
 
--- The lines `lines` were run, and the lines `later` are left: their turns ran, and the workers are theirs. If memory
--- ran out, the first turns of the next line may have run too.
+-- The run `s` is that of the lines `lines` (`RunsSo`), and the lines `later` come after these. If the status is Memory,
+-- the first turns of the next line may have been made too.
 abbrev pub HasMade : Status → List Line → List Line → SimValue → Type 0
 HasMade Memory lines later s =
     RunsSo s (with_schedule fresh lines)
     ⊎ ((line : Line) × (rest : List Line) × (later ≡ line ∷ rest) × HasRunPart s (with_schedule fresh lines) line)
 HasMade _ lines later s = RunsSo s (with_schedule fresh lines)
 
--- The first lines of the schedule `bytes`, all before the first that decides, were run, and a prefix of what is written
--- for them was written.
+-- The first lines of the schedule `bytes` were run, which is the run `s`, and a first part of the output for them was
+-- written, which took the sink's bytes from `before` to `after`. `Remains` says what may be left over with `status`. A
+-- bad line, or one that is too long, ends the schedule and isn't one of its lines.
 pub record RanBy (output : List Line → List ℕ) (status : Status) (bytes : List ℕ) (before after : Option (List ℕ))
     (s : SimValue) : Type 0 where
   pub lines : List Line
@@ -54,23 +57,25 @@ pub record RanBy (output : List Line → List ℕ) (status : Status) (bytes : Li
   pub written : Appends before after front
   pub remains : Remains status later back
 
--- The first lines of the schedule `bytes` were run in this way, and their answers are what is written.
+-- The first lines of the schedule `bytes` were run, and a first part of the answers to them was written (`RanBy`).
 abbrev pub RanSo : Status → List ℕ → Option (List ℕ) → Option (List ℕ) → SimValue → Type 0
 RanSo status bytes before after s = RanBy (outputs fresh) status bytes before after s
 
--- After the first lines `lines` of the schedule, what was given in a tenure whose hand-off freed its row is marked, as
--- long as the row is there. In the whole schedule, it isn't read in a tenure of the key that begins right after these
--- lines.
+-- Let the first lines `lines` of the schedule `bytes` be run. For each hand-off that freed its row, each batch that its
+-- processor was handed is given, and the row's checkpoint isn't below what was given (`AreHandedOff`). In the whole
+-- schedule, a tenure of the hand-off's key that begins right after these lines reads nothing of what was given
+-- (`AreNeverReadAgain`).
 abbrev pub IsHandedOn : List ℕ → List Line → Type 0
 IsHandedOn bytes lines = AreHandedOff (with_schedule fresh lines)
     × AreNeverReadAgain (history bytes) (with_schedule fresh lines)
 
--- After each line of the schedule `bytes`, `IsHandedOn` is true of the lines up to it.
+-- After each line of the schedule `bytes`, `IsHandedOn` holds for the lines up to this line.
 abbrev pub AreHandedOn : List ℕ → Type 0
 AreHandedOn bytes = (lines later : List Line) → (judged bytes).lines ≡ lines ++ later → IsHandedOn bytes lines
 
--- The first lines of the schedule were run as `RanBy` says, and the state of their turns is safe at their clock. The
--- processors of their workers were called for what is given, and what they handed off isn't read again.
+-- The first lines of the schedule `bytes` were run, and a first part of their output was written (`RanBy`). The state
+-- after the turns of this run is safe at the run's clock, the processors of the workers were called for the given
+-- reads, and `IsHandedOn` holds for these lines.
 pub record RanSafely (output : List Line → List ℕ) (status : Status) (bytes : List ℕ) (before after : Option (List ℕ)) :
     Type 0 where
   pub sim : SimValue

@@ -1,4 +1,4 @@
--- How each task ends over ends (I/O objects) whose faults don't rise.
+-- Defines how each task ends if neither its input nor its output nor its door (the listening socket) fails.
 use Rattle.std.specs.Prelude.{◌≡◌, ◌⊎◌, ℕ, List, IfSome}
 use Rattle.std.specs.declared.option.Option.{Option}
 use Rattle.kcl_audit.specs.Audited.{AuditsAs}
@@ -9,22 +9,24 @@ use Rattle.kds_cli_words.specs.declared.task.Task.{Task}
 use Rattle.kds_cli_words.specs.declared.task.Task.TheVariants.{Replay, Answer, Audit, Serve, Drill}
 use Rattle.kcl_sim.specs.Schedule.{Ending, bad_line, ending, too_long, whole}
 
--- How the run of a schedule ends, by the ending of its bytes: with Done if all lines are lines of a schedule.
+-- The status of a replay in which nothing fails, by the ending of its schedule: Done if each line is a line of a
+-- schedule, and otherwise TooLong, or BadLine with the number of the first line that isn't.
 abbrev pub replay_status : Ending → Status
 replay_status whole = Done
 replay_status too_long = TooLong
 replay_status (bad_line n) = BadLine n
 
--- The run ended with the status `decided`, or memory ran out.
+-- The run ended with the status `decided`, or with Memory.
 abbrev pub EndsBy : Status → Status → Type 0
 EndsBy decided status = (status ≡ decided) ⊎ (status ≡ Memory)
 
--- The run of the schedule `bytes` ends with `status`, as its ending decides, unless memory runs out.
+-- The replay of the schedule `bytes` ends with the status that the schedule's ending gives, or with Memory.
 abbrev pub ReplaysAs : List ℕ → Status → Type 0
 ReplaysAs bytes status = EndsBy (replay_status (ending bytes)) status
 
--- How a task ends: as the bytes of its input decide, if the source tells them, and a drill with Done. Otherwise it ends
--- for lack of memory, which alone ends the serving of a door whose faults don't rise.
+-- How a task ends if neither its input nor its output nor its door fails. A replay, a connection and an audit end with
+-- the status that the source's bytes decide, if it tells them, or with Memory. A drill ends with Done or Memory, and
+-- the serving of a door only with Memory.
 abbrev pub Completed : Task → Status → Option (List ℕ) → Type 0
 Completed (Replay journal) status bytes = IfSome bytes (λ bs. ReplaysAs bs status)
 Completed Answer status bytes = IfSome bytes (λ bs. EndsAs bs status)

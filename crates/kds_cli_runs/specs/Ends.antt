@@ -1,4 +1,4 @@
--- How the run of each task ends.
+-- Defines what is known when each task ends with a status: what was written, and what was run.
 use Rattle.std.specs.Prelude.{◌≡◌, ◌⊎◌, ℕ, List, [], Bool, true, false, IfSome}
 use Rattle.std.specs.declared.option.Option.{Option}
 use Rattle.std.specs.Io.KnownBytes.{Appends}
@@ -19,21 +19,24 @@ use Rattle.kds_cli_runs.specs.Journal.{IsAuditedSound, JournalTells, recorded}
 use Rattle.kds_cli_runs.specs.Told.{IsReplayStatus, Tells}
 use Rattle.kds_cli_runs.specs.Words.{listening}
 
--- ---- A replay, with its answers or its journal
+-- ---- A replay, which writes its answers or its journal
 
--- What is written for lines that were run, by the status at the end: the answers or the journal.
+-- The output of a replay for the lines that were run, if the replay ended with `status`. If the Boolean is true, this
+-- is the journal, and otherwise the answers.
 abbrev pub shown : Bool → Status → List Line → List ℕ
 shown false status = outputs fresh
 shown true status = recorded status
 
--- What the status at the end tells of the bytes, those that are left, and what the sink held and holds.
+-- What the status of a replay says about all bytes of the input, the bytes that are left of them, and the bytes of the
+-- sink before (`held`) and after (`now`). If the Boolean is true, the replay writes the journal, and otherwise the
+-- answers.
 abbrev pub ReplayTells : Bool → Status → List ℕ → Option (List ℕ) → Option (List ℕ) → Option (List ℕ) → Type 0
 ReplayTells false status bytes left held now = Tells status bytes left held now
 ReplayTells true status bytes left held now = JournalTells status bytes left held now
 
--- A replay ended with `status`: its output is told by the bytes, and the turns that ran are those of the lines that
--- were answered and, with Memory, perhaps the first turns of the next line. An audit finds sound a journal that was
--- written to its end.
+-- A replay ended with `status`. If the source tells its bytes, the status is right for them and for what was written
+-- (`ReplayTells`), and the state after the turns that were made is safe (`RanSafely`). If the journal was written to
+-- its end (`journal` is true and the status Done), an audit finds it sound, unless it is too long for an audit.
 pub record Replayed (journal : Bool) (status : Status) (input out : Around (Option (List ℕ))) : Type 0 where
   pub kind : IsReplayStatus status
   pub told : IfSome input.before (λ bs. ReplayTells journal status bs input.after out.before out.after)
@@ -42,8 +45,9 @@ pub record Replayed (journal : Bool) (status : Status) (input out : Around (Opti
 
 -- ---- An audit
 
--- An audit ended with `status`: what it wrote is told by the bytes. A sound text is that of a legal journal, whose
--- state is safe, and an unsound text is that of no legal journal.
+-- An audit ended with `status`. If the source tells its bytes, the status is right for them and for what was written
+-- (`TellsAudit`). With Done, they are the text of a legal journal with its last line, after which the state is safe.
+-- With Unsound, they are the text of no legal journal.
 pub record Audited (status : Status) (bytes : Option (List ℕ)) (out : Around (Option (List ℕ))) : Type 0 where
   pub kind : IsAuditStatus status
   pub told : IfSome bytes (λ bs. TellsAudit status bs out.before out.after)
@@ -52,42 +56,43 @@ pub record Audited (status : Status) (bytes : Option (List ℕ)) (out : Around (
 
 -- ---- Connections
 
--- The machine without turns served a connection, which ended with `status`. The clock told the moments `moments` before
--- that.
+-- A connection to a machine that had made no turn ended with `status` (`Served`). The clock had `moments` before the
+-- connection, and `spent` after it.
 pub record Answers (status : Status) (input out : Around (Option (List ℕ))) (moments : Option (List ℕ)) : Type 0 where
   pub kind : IsAnswerStatus status
   pub spent : Option (List ℕ)
   pub served : Served [] input (around moments spent) out status
 
--- It was written that the door listens, and it does, or nothing was written.
+-- The line `listening` was written, and the door listens (`listens`), or nothing was written.
 abbrev pub SaysThatItListens : Option (List ℕ) → Option (List ℕ) → Type 0 → Type 0
 SaysThatItListens held now listens = (Appends held now listening × listens) ⊎ Appends held now []
 
--- What serving a door (a listening socket) writes, where `listens` says that it listens at the port: that it does, or
--- nothing, or a part of the text if the sink failed.
+-- What was written while a door was served, by the status. With Door and Memory, it is the line `listening` or nothing.
+-- With Write, it is a part of this line. If any of it was written, the door listens at the port (`listens`). No other
+-- status is possible.
 abbrev pub ServeTells : Status → Option (List ℕ) → Option (List ℕ) → Type 0 → Type 0
 ServeTells Door held now listens = SaysThatItListens held now listens
 ServeTells Memory held now listens = SaysThatItListens held now listens
 ServeTells Write held now listens = AppendsPart held now listening × listens
 ServeTells _ held now listens = ⊥
 
--- ---- All of them
+-- ---- All tasks
 
--- The ends of a task: the bytes that are left of the input and those that the output has, before the run and after it;
--- the moments that the clock tells; and whether the door then listens at a port. An end that doesn't report its bytes
--- or moments has None.
+-- What contracts see of the ends of a task: the bytes left in the source and the bytes of the sink, each before and
+-- after the run, the moments that the clock had, and at which ports the door listens after it. It is None for an end
+-- that doesn't tell its bytes or moments.
 pub record TaskEnds : Type 1 where
   pub input : Around (Option (List ℕ))
   pub out : Around (Option (List ℕ))
   pub moments : Option (List ℕ)
   pub listens : ℕ → Type 0
 
--- The ends with this input and output before and after, the moments `moments`, and a door that listens as `listens`
--- says.
+-- The ends of a task with the source's bytes `input`, the sink's bytes `out`, the clock's moments `moments`, and a door
+-- that listens at the ports for which `listens` holds.
 abbrev pub task_ends : Around (Option (List ℕ)) → Around (Option (List ℕ)) → Option (List ℕ) → (ℕ → Type 0) → TaskEnds
 task_ends input out moments listens = record { input = input; out = out; moments = moments; listens = listens }
 
--- The run of a task ended with `status` over the ends `ends`.
+-- The task ended with `status`, and its ends were as this status and the kind of the task allow.
 abbrev pub Performed : Task → Status → TaskEnds → Type 0
 Performed (Replay journal) status ends = Replayed journal status ends.input ends.out
 Performed Answer status ends = Answers status ends.input ends.out ends.moments
@@ -95,7 +100,7 @@ Performed Audit status ends = Audited status ends.input.before ends.out
 Performed (Serve port passes) status ends = ServeTells status ends.out.before ends.out.after (ends.listens port)
 Performed (Drill number workers records) status ends = DrillTells status number records ends.out.before ends.out.after
 
--- Whether a task serves a door.
+-- Whether a task serves a door (a listening socket).
 abbrev pub serves_door : Task → Bool
 serves_door (Serve port passes) = true
 serves_door _ = false

@@ -1,4 +1,4 @@
--- The entries of turns and of a schedule's lines, as text.
+-- Defines the text of the journal entries that a history, or the lines of a schedule, make.
 use Rattle.std.specs.Prelude.{◌≡◌, ℕ, List, ◌++◌, Option, Some, None}
 use Rattle.kds_defs.specs.declared.command.Turn.{Turn}
 use Rattle.kcl_sim_scribe.specs.Added.{entries_text, history_entries}
@@ -10,12 +10,12 @@ use Rattle.kcl_sim.specs.Output.{fresh, with_schedule}
 abbrev pub entries_of : List Turn → List ℕ
 entries_of h = entries_text (history_entries h)
 
--- The text of the entries that the lines `lines` of a schedule make.
+-- The text of the entries that the lines `lines` of a schedule make, from its first line on.
 abbrev pub lines_journal : List Line → List ℕ
 lines_journal lines = entries_of (with_schedule fresh lines).history
 
--- The scribe (the writer of the event log) noted the turns of the history `h`. The text `text` is that of the entries
--- that they added to those of the earlier history `since`, unless memory for it ran out.
+-- The scribe has noted the turns of the history `h`. The entries of `h` are those of the earlier history `since`,
+-- followed by those in `text`. If memory for the text ran out, it is None, and nothing is known.
 abbrev pub IsNoted : ScribeValue → Option (List ℕ) → List Turn → List Turn → Type 0
 IsNoted scribe None since h = Unit {0}
 IsNoted scribe (Some text) since h = StandsFor scribe h × (entries_of h ≡ entries_of since ++ text)

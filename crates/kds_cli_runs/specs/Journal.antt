@@ -1,4 +1,4 @@
--- What the end tells of a replay that writes the journal in place of the answers.
+-- Defines what is written by a replay that writes the schedule's journal in place of the answers.
 use Rattle.std.specs.Prelude.{◌≡◌, ◌≢◌, ℕ, List, [], ◌∷◌, ◌++◌, Bool, true, false, Some}
 use Rattle.std.specs.declared.option.Option.{Option}
 use Rattle.std.specs.Io.KnownBytes.{Appends}
@@ -14,7 +14,7 @@ use Rattle.kcl_sim.specs.Output.{fresh, with_schedule}
 use Rattle.kds_cli_runs.specs.Entries.{lines_journal}
 use Rattle.kcl_sim.specs.Schedule.{whole, too_long, bad_line, ending, history, judged}
 
--- The text of the entries that the lines of the schedule `bytes` make.
+-- The text of the entries that all lines of the schedule `bytes` make.
 abbrev pub entries : List ℕ → List ℕ
 entries bytes = lines_journal (judged bytes).lines
 
@@ -22,23 +22,23 @@ entries bytes = lines_journal (judged bytes).lines
 abbrev pub first_line : List ℕ
 first_line = heading ++ 10 ∷ []
 
--- The journal's last line, with its line feed.
+-- The journal's last line, for the clock `clock`, with its line feed.
 abbrev pub last_line : ℕ → List ℕ
 last_line clock = end_spelling clock ++ 10 ∷ []
 
--- What is written for lines that were run, by the status at the end. The last line belongs to it if the schedule was
--- read to its end, or if only a prefix of all is written.
+-- The output for the lines that were run, by the status at the end. With Done, Write and Memory, it is the whole
+-- journal, of which only a part may have been written. With any other status, it is the journal without its last line.
 abbrev pub recorded : Status → List Line → List ℕ
 recorded Done lines = journal_text (with_schedule fresh lines).history
 recorded Write lines = journal_text (with_schedule fresh lines).history
 recorded Memory lines = journal_text (with_schedule fresh lines).history
 recorded _ lines = first_line ++ lines_journal lines
 
--- What a status tells of the bytes of a schedule, those that are left, and what the sink held and holds. With Done the
--- bytes are whole, and their journal was written to its end. With BadLine and TooLong the bytes end as the status says,
--- and the journal of the lines before was written without its last line. With Read, the journal of the whole lines that
--- were read was written without its last line. With Write and Memory a prefix of the journal was written, and not all
--- of it: the last line is there exactly with Done.
+-- What the status of a replay says about all bytes of the schedule, the bytes left of them, and the bytes of the sink
+-- before (`held`) and after (`now`). Done: all lines are lines of a schedule, and their whole journal was written.
+-- BadLine and TooLong: the schedule ends in this way, and the journal of the lines before was written without its last
+-- line. Read: the journal of the lines that were read was written without its last line. Write and Memory: a part of
+-- the journal was written, not all of it. So the last line was written whole exactly with Done.
 abbrev pub JournalTells : Status → List ℕ → Option (List ℕ) → Option (List ℕ) → Option (List ℕ) → Type 0
 JournalTells Done bytes left held now = (ending bytes ≡ whole) × Appends held now (journal_text (history bytes))
 JournalTells (BadLine n) bytes left held now =
@@ -50,22 +50,22 @@ JournalTells Write bytes left held now = AppendsPart held now (journal_text (his
 JournalTells Memory bytes left held now = AppendsPart held now (journal_text (history bytes))
 JournalTells _ bytes left held now = ⊥
 
--- An audit finds the journal of the turns of the schedule `bytes` sound, with all of its entries, unless a line or the
--- whole is too long.
+-- An audit finds the journal of the schedule `bytes` sound, with all of its entries, unless a line of the journal or
+-- the whole journal is too long for an audit.
 abbrev pub IsAuditedSound : List ℕ → Type 0
 IsAuditedSound bytes =
     audit_of (journal_text (history bytes)) ≢ over
     → audit_of (journal_text (history bytes)) ≡ sound (counted 0 (history_entries (history bytes)))
 
--- The last line of a journal with the clock `clock` was written, or a part of it if the sink failed, or nothing if
--- memory ran out.
+-- The last line of a journal with the clock `clock` was written whole with Done, in part with Write, and not at all
+-- with Memory. No other status is possible.
 abbrev pub EndTells : Status → ℕ → Option (List ℕ) → Option (List ℕ) → Type 0
 EndTells Done clock held now = Appends held now (last_line clock)
 EndTells Write clock held now = AppendsPart held now (last_line clock)
 EndTells Memory clock held now = Appends held now []
 EndTells _ clock held now = ⊥
 
--- Whether the schedule was read to its end.
+-- Whether the status is Done, which means that the schedule was read to its end and each of its lines was run.
 abbrev pub is_done : Status → Bool
 is_done Done = true
 is_done _ = false

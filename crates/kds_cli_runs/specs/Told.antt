@@ -1,4 +1,4 @@
--- What the end of a replay tells of the bytes and of the output.
+-- Defines what the status of a replay says about the bytes of the schedule and about what was written.
 use Rattle.std.specs.Prelude.{◌≡◌, ℕ, List, ◌++◌, Some}
 use Rattle.std.specs.declared.option.Option.{Option}
 use Rattle.std.specs.Io.KnownBytes.{Appends}
@@ -7,10 +7,10 @@ use Rattle.kds_ends.specs.declared.status.Status.TheVariants.{Done, BadLine, Rea
 use Rattle.kds_ends.specs.Causes.{AppendsFront}
 use Rattle.kcl_sim.specs.Schedule.{whole, too_long, bad_line, ending, text}
 
--- What a status tells of the bytes of a schedule, those that are left, and what the sink held and holds, if `shown` is
--- what is written for a schedule's lines. With Done, BadLine and TooLong the bytes end as the status says, and what is
--- written for the lines before was written. With Read what is written for the whole lines that were read was written.
--- With Write and Memory a prefix of it was.
+-- What the status of a replay says about all bytes of the schedule, the bytes left of them, and the bytes of the sink
+-- before (`held`) and after (`now`). `shown` gives the output for bytes. Done, BadLine and TooLong: the schedule ends
+-- in this way, and the output for all bytes was written. Read: the output for the bytes that were read was written.
+-- Write and Memory: a first part of the output for all bytes was written.
 abbrev pub TellsBy : (List ℕ → List ℕ) → Status → List ℕ → Option (List ℕ) → Option (List ℕ) → Option (List ℕ) → Type 0
 TellsBy shown Done bytes left held now = (ending bytes ≡ whole) × Appends held now (shown bytes)
 TellsBy shown (BadLine n) bytes left held now = (ending bytes ≡ bad_line n) × Appends held now (shown bytes)
@@ -21,11 +21,11 @@ TellsBy shown Write bytes left held now = AppendsFront held now (shown bytes)
 TellsBy shown Memory bytes left held now = AppendsFront held now (shown bytes)
 TellsBy shown _ bytes left held now = ⊥
 
--- What a status tells of a replay that writes the answers.
+-- What the status says about a replay that writes the answers (`TellsBy`).
 abbrev pub Tells : Status → List ℕ → Option (List ℕ) → Option (List ℕ) → Option (List ℕ) → Type 0
 Tells status bytes left held now = TellsBy text status bytes left held now
 
--- A replay may end with this status.
+-- The status is one with which a replay may end.
 abbrev pub IsReplayStatus : Status → Type 0
 IsReplayStatus Done = Unit {0}
 IsReplayStatus (BadLine n) = Unit {0}

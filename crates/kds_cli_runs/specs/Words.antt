@@ -1,10 +1,12 @@
--- The text on the error output for each way in which a run ends, and the text for a door that listens.
+-- Defines the texts that the program writes itself: one on the error output for each status, and one once a door
+-- listens.
 use Rattle.std.specs.Prelude.{ℕ, List, [], ◌∷◌, ◌++◌, codes, decimal}
 use Rattle.kds_ends.specs.declared.status.Status.{Status}
 use Rattle.kds_ends.specs.declared.status.Status.TheVariants.{Done, Unsound, Usage, BadLine, Read, Write, Memory, Cut}
 use Rattle.kds_ends.specs.declared.status.Status.TheVariants.{Door, TooLong, Refused}
 
--- The text for each status, with its line feed. It is empty if all went well or the answer says it.
+-- The text on the error output for each status, with its line feed. It is empty for Done, and for Unsound, which the
+-- audit's output states.
 abbrev pub error_text : Status → List ℕ
 error_text Done = []
 error_text Unsound = []
@@ -19,6 +21,6 @@ error_text Door = codes "door fault" ++ 10 ∷ []
 error_text TooLong = codes "input too long" ++ 10 ∷ []
 error_text Refused = codes "message refused" ++ 10 ∷ []
 
--- What is written once a door listens.
+-- The line that is written once a door listens, with its line feed.
 abbrev pub listening : List ℕ
 listening = codes "listening" ++ 10 ∷ []

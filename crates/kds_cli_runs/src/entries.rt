@@ -21,7 +21,8 @@ use std::alloc::Global;
 /// Collects the text of the entries that a run's turns add to the journal. The contract of this type also states that
 /// the numbers in all turns fit their machine types. The proof that an audit accepts the journal needs this fact. If
 /// memory for the text runs out in a turn that the machine has made, the result is the answer all the same, since an
-/// error would state that the machine hasn't made the turn. From then on there is no text, and `tell` returns an error.
+/// error would state that the machine hasn't made the turn. From then on there is no text, and `append_text` returns an
+/// error.
 #[derive(Drop)]
 pub struct Journal {
     scribe: Scribe,

@@ -1,10 +1,12 @@
--- A command with a further subcommand.
+-- A command with one more subcommand has the description to which this subcommand is added.
 use Rattle.std.proofs.Common.{Bool, ap, ap₂, ◌∙◌}
 use Rattle.std.specs.Prelude.{◌||◌}
 use Rattle.clap.specs.Words.{App, AddsSubcommand, with_subcommand}
 use Rattle.clap.specs.declared.builder.command.Command.{Command}
 use Rattle.kds_cli_words.specs.Apps.{HasApp}
 
+-- If the command `old` has the description `a`, and its new subcommand `sub` has the description `b`, the command `new`
+-- has the description `a` with `b` as a further subcommand.
 pub added : (old sub new : Command) (a b : App) → AddsSubcommand old sub new → HasApp old a → HasApp sub b
     → HasApp new (with_subcommand a b.top)
 added old sub new a b h is sub_is =

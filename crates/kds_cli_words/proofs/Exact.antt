@@ -1,4 +1,5 @@
--- What `clap` makes of the words is their task, exactly: the cases are the commands, and what their words are.
+-- The task that `clap` reads from words is the one of the definitions, for each command and for words that are no
+-- command.
 use Rattle.std.proofs.Common.{◌≡◌, ◌≤◌, ◌⊎◌, inl, inr, Bool, true, false, List, [], ◌∷◌, length, Option, Some, None}
 use Rattle.std.proofs.Common.{codes, refl, sym, subst, ◌∙◌, arith}
 use Rattle.std.specs.Prelude.{ℕ, map, option_and_then}
@@ -14,39 +15,43 @@ use Rattle.kds_cli_words.specs.declared.task.Task.{Task}
 use Rattle.kds_cli_words.specs.Parsed.{told}
 use Rattle.kds_cli_words.proofs.Seen.{IsValue, Seen, flag, value, text}
 
--- The faults are those of the words.
+-- The description of the command `kds` is simple, and no argument has a rule about another argument.
 pub free : is_simple_and_free kds_app ≡ true
 unfolding clap_on_literals
 free = refl
 
+-- The description of the command `kds` is simple.
 pub simple : is_simple kds_app ≡ true
 unfolding clap_on_literals
 simple = refl
 
--- What a parse reads if it has these faults: nothing if there is a fault.
+-- The task `task` if a list of faults is empty, and otherwise None.
 abbrev pub read : Kinds → Option Task → Option Task
 read [] task = task
 read (k ∷ ks) task = None
 
+-- The task that `clap` reads from words, or None if it finds a fault in them.
 abbrev pub read_of : List Text → Option Task
 read_of words = read (fault_of kds_app words) (told (subcommand_of kds_app words))
 
+-- The task that `clap` reads from the words `words` is the one of the definitions (`task_of`), or both are None.
 abbrev pub Exact : List Text → Type 0
 Exact words = read_of words ≡ task_of words
 
--- ---- Words that are no task
+-- ---- Words that ask for no task
 
 -- The texts `a` and `b` are different.
 abbrev pub Differ : Text → Text → Type 0
 Differ a b = (bytes_eq a b ≡ false) × (bytes_eq b a ≡ false)
 
+-- Texts that aren't equal are different by the test of their bytes.
 pub differ : (a b : Text) → (a ≡ b → ⊥) → Differ a b
 differ a b other = (
   false_from_ne_true _ (λ same. other ((bytes_eq-Decides a b).0 same)),
   false_from_ne_true _ (λ same. other (sym ((bytes_eq-Decides b a).0 same))),
 )
 
--- The word `w` names no command.
+-- The word `w` isn't the name of a subcommand.
 pub record IsOther (w : Text) : Type 0 where
   pub replay : Differ w (codes "replay")
   pub answer : Differ w (codes "answer")
@@ -54,6 +59,7 @@ pub record IsOther (w : Text) : Type 0 where
   pub serve : Differ w (codes "serve")
   pub drill : Differ w (codes "drill")
 
+-- If the first word isn't the name of a subcommand, the words ask for no task.
 pub nameless : (w : Text) (more : List Text) → IsOther w → None ≡ task_of (w ∷ more)
 nameless w [] o = rw (o.replay.0, o.answer.0, o.audit.0) refl
 nameless w (a ∷ []) o = rw o.replay.0 refl
@@ -61,7 +67,7 @@ nameless w (a ∷ b ∷ []) o = rw o.serve.0 refl
 nameless w (a ∷ b ∷ c ∷ []) o = rw o.drill.0 refl
 nameless w (a ∷ b ∷ c ∷ d ∷ more) o = refl
 
--- One of a list of words is no number.
+-- At least one of the words isn't a decimal number below 2^64.
 abbrev pub HasNoNumber : List Text → Type 0
 HasNoNumber [] = ⊥
 HasNoNumber (w ∷ words) = (number_of 64 w ≡ None) ⊎ HasNoNumber words
@@ -71,18 +77,20 @@ nothing None b = refl
 nothing (Some x) None = refl
 nothing (Some x) (Some y) = refl
 
+-- If one of two words isn't a number, they are no arguments of `serve`.
 pub serves_nothing : (a b : Text) → HasNoNumber (a ∷ b ∷ []) → None ≡ serve_of a b
 serves_nothing a b (inl none) = rw none refl
 serves_nothing a b (inr (inl none)) = rw none (nothing (port_of a) None)
 serves_nothing a b (inr (inr never)) = absurd never
 
+-- If one of three words isn't a number, they are no arguments of `drill`.
 pub drills_nothing : (a b c : Text) → HasNoNumber (a ∷ b ∷ c ∷ []) → None ≡ drill_of a b c
 drills_nothing a b c (inl none) = rw none refl
 drills_nothing a b c (inr (inl none)) = rw none (nothing (number_of 64 a) None)
 drills_nothing a b c (inr (inr (inl none))) = rw none (nothing (number_of 64 a) (members_of b))
 drills_nothing a b c (inr (inr (inr never))) = absurd never
 
--- ---- The commands
+-- ---- Each subcommand, with the words after it
 
 replay_words : (more : List Seen) → length more ≤ 3 → Exact (codes "replay" ∷ map text more)
 unfolding clap_on_literals
@@ -97,7 +105,8 @@ replay_words (value a i ∷ b ∷ []) few = rw (i.not_end, i.not_long, i.not_sho
 replay_words (value a i ∷ b ∷ c ∷ []) few = rw (i.not_end, i.not_long, i.not_short) refl
 replay_words (a ∷ b ∷ c ∷ d ∷ more) few = absurd (omega arith)
 
--- The two commands that have no words of their own.
+-- `Exact` holds for the subcommands `answer` and `audit` with at most three further words. These subcommands take no
+-- arguments.
 bare_words : (more : List Seen) → length more ≤ 3 → Exact (codes "answer" ∷ map text more)
     × Exact (codes "audit" ∷ map text more)
 unfolding clap_on_literals
@@ -156,9 +165,9 @@ drill_words (value a i ∷ value b j ∷ value c k ∷ []) few =
     rw (i.not_end, i.not_long, i.not_short, j.not_end, j.not_long, j.not_short, k.not_end, k.not_long, k.not_short) refl
 drill_words (a ∷ b ∷ c ∷ d ∷ more) few = absurd (omega arith)
 
--- ---- All of them
+-- ---- All words
 
--- A first word that names no command, whatever follows.
+-- `Exact` holds if the first word, which is no flag, isn't the name of a subcommand, whatever words follow.
 other_words : (w : Text) (more : List Text) → IsValue w → IsOther w → Exact (w ∷ more)
 unfolding clap_on_literals
 other_words w more i o =
@@ -171,6 +180,7 @@ named name w more this other = by (bytes_eq w name) refl
     by true is = subst (λ x. Exact (x ∷ more)) (sym ((bytes_eq-Decides w name).0 is)) this
     by false is = other (differ w name (λ same. true≢false (sym ((bytes_eq-Decides w name).1 same) ∙ is)))
 
+-- `Exact` holds for at most four words, each of which `clap` may be given.
 pub exact : (words : List Seen) → length words ≤ 4 → Exact (map text words)
 unfolding clap_on_literals
 exact [] few = refl

@@ -1,4 +1,4 @@
--- The task that is read of a parse.
+-- The task that the code reads from the result of a parse by `clap` is the one of the definitions.
 use Rattle.std.proofs.Common.{◌≡◌, ◌≤◌, ◌⊎◌, ⊎_elim, true, List, [], ◌∷◌, length, Option, Some, None, sym, ap, subst}
 use Rattle.std.proofs.Common.{◌∙◌, refl, arith}
 use Rattle.std.specs.Prelude.{String, string_bytes}
@@ -24,9 +24,9 @@ use Rattle.kds_cli_words.specs.Parsed.{is_word, told, told_with}
 use Rattle.kds_cli_words.proofs.Exact.{Exact, exact, read}
 use Rattle.kds_cli_words.proofs.Seen.{seen}
 
--- ---- The name and the values of a parse
+-- ---- The name and the values in the result of a parse
 
--- The same values give the same task.
+-- If two functions give the same value for each argument, they give the same task.
 same_values : (name : Text) (get look : Text → Option Text) → ((id : Text) → get id ≡ look id)
     → told_with name get ≡ told_with name look
 same_values name get look same = λ i. told_with name (λ id. same id i)
@@ -50,6 +50,8 @@ name_met m =
     twice (λ b. ((out-SubCommand (box_value b)).name.now, rows_of (found_of (out-SubCommand (box_value b)).matches)))
     (λ p. p.0) (out-ArgMatches m).subcommand
 
+-- The task that is read with the name of the subcommand and the first value of each argument is the one that the result
+-- of the parse asks for (`task_told`).
 pub told_read : (m : ArgMatches) (name : Text) (f : Found) → Some name ≡ subcommand_name_of m
     → Some (rows_of f) ≡ option_map (λ p. p.1) (subcommand_rows (out-ArgMatches m).subcommand)
     → told_with name (first_value f) ≡ told (subcommand_rows_of m)
@@ -57,7 +59,7 @@ told_read m name f h g =
     same_values name (first_value f) (λ id. first_of id (rows_of f)) (first_value-rows f)
     ∙ met_by (subcommand_rows_of m) name (rows_of f) (h ∙ name_met m) g
 
--- ---- Words that `clap` may see
+-- ---- Words that `clap` may be given
 
 exactly : (words : List (String Global)) → list_all (λ w. is_word (string_bytes w)) words ≡ true → length words ≤ 4
     → Exact (texts_of words)
@@ -66,14 +68,16 @@ exactly words are few =
     let n = s.1 in
     subst Exact s.2 (exact s.0 (omega arith))
 
--- If no fault is found, the task is read.
+-- If there are at most four words, each of which `clap` may be given, and it finds no fault in them, the task of the
+-- parse is the one of the definitions (`task_of`).
 pub read_words : (words : List (String Global)) → list_all (λ w. is_word (string_bytes w)) words ≡ true
     → length words ≤ 4
     → fault_of kds_app (texts_of words) ≡ [] → told (subcommand_of kds_app (texts_of words)) ≡ task_of (texts_of words)
 read_words words are few fine = sym (ap (λ kinds. read kinds (told (subcommand_of kds_app (texts_of words)))) fine)
     ∙ exactly words are few
 
--- If an error has one of these kinds of fault, and isn't that memory ran out, the words are no task.
+-- Let there be at most four words, each of which `clap` may be given. If `clap` returns an error that is one of the
+-- faults of the words, and not that memory ran out, the words ask for no task.
 pub refused : (words : List (String Global)) (kinds : Kinds) (k found : ErrorKind)
     → list_all (λ w. is_word (string_bytes w)) words ≡ true → length words ≤ 4
     → kinds ≡ fault_of kds_app (texts_of words) → k ≡ found → (k ≡ kind.OutOfMemory → ⊥) → (found ≡ kind.OutOfMemory)

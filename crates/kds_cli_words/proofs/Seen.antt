@@ -1,4 +1,4 @@
--- Words that `clap` may see, by what the test of their hyphens tells.
+-- Each word that `clap` may be given is the flag `--journal` or no flag.
 use Rattle.std.proofs.Common.{◌≡◌, suc, Bool, true, false, List, [], ◌∷◌, length, Some, None, codes, refl, sym, ap, ap₂}
 use Rattle.std.specs.Prelude.{◌&&◌, ◌||◌, not, map, String, string_bytes, if◌then◌else◌, option_and_then}
 use Rattle.std.specs.declared.alloc.Global.{Global}
@@ -11,18 +11,19 @@ use Rattle.kds_base.proofs.Facts.{both_left, both_right}
 use Rattle.kds_cli_words.specs.Words.{texts_of}
 use Rattle.kds_cli_words.specs.Parsed.{has_hyphen, is_word}
 
--- The word `w` is no flag: it has no leading hyphen.
+-- The word `w` is no flag for `clap`: it isn't `--journal` and isn't `--`, and is neither a long flag nor short flags.
 pub record IsValue (w : Text) : Type 0 where
   pub not_journal : bytes_eq w (codes "--journal") ≡ false
   pub not_end : bytes_eq w (45 ∷ 45 ∷ []) ≡ false
   pub not_long : long_of w ≡ None
   pub not_short : short_of w ≡ None
 
--- A word is the one flag, or it is no flag.
+-- A word that `clap` may be given: the flag `--journal`, or a word that is no flag.
 pub data Seen : Type 0 where
   flag : Seen
   value : (w : Text) → IsValue w → Seen
 
+-- The text of a word that `clap` may be given.
 abbrev pub text : Seen → Text
 text flag = codes "--journal"
 text (value w i) = w
@@ -42,7 +43,7 @@ seen_word w true d is has h = (flag, sym ((bytes_eq-Decides w (codes "--journal"
 seen_word w false true is has h = absurd cc
 seen_word w false false is has h = (value w (is_value w is has), refl)
 
--- The words that pass the test are such words.
+-- If each of the words passes the test `is_word`, they are the texts of words that `clap` may be given.
 pub seen : (words : List (String Global)) → list_all (λ w. is_word (string_bytes w)) words ≡ true
     → (seens : List Seen) × (length seens ≡ length words) × (map text seens ≡ texts_of words)
 seen [] h = ([], refl, refl)

@@ -1,4 +1,4 @@
--- Words that `clap` isn't given are no task: one that it may not see, or more of them than any command has.
+-- Words that `clap` isn't given ask for no task: one of them fails the test `is_word`, or there are more than four.
 use Rattle.std.proofs.Common.{◌≡◌, ◌<◌, inl, inr, ⊎_elim, Bool, true, false, List, [], ◌∷◌, length, Option, Some, None}
 use Rattle.std.proofs.Common.{codes, refl, sym, ap, subst, ◌∙◌, arith}
 use Rattle.std.specs.Prelude.{◌==◌, ◌^◌, ◌&&◌, ◌||◌, not, nat_lt, String, string_bytes, if◌then◌else◌}
@@ -17,7 +17,7 @@ use Rattle.kds_cli_words.specs.declared.task.Task.TheVariants.{Replay}
 use Rattle.kds_cli_words.specs.Parsed.{is_word}
 use Rattle.kds_cli_words.proofs.Exact.{Differ, HasNoNumber, differ, drills_nothing, nameless, serves_nothing}
 
--- ---- Such a word is no name, and no number
+-- ---- A word that fails the test is no name and no number
 
 no_name : (w name : Text) → is_word w ≡ false → is_word name ≡ true → Differ w name
 no_name w name bad good = differ w name (λ same. apart (is_word w) (ap is_word same ∙ good) bad)
@@ -40,7 +40,7 @@ no_numbers (w ∷ words) bad =
     ⊎_elim (λ this. inl (no_number w this)) (λ rest. inr (no_numbers words rest))
     (and_cases (is_word w) (list_all is_word words) bad)
 
--- ---- Words with such a one
+-- ---- Words of which one fails the test
 
 unless : (b : Bool) (task : Option Task) → None ≡ task → None ≡ (if b then task else None)
 unless true task none = none
@@ -79,10 +79,12 @@ all_texts : (words : List (String Global)) → list_all (λ w. is_word (string_b
 all_texts [] = refl
 all_texts (w ∷ words) = ap (λ b. is_word (string_bytes w) && b) (all_texts words)
 
+-- If one of the words fails the test `is_word`, the words ask for no task.
 pub unseen : (words : List (String Global)) → list_all (λ w. is_word (string_bytes w)) words ≡ false
     → None ≡ task_of (texts_of words)
 unseen words bad = no_task (texts_of words) (sym (all_texts words) ∙ bad)
 
+-- More than four words ask for no task.
 pub too_many : (words : List (String Global)) → 4 < length words → None ≡ task_of (texts_of words)
 too_many [] h = absurd (omega arith)
 too_many (a ∷ []) h = absurd (omega arith)

@@ -1,4 +1,4 @@
--- What `clap` read of the words, and the words that it sees.
+-- Defines which task the result of a parse by `clap` asks for, and which words `clap` is given.
 use Rattle.std.specs.Prelude.{ℕ, Bool, false, ◌==◌, ◌||◌, not, List, slice_get, codes, Option, Some, None}
 use Rattle.std.specs.Prelude.{if◌then◌else◌}
 use Rattle.std.specs.Str.{bytes_eq}
@@ -7,21 +7,25 @@ use Rattle.kds_cli_words.specs.Words.{drill_of, serve_of}
 use Rattle.kds_cli_words.specs.declared.task.Task.{Task}
 use Rattle.kds_cli_words.specs.declared.task.Task.TheVariants.{Replay, Answer, Audit}
 
--- ---- What `clap` read
+-- ---- The result of a parse
 
+-- Whether a flag is set, by the text of its value: it is if the text is `true`.
 abbrev pub is_told : Option Text → Bool
 is_told None = false
 is_told (Some text) = bytes_eq text (codes "true")
 
+-- The task `serve`, if the texts of both arguments are given and are numbers in their ranges, and otherwise None.
 abbrev pub serve_told : Option Text → Option Text → Option Task
 serve_told (Some port) (Some members) = serve_of port members
 serve_told port members = None
 
+-- The task `drill`, if the texts of all three arguments are given and are numbers in their ranges, and otherwise None.
 abbrev pub drill_told : Option Text → Option Text → Option Text → Option Task
 drill_told (Some number) (Some workers) (Some records) = drill_of number workers records
 drill_told number workers records = None
 
--- The task of the subcommand `name` with the values that `get` gives.
+-- The task of the subcommand `name`, whose arguments have the values that `get` gives for their IDs. It is None if
+-- there is no such subcommand, or if an argument is missing or isn't a number in its range.
 abbrev pub told_with : Text → (Text → Option Text) → Option Task
 told_with name get =
     if bytes_eq name (codes "replay") then Some (Replay (is_told (get (codes "journal"))))
@@ -37,15 +41,17 @@ abbrev pub told : Option (Text × List Row) → Option Task
 told None = None
 told (Some met) = told_with met.0 (λ id. first_of id met.1)
 
--- ---- Words that `clap` sees
+-- ---- The words that `clap` is given
 
+-- Whether the byte, if there is one, is a hyphen.
 abbrev pub is_hyphen : Option ℕ → Bool
 is_hyphen None = false
 is_hyphen (Some d) = d == 45
 
+-- Whether the word `w` begins with a hyphen.
 abbrev pub has_hyphen : Text → Bool
 has_hyphen w = is_hyphen (slice_get w 0)
 
--- Whether the word `w` has no leading hyphen, or is the one flag.
+-- Whether the word `w` may be given to `clap`: it doesn't begin with a hyphen, or is `--journal`, the only flag.
 abbrev pub is_word : Text → Bool
 is_word w = bytes_eq w (codes "--journal") || not (has_hyphen w)

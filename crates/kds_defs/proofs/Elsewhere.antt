@@ -1,5 +1,5 @@
--- A line of another stream, or of a lease, leaves each reading of a stream as it was, and a line of a stream leaves
--- rows and tenures. Of each reading only the entries that change it are named here.
+-- A line about another stream or about a lease doesn't change what a journal says of a stream, and a line about a
+-- stream doesn't change the rows and tenures. In this file, `what` is the entry of the new line.
 use Rattle.std.proofs.Common.{◌≡◌, ◌≢◌, ℕ, ◌+◌, ◌*◌, ◌≤◌, max, Bool, true, false, List, [], ◌∷◌, Option, Some, None}
 use Rattle.std.proofs.Common.{refl, sym, ap, ◌∙◌, arith}
 use Rattle.std.specs.Prelude.{◌==◌, is_some, if◌then◌else◌}
@@ -21,60 +21,72 @@ use Rattle.kds_defs.specs.Streams.{made_at, made_at_after}
 use Rattle.kds_defs.specs.Streams.{made_count_after, name_of, name_of_after, trim_floor, was_made, was_made_after}
 use Rattle.kds_defs.specs.Subjects.{IsFresh, stream_of}
 
--- ---- What an entry isn't of
+-- ---- Entries that aren't about a stream
 
+-- If an entry is about no stream, it isn't about stream `s`.
 pub of_no_stream : (what : Entry) (s : ℕ) → stream_of what ≡ None → stream_of what ≢ Some s
 of_no_stream what s none = λ h. none-some s (sym none ∙ h)
 
+-- If an entry is about stream `s`, it isn't about another stream `m`.
 pub of_other : (what : Entry) (s m : ℕ) → stream_of what ≡ Some s → s ≢ m → stream_of what ≢ Some m
 of_other what s m is apart = λ h. apart (same_Some s m (sym is ∙ h))
 
+-- If an optional number has a value, it isn't `None`.
 pub of_some : (o : Option ℕ) → is_some o ≡ true → o ≢ None
 of_some None h = absurd cc
 of_some (Some s) h = λ e. cc
 
+-- If an optional number has no value, it is `None`.
 pub of_none : (o : Option ℕ) → is_some o ≡ false → o ≡ None
 of_none None h = refl
 of_none (Some s) h = absurd cc
 
--- ---- A stream's readings after an entry that isn't of it
+-- ---- What a journal says of a stream after an entry that isn't about this stream
 
 differ : (a s : ℕ) → Some a ≢ Some s → (a == s) ≡ false
 differ a s h = ne_eqb a s (λ e. h (ap Some e))
 
+-- An entry that isn't about stream `s` doesn't change whether `s` is live.
 pub live_same : (what : Entry) (s : ℕ) (before : Bool) → stream_of what ≢ Some s → is_live_after what s before ≡ before
 live_same (entry.Made a name count) s before h = rw (differ a s h) refl
 live_same (entry.Gone a) s before h = rw (differ a s h) refl
 live_same _ s before h = refl
 
+-- An entry that isn't about stream `s` doesn't change whether `s` was made.
 pub made_same : (what : Entry) (s : ℕ) (before : Bool) → stream_of what ≢ Some s → was_made_after what s before ≡ before
 made_same (entry.Made a name count) s before h = rw (differ a s h) refl
 made_same _ s before h = refl
 
+-- An entry that isn't about stream `s` doesn't change the name of `s`.
 pub name_same : (what : Entry) (s : ℕ) (before : List ℕ) → stream_of what ≢ Some s
     → name_of_after what s before ≡ before
 name_same (entry.Made a name count) s before h = rw (differ a s h) refl
 name_same _ s before h = refl
 
+-- An entry that isn't about stream `s` doesn't change the time at which `s` was made.
 pub made_at_same : (line : Line) (what : Entry) (s before : ℕ) → stream_of what ≢ Some s
     → made_at_after line what s before ≡ before
 made_at_same line (entry.Made a name count) s before h = rw (differ a s h) refl
 made_at_same line _ s before h = refl
 
+-- An entry that isn't about stream `s` doesn't change the retention of `s`.
 pub hours_same : (what : Entry) (s before : ℕ) → stream_of what ≢ Some s → hours_after what s before ≡ before
 hours_same (entry.Made a name count) s before h = rw (differ a s h) refl
 hours_same (entry.Kept a wanted) s before h = rw (differ a s h) refl
 hours_same _ s before h = refl
 
+-- An entry that isn't about stream `s` takes no sequence number of `s`.
 pub none_drawn : (what : Entry) (s : ℕ) → stream_of what ≢ Some s → draws what s ≡ 0
 none_drawn (entry.Put a sh number hash bytes key_bytes) s h = rw (differ a s h) refl
 none_drawn (entry.Split a sh at number low high) s h = rw (differ a s h) refl
 none_drawn (entry.Merged a sh other number child) s h = rw (differ a s h) refl
 none_drawn _ s h = refl
 
+-- An entry that isn't about stream `s` doesn't change the next sequence number of `s`.
 pub next_same : (what : Entry) (s next : ℕ) → stream_of what ≢ Some s → draws what s + next ≡ next
 next_same what s next h = let none = none_drawn what s h in omega (arith)
 
+-- An entry that isn't about stream `s` doesn't change the shards of `s`.
 pub shards_same : (line : Line) (what : Entry) (s start : ℕ) (before : List ShardState) → stream_of what ≢ Some s
     → shards_after line what s start before ≡ before
 shards_same line (entry.Made a name count) s start before h = rw (differ a s h) refl
@@ -82,22 +94,27 @@ shards_same line (entry.Split a sh at number low high) s start before h = rw (di
 shards_same line (entry.Merged a sh other number child) s start before h = rw (differ a s h) refl
 shards_same line _ s start before h = refl
 
+-- An entry that isn't about stream `s` doesn't change the records of a shard of `s`.
 pub records_same : (line : Line) (what : Entry) (s sh : ℕ) (before : List Logged) → stream_of what ≢ Some s
     → records_after line what s sh before ≡ before
 records_same line (entry.Put a shard number hash bytes key_bytes) s sh before h = rw (differ a s h) refl
 records_same line _ s sh before h = refl
 
+-- An entry that isn't about stream `s` doesn't change the puts of a shard of `s`.
 pub puts_same : (line : Line) (what : Entry) (s sh : ℕ) (before : List SizedPut) → stream_of what ≢ Some s
     → puts_after line what s sh before ≡ before
 puts_same line (entry.Put a shard number hash bytes key_bytes) s sh before h = rw (differ a s h) refl
 puts_same line _ s sh before h = refl
 
+-- An entry that isn't about stream `s` doesn't change whether the limits of `s` are on.
 pub enforced_same : (what : Entry) (s : ℕ) (before : Bool) → stream_of what ≢ Some s
     → enforced_after what s before ≡ before
 enforced_same (entry.Enforced a on) s before h = rw (differ a s h) refl
 enforced_same _ s before h = refl
 
--- All readings of stream `s` are the same in the journals `log` and `log'`.
+-- The journals `log` and `log'` say the same of stream `s`: whether it is live and was made, its name, its time of
+-- making and its retention. They also agree on its next sequence number, its shards with their records and puts, and
+-- whether its limits are on. Its trim floor isn't among these.
 pub record SameStream (log log' : Journal) (s : ℕ) : Type 0 where
   pub live : is_live log s ≡ is_live log' s
   pub was : was_made log s ≡ was_made log' s
@@ -110,6 +127,7 @@ pub record SameStream (log log' : Journal) (s : ℕ) : Type 0 where
   pub puts_are : (sh : ℕ) → puts log s sh ≡ puts log' s sh
   pub enforced_is : is_enforced log s ≡ is_enforced log' s
 
+-- A line that isn't about stream `s` doesn't change what the journal `log` says of `s` (`SameStream`).
 pub same_stream : (log : Journal) (line : Line) (s : ℕ) → stream_of line.what ≢ Some s → SameStream (line ∷ log) log s
 same_stream log line s h = record {
   live = live_same line.what s (is_live log s) h;
@@ -124,7 +142,7 @@ same_stream log line s h = record {
   enforced_is = enforced_same line.what s (is_enforced log s) h;
 }
 
--- The readings of a stream are the same in the same journal, and (below) after several lines that aren't of it.
+-- A journal says the same of a stream as itself (`SameStream`).
 pub same_again : (log : Journal) (s : ℕ) → SameStream log log s
 same_again log s = record {
   live = refl;
@@ -139,6 +157,8 @@ same_again log s = record {
   enforced_is = refl;
 }
 
+-- If the journals `log` and `log'` say the same of stream `s`, and `log'` and `log''` do too, then `log` and `log''` do
+-- (`SameStream`).
 pub same_along : (log log' log'' : Journal) (s : ℕ) → SameStream log log' s → SameStream log' log'' s
     → SameStream log log'' s
 same_along log log' log'' s a b = record {
@@ -154,14 +174,16 @@ same_along log log' log'' s a b = record {
   enforced_is = a.enforced_is ∙ b.enforced_is;
 }
 
--- An entry of a lease leaves the number of streams that were made.
+-- An entry about a lease doesn't change the number of streams that were made.
 pub count_same : (what : Entry) (n : ℕ) → stream_of what ≡ None → made_count_after what n ≡ n
 count_same (entry.Made s name count) n h = absurd cc
 count_same _ n h = refl
 
--- ---- The floor of a stream, at each clock from that of the line on, where the line leaves the retention
+-- ---- The trim floor of a stream after a line that doesn't change the retention
 
--- What a line at the clock `d` leaves of the floor at the clock `c`, by the hours after the line and before it.
+-- The trim floor of a stream at the clock `c`, after a line at the clock `d`. `made` says whether the stream was made
+-- by this line or earlier, and `before` whether it was made earlier. Its retention is `hours` after the line and
+-- `hours_before` before it, and the earlier lines give the floor `low`.
 floor_by : Bool → Bool → ℕ → ℕ → ℕ → ℕ → ℕ → ℕ
 floor_by made before c d hours hours_before low =
     let now = floor_at d (hours * HOUR) in
@@ -182,6 +204,8 @@ no_higher true true c d h low later = omega (arith)
 no_higher true false c d h low later = omega (arith)
 no_higher false before c d h low later = omega arith
 
+-- If a line doesn't change the retention of stream `s`, it doesn't change the trim floor of `s` at the line's clock or
+-- at a later clock `c`.
 pub floor_same : (log : Journal) (line : Line) (s c : ℕ) → line.clock ≤ c → hours (line ∷ log) s ≡ hours log s
     → trim_floor (line ∷ log) c s ≡ trim_floor log c s
 floor_same log line s c later same =
@@ -190,8 +214,9 @@ floor_same log line s c later same =
     same
     ∙ no_higher (was_made (line ∷ log) s) (was_made log s) c line.clock (hours log s) (floor_of_lines log s) later
 
--- ---- A stream that no line speaks of
+-- ---- A stream that no line is about
 
+-- Each stream is new to the empty journal (`IsFresh`).
 pub fresh_empty : (s : ℕ) → IsFresh [] s
 fresh_empty s = record {
   gone = refl;
@@ -207,6 +232,7 @@ fresh_empty s = record {
 no_floor_by : (log : Journal) (line : Line) (s : ℕ) → was_made (line ∷ log) s ≡ false → floor_after log line s ≡ 0
 no_floor_by log line s h = cond-false (was_made (line ∷ log) s) _ 0 h
 
+-- If stream `s` is new to a journal (`IsFresh`), it still is after a line that isn't about `s`.
 pub fresh_other : (log : Journal) (line : Line) (s : ℕ) → IsFresh log s → stream_of line.what ≢ Some s
     → IsFresh (line ∷ log) s
 fresh_other log line s fresh other =
@@ -223,8 +249,9 @@ fresh_other log line s fresh other =
       not_enforced = same.enforced_is ∙ fresh.not_enforced;
     }
 
--- ---- Rows and tenures after an entry of a stream
+-- ---- Rows and tenures after an entry about a stream
 
+-- An entry about a stream doesn't change the row of a key.
 pub row_same : (log : Journal) (line : Line) (what : Entry) (key : ShardRef) (before : Option Row)
     → stream_of what ≢ None
     → row_after log line what key before ≡ before
@@ -236,15 +263,18 @@ row_same log line (entry.Freed t counter) key before h = absurd (h refl)
 row_same log line (entry.Marked t counter to) key before h = absurd (h refl)
 row_same log line _ key before h = refl
 
+-- An entry about a stream doesn't change which keys have a row.
 pub keys_same : (what : Entry) (before : List ShardRef) → stream_of what ≢ None → row_keys_after what before ≡ before
 keys_same (entry.LeaseMade key from) before h = absurd (h refl)
 keys_same (entry.LeaseCut key counter) before h = absurd (h refl)
 keys_same _ before h = refl
 
+-- An entry about a stream doesn't change the number of tenures that have begun.
 pub taken_same : (what : Entry) (before : ℕ) → stream_of what ≢ None → taken_count_after what before ≡ before
 taken_same (entry.Taken key t counter owner) before h = absurd (h refl)
 taken_same _ before h = refl
 
+-- An entry about a stream doesn't change a tenure.
 pub tenure_same : (log : Journal) (line : Line) (what : Entry) (t : ℕ) (before : Option TenureState)
     → stream_of what ≢ None
     → tenure_after log line what t before ≡ before

@@ -1,4 +1,5 @@
--- Worked examples, computed from the definitions.
+-- Worked examples, computed from the definitions. Most of them state the answers to a list of turns after an empty
+-- history.
 use Rattle.std.specs.Prelude.{ℕ, ◌≡◌, true, false, List, [], ◌∷◌, Some, None, Ok, Err}
 use Rattle.std.proofs.Common.{refl}
 use Rattle.kds_defs.specs.declared.command.Command.{Command}
@@ -29,7 +30,8 @@ other = 116 ∷ []
 item : NewItem
 item = record { key = 97 ∷ []; hash = 0x0cc175b9c0f1b6a831c399e269772661; payload = 104 ∷ 105 ∷ [] }
 
--- The first records of a stream, and refusals.
+-- Records are put into two streams, whose sequence numbers are separate. A second stream with the same name and a put
+-- into a stream that doesn't exist are refused. Turns with an earlier time are answered too.
 first_path : answers [] (
     turn 1000 (command.Create name 1)
     ∷ turn 1000 (command.Put name item)
@@ -48,10 +50,12 @@ first_path : answers [] (
 unfolding refuse◌if◌else◌ with◌or◌then◌ turn name other item
 first_path = refl
 
+-- A record with the key and the payload of `item`, as a read returns it.
 kept : ℕ → ℕ → Stored
 kept seq arrival = record { seq = seq; arrival = arrival; key = 97 ∷ []; payload = 104 ∷ 105 ∷ [] }
 
--- A split.
+-- After a split at the key 2^127, a record goes to the child whose range contains its hash key. A range can't be split
+-- at its first key, and a closed shard can't be split.
 split : answers [] (
     turn 4000 (command.Create name 1)
     ∷ turn 4000 (command.Split name 0 170141183460469231731687303715884105728)
@@ -63,7 +67,7 @@ split : answers [] (
 unfolding refuse◌if◌else◌ with◌or◌then◌ turn name
 split = refl
 
--- Merges.
+-- Shards can be merged only if they are open and adjacent. Which of the two is named first doesn't matter.
 merge : answers [] (
     turn 4000 (command.Create name 3)
     ∷ turn 4000 (command.Merge name 0 2)
@@ -74,7 +78,8 @@ merge : answers [] (
 unfolding refuse◌if◌else◌ with◌or◌then◌ turn name
 merge = refl
 
--- A record is shown until its age is the retention.
+-- A record is returned until its age is the retention of 24 hours. It stays trimmed even for a turn with an earlier
+-- time.
 retention : answers [] (
     turn 1000 (command.Create name 1)
     ∷ turn 1000 (command.Put name item)
@@ -89,7 +94,8 @@ retention : answers [] (
 unfolding refuse◌if◌else◌ with◌or◌then◌ turn name item kept
 retention = refl
 
--- The end of a closed shard, whose children are told, and a listing in pages.
+-- A read at the end of a closed shard returns the shard's children and no iterator. A listing of at most one shard
+-- returns a token for the next page, which is too old after more than five minutes.
 ended : answers [] (
     turn 4000 (command.Create name 1)
     ∷ turn 4000 (command.Split name 0 170141183460469231731687303715884105728)
@@ -133,7 +139,8 @@ ended : answers [] (
 unfolding refuse◌if◌else◌ with◌or◌then◌ turn name
 ended = refl
 
--- Where reading begins.
+-- Where iterators begin: at the trim horizon, at LATEST, at a sequence number, and after a sequence number. Sequence
+-- numbers that are too great are refused. The last reply says that its reader is 999 milliseconds behind.
 starts : answers [] (
     turn 1000 (command.Create name 1)
     ∷ turn 1000 (command.Put name item)
@@ -157,7 +164,8 @@ starts : answers [] (
 unfolding refuse◌if◌else◌ with◌or◌then◌ turn name item kept
 starts = refl
 
--- Records put together, a deleted stream, names by pages, and descriptions.
+-- Records are put together, and stream names are listed by pages. A deleted stream isn't found any more. A new stream
+-- with the same name gets a new number, so that an iterator of the deleted stream is refused.
 service : answers [] (
     turn 1000 (command.Create name 2)
     ∷ turn 1000 (command.Create other 1)
@@ -190,7 +198,8 @@ service : answers [] (
 unfolding refuse◌if◌else◌ with◌or◌then◌ turn name other item
 service = refl
 
--- A longer retention brings nothing back, and both retentions count at a change. Where reading by time begins.
+-- An iterator with a time as its start begins at the first record of that time or later. An increase can't lower the
+-- retention, and a decrease can't raise it. A longer retention doesn't bring back a record that is already trimmed.
 kept_hours : answers [] (
     turn 1000 (command.Create name 1)
     ∷ turn 1000 (command.Put name item)
@@ -215,10 +224,13 @@ kept_hours = refl
 shard : ℕ → ShardRef
 shard n = record { stream = 1; shard = n }
 
+-- The hash key 2^127, at which a split halves the range of all keys.
 half : ℕ
 half = 170141183460469231731687303715884105728
 
--- A row that starts at the latest record, and the row of a child, whose parent is read to its end.
+-- The row of a shard with two records is made with the origin LATEST, so that its tenure reads from the third record
+-- on. After a split, the row of a child gets the trim horizon as its origin, because the parent's row begins before the
+-- parent's end.
 latest : answers [] (
     turn 1000 (command.Create name 1)
     ∷ turn 1000 (command.Put name item)
@@ -267,7 +279,8 @@ latest : answers [] (
 unfolding refuse◌if◌else◌ with◌or◌then◌ turn name item kept shard half
 latest = refl
 
--- Rows that are made after a split: the parent's row starts past its end, and its first read ends the shard.
+-- Both rows are made after a split, with the origin LATEST. The parent's row starts past the parent's end, so the
+-- child's row keeps the origin LATEST. The child can't be opened until the parent was read to its end and marked there.
 latest_split : answers [] (
     turn 1000 (command.Create name 1)
     ∷ turn 1000 (command.Split name 0 half)
@@ -296,7 +309,9 @@ latest_split : answers [] (
 unfolding refuse◌if◌else◌ with◌or◌then◌ turn name shard half
 latest_split = refl
 
--- Rows that start at a moment, before and after the records, and the child of a merge, by its adjacent parent.
+-- The rows of two merged shards begin at the time 1500: in shard 0 at a record, and in shard 1, which has no records,
+-- past its end. The row of their child gets the trim horizon as its origin, because shard 0, its adjacent parent, has a
+-- row that begins before the end.
 from_moment : answers [] (
     turn 1000 (command.Create name 2)
     ∷ turn 1000 (command.Put name item)

@@ -1,4 +1,5 @@
--- The service answers with its own replies and refusals, and the leases with theirs.
+-- Each command for the stream service gets one of the replies and refusals of the stream service, and each command on
+-- leases gets one of those of leases.
 use Rattle.std.proofs.Common.{◌≡◌, ℕ, true, false, List, refl, subst}
 use Rattle.std.specs.Prelude.{Result, if◌then◌else◌}
 use Rattle.kds_defs.specs.declared.command.Command.{Command}
@@ -10,11 +11,11 @@ use Rattle.kds_defs.specs.Journal.{Journal, Line}
 use Rattle.kds_defs.specs.Kinds.{is_lease_answer, is_lease_refusal, is_service, is_service_answer, is_service_refusal}
 use Rattle.kds_defs.proofs.Walk.{Outcome, Refuses, Answers, Adds, Surveys, Creates, walk}
 
--- The answer of the decision `d` is one of the service.
+-- The answer of the decision `d` is one that a command for the stream service may get.
 abbrev IsOwn : Decision → Type 0
 IsOwn d = is_service_answer (answer_of d) ≡ true
 
--- The answer of the decision `d` is one of the leases.
+-- The answer of the decision `d` is one that a command on leases may get.
 abbrev IsLeases : Decision → Type 0
 IsLeases d = is_lease_answer (answer_of d) ≡ true
 
@@ -27,6 +28,7 @@ own log c by _ _ _ (Answers _ _ (Surveys keys rows)) is = is
 own log c by _ _ _ (Adds _ _ _ (Creates name count fits)) is = refl
 own log c by _ _ _ _ is = cc
 
+-- The decision on a command for the stream service gives an answer that such a command may get.
 pub own_answers : (log : Journal) (c by : ℕ) (what : Command) → is_service what ≡ true → IsOwn (decide log c by what)
 own_answers log c by what is = own log c by what _ _ (walk log c by what) is
 
@@ -40,6 +42,7 @@ of_leases log c by _ _ _ (Answers _ _ _) is = absurd cc
 of_leases log c by _ _ _ (Adds _ _ _ (Creates name count fits)) is = refl
 of_leases log c by _ _ _ _ is = cc
 
+-- The decision on a command on leases gives an answer that such a command may get.
 pub lease_answers : (log : Journal) (c by : ℕ) (what : Command) → is_service what ≡ false
     → IsLeases (decide log c by what)
 lease_answers log c by what is = of_leases log c by what _ _ (walk log c by what) is

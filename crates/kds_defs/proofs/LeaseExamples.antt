@@ -1,4 +1,5 @@
--- Worked examples of leases, computed from the definitions.
+-- Worked examples of leases, computed from the definitions. Each example states the answers to a list of turns after an
+-- empty history.
 use Rattle.std.specs.Prelude.{ℕ, ◌≡◌, true, false, List, [], ◌∷◌, ◌++◌, Some, None, Ok, Err, Result}
 use Rattle.std.proofs.Common.{refl}
 use Rattle.kds_base.specs.declared.lease_key.ShardRef.{ShardRef}
@@ -17,6 +18,7 @@ use Rattle.kds_defs.specs.declared.reply.Stored.{Stored}
 use Rattle.kds_defs.specs.Decision.{refuse◌if◌else◌, with◌or◌then◌}
 use Rattle.kds_defs.specs.Histories.{answers}
 
+-- A turn of the actor `by`. Actors other than 0 are workers here, with the same numbers.
 turn : ℕ → ℕ → Command → Turn
 turn by at what = record { by = by; at = at; what = what }
 
@@ -26,13 +28,15 @@ name = 115 ∷ []
 item : NewItem
 item = record { key = 97 ∷ []; hash = 0x0cc175b9c0f1b6a831c399e269772661; payload = 104 ∷ 105 ∷ [] }
 
+-- A record with the key and the payload of `item`, as a read returns it.
 kept : ℕ → ℕ → Stored
 kept seq arrival = record { seq = seq; arrival = arrival; key = 97 ∷ []; payload = 104 ∷ 105 ∷ [] }
 
+-- The key that names the shard `shard` of stream 1.
 key : ℕ → ShardRef
 key shard = record { stream = 1; shard = shard }
 
--- One shard has two records, and a row.
+-- A stream with one shard gets two records, and worker 1 makes a row for the shard.
 begun : List Turn
 begun =
     turn 0 3000 (command.Create name 1)
@@ -40,6 +44,7 @@ begun =
     ∷ turn 0 3000 (command.Put name item)
     ∷ turn 1 3000 (command.MakeLease (key 0) origin.TrimHorizon) ∷ []
 
+-- The answers to the turns `begun`.
 begun_so : List (Result Reply Refusal)
 begun_so =
     Ok reply.Done
@@ -47,7 +52,8 @@ begun_so =
     ∷ Ok (reply.Put (record { shard = 0; seq = 2 }))
     ∷ Ok (reply.Leased origin.TrimHorizon) ∷ []
 
--- The lease is taken away from a worker that reads.
+-- Worker 1 takes the row and reads, and then worker 2 takes the row away. Worker 1 may still give what it read, but it
+-- can't set the checkpoint any more. Worker 2 can't do so in the tenure of worker 1.
 robbed : List Turn
 robbed =
     turn 1 3000 (command.Take (key 0) 0 1)
@@ -59,6 +65,7 @@ robbed =
     ∷ turn 1 3000 (command.Mark 1 1 (target.At 2))
     ∷ turn 2 3000 (command.Mark 1 2 (target.At 2)) ∷ []
 
+-- The answers to the turns `robbed`, which come after the turns `begun`.
 robbed_so : List (Result Reply Refusal)
 robbed_so =
     Ok (reply.Taken 1 1 checkpoint.TrimHorizon)
@@ -70,11 +77,13 @@ robbed_so =
     ∷ Err (refusal.Lost 2)
     ∷ Err refusal.NotYours ∷ []
 
+-- The turns `begun` and `robbed` get the answers `begun_so` and `robbed_so`.
 robbed_lease : answers [] (begun ++ robbed) ≡ begun_so ++ robbed_so
 unfolding refuse◌if◌else◌ with◌or◌then◌ turn name item kept key begun begun_so robbed robbed_so
 robbed_lease = refl
 
--- What is read, given and marked by the second worker, in order and out of order.
+-- What worker 2 does after it took the row. It must read at its reach, it can't mark what isn't given, below its
+-- checkpoint or at the shard's end, and it can't renew a row that it freed.
 order_of_marks : answers [] (
     begun ++ robbed
     ++ turn 2 3000 (command.OpenShard 2)
@@ -118,7 +127,7 @@ order_of_marks : answers [] (
 unfolding refuse◌if◌else◌ with◌or◌then◌ turn name item kept key begun begun_so robbed robbed_so
 order_of_marks = refl
 
--- A merged shard is opened only after both of its parents ended.
+-- The child of a merge is opened only after both of its parents were read to their ends and marked there.
 two_parents : answers [] (
     turn 0 4000 (command.Create name 2)
     ∷ turn 0 4000 (command.Merge name 0 1)
@@ -158,7 +167,8 @@ two_parents : answers [] (
 unfolding refuse◌if◌else◌ with◌or◌then◌ turn name key
 two_parents = refl
 
--- A parent that was never taken holds its child back until the parent has expired. Its row is cut then, and not before.
+-- The parents of a merged shard are never read. Their child can't be opened until the parents are expired, and the row
+-- of a parent can't be removed earlier either.
 expired_parent : answers [] (
     turn 0 4000 (command.Create name 2)
     ∷ turn 0 4000 (command.Merge name 0 1)
@@ -178,7 +188,7 @@ expired_parent : answers [] (
 unfolding refuse◌if◌else◌ with◌or◌then◌ turn name key
 expired_parent = refl
 
--- What was read may be given and marked even if it is trimmed meanwhile.
+-- A read may be given, and the checkpoint may be set to its record, even if the record is trimmed meanwhile.
 read_trim_give : answers [] (
     turn 0 1000 (command.Create name 1)
     ∷ turn 0 1000 (command.Put name item)

@@ -23,8 +23,8 @@ name = 115 ∷ []
 item : NewItem
 item = record { key = 97 ∷ []; hash = 0x0cc175b9c0f1b6a831c399e269772661; payload = [] }
 
--- Two shards are scaled to three by one merge and two splits, and the next put goes on. Three shards scaled to three
--- give no entry.
+-- Two shards are scaled to three by one merge and two splits. These three steps take the sequence numbers 1 to 3, so
+-- the next put takes 4. Scaling three shards to three gives no entry, and scaling to 501 shards is refused.
 scaled : answers [] (
     turn 1000 (command.Create name 2)
     ∷ turn 1000 (command.Scale name 3)
@@ -40,7 +40,8 @@ scaled : answers [] (
 unfolding refuse◌if◌else◌ with◌or◌then◌ turn name item
 scaled = refl
 
--- A stream with limits has a record of 1,048,575 payload bytes and a key of one byte in its shard.
+-- The journal of a stream whose limits are on, and whose only shard has one record, put at the time 5000. The record
+-- has 1,048,575 bytes of payload and a key of one byte.
 filled : Journal
 filled =
     record {
@@ -54,17 +55,18 @@ filled =
     ∷ plain_line 1000 0 (entry.Made 1 (115 ∷ []) 1)
     ∷ []
 
--- Its shard takes no more within the second.
+-- At the time 5999, which is in the same second, the shard of `filled` takes no further record.
 within_the_second : is_held_back filled 5999 1 item ≡ true
 unfolding filled item
 within_the_second = refl
 
--- Its shard takes the record in the next second.
+-- At the time 6000, which is in the next second, the shard of `filled` takes a record again.
 in_the_next : is_held_back filled 6000 1 item ≡ false
 unfolding filled item
 in_the_next = refl
 
--- Each item is judged, and the limits are off at first.
+-- After the limits of a stream are turned on, two small records that are put together are both stored. The limits of a
+-- stream that doesn't exist can't be turned on.
 enforced : answers [] (
     turn 1000 (command.Create name 1)
     ∷ turn 5000 (command.Enforce name true)

@@ -1,5 +1,6 @@
--- The walk through the commands, once: what each leads to is a refusal, a reply without lines, one line, the lines of
--- puts, or those of a scaling. What is shown of every command is shown of these.
+-- Each command leads to one of five outcomes: a refusal, a reply without lines, a reply with one line, the lines of
+-- puts, or the lines of a scaling (`Outcome`). What is to be proved of every command is proved for these outcomes. In
+-- this file, `log` is a journal, `c` the clock, and `by` the actor that sends the command.
 use Rattle.std.proofs.Common.{◌≡◌, ◌⊎◌, inl, inr, ℕ, Bool, true, false, List, [], ◌∷◌, map, length, Option, Some, None}
 use Rattle.std.proofs.Common.{refl, subst}
 use Rattle.std.specs.Prelude.{◌+◌, ◌==◌, ◌&&◌, ◌||◌, not, nat_lt, Result, Ok, Err, if◌then◌else◌}
@@ -42,7 +43,7 @@ use Rattle.kds_defs.proofs.Leads.{Leads, if_none, if_refused, leads_so, past_the
 
 -- ---- The outcomes
 
--- The records `rs` are those of some batch of the journal.
+-- The records `rs` are the batch that a read returns from some shard, at some position, limit and clock.
 pub record AreRead (log : Journal) (rs : List Stored) : Type 0 where
   pub clock : ℕ
   pub stream : ℕ
@@ -51,7 +52,8 @@ pub record AreRead (log : Journal) (rs : List Stored) : Type 0 where
   pub limit : ℕ
   pub are : map stored (batch log clock stream shard place limit) ≡ rs
 
--- A command adds no line, and this is its reply.
+-- The command only reads, adds no line, and gets a reply of the kind that is stated for it. The records in a reply to
+-- GetRecords are those of some batch (`AreRead`).
 pub data Shows (log : Journal) : Command → Reply → Type 0 where
   Lists_streams : (after : Option (List ℕ)) (limit : ℕ) (names : List (List ℕ)) (more : Bool)
       → Shows log (command.Streams after limit) (reply.Streams names more)
@@ -68,8 +70,8 @@ pub data Shows (log : Journal) : Command → Reply → Type 0 where
       → Shows log (command.Records iter limit) (reply.Records rs next late xs)
   Surveys : (keys : List ShardRef) (rows : List Row) → Shows log command.Survey (reply.Survey keys rows)
 
--- A command adds one line, and these are the line and the reply. What the command passed so far is stated as proofs
--- cite it.
+-- The command adds one line, and both this line and the reply are stated for it. Each case also states some of the
+-- tests that the command passed, in the form in which proofs use them.
 pub data Tells (log : Journal) (c by : ℕ) : Command → Line → Reply → Type 0 where
   Creates : (name : List ℕ) (count : ℕ) → (made_count log == last_number) ≡ false
       → Tells log c by (command.Create name count) (plain_line c by (entry.Made (made_count log + 1) name count))
@@ -130,11 +132,13 @@ pub data Tells (log : Journal) (c by : ℕ) : Command → Line → Reply → Typ
   Cuts : (key : ShardRef) (counter : ℕ)
       → Tells log c by (command.CutLease key counter) (plain_line c by (entry.LeaseCut key counter)) reply.Done
 
--- A command for the service may get a refusal of the service, and any other command one of the leases.
+-- Whether the command `what` may get the refusal `r`: a command for the stream service may get a refusal of the
+-- service, and any other command a refusal of leases.
 abbrev pub may_refuse : Command → Refusal → Bool
 may_refuse what r = if is_service what then is_service_refusal r else is_lease_refusal r
 
--- What a command leads to.
+-- What a command leads to, with the lines that it adds and its answer: a refusal, a reply without lines, a reply with
+-- one line, the lines of puts, or the lines of a scaling.
 pub data Outcome (log : Journal) (c by : ℕ) : Command → List Line → Result Reply Refusal → Type 0 where
   Refuses : (what : Command) (r : Refusal) → may_refuse what r ≡ true → Outcome log c by what [] (Err r)
   Answers : (what : Command) (r : Reply) → Shows log what r → Outcome log c by what [] (Ok r)
@@ -152,7 +156,7 @@ pub data Outcome (log : Journal) (c by : ℕ) : Command → List Line → Result
       (Ok (reply.Scaled name (length (open_shards log s)) goal
       (map (λ line. line.what) (step_lines log c by s (steps_to log s goal)))))
 
--- ---- The walk
+-- ---- Each command leads to one of these outcomes
 
 module _ (log : Journal) (c by : ℕ) where
   Is : Command → List Line → Result Reply Refusal → Type 0
@@ -268,31 +272,35 @@ module _ (log : Journal) (c by : ℕ) where
   led (command.CutLease key counter) =
       on _ _ _ _ refl (λ r there. no _ _ _ _ refl (λ a. no _ _ _ _ refl (λ b. one _ _ _ (Cuts key counter))))
 
+  -- The lines and the answer of the decision on a command are those of one of the outcomes (`Outcome`).
   pub walk : (what : Command)
       → Outcome log c by what (lines_of (decide log c by what)) (answer_of (decide log c by what))
   unfolding Is
   walk what = leads_so (Is what) (decide log c by what) (led what)
 
-  -- What an accepted command leads to.
+  -- If the decision on a command accepts with `lines` and the reply `r`, these are the lines and the reply of one of
+  -- the outcomes (`Outcome`).
   pub accepted : (what : Command) (lines : List Line) (r : Reply) → decide log c by what ≡ Accepted lines r
       → Outcome log c by what lines (Ok r)
   unfolding Is
   accepted what lines r is = subst (Leads (Is what)) is (led what)
 
--- ---- Each line
+-- ---- Each line that a command adds
 
 -- The item `item` is in a list of items.
 abbrev pub IsAmong : List NewItem → NewItem → Type 0
 IsAmong [] item = ⊥
 IsAmong (x ∷ items) item = (x ≡ item) ⊎ IsAmong items item
 
+-- If `P` is true of all items in a list, it is true of an item that is in the list.
 pub of_all : (P : NewItem → Type 0) (items : List NewItem) (item : NewItem) → IsAmong items item
     → AllByRecursion P items → P item
 of_all P [] item among all = absurd among
 of_all P (x ∷ items) item (inl same) all = subst P same all.0
 of_all P (x ∷ items) item (inr among) all = of_all P items item among all.1
 
--- A line that a command adds is the one that it tells, the line of an item of many, or a merge or a split of a scaling.
+-- The line is one that the command may add: its only line, the line of one item of PutRecords, or the line of a merge
+-- or a split in a scaling.
 pub data IsAdded (log : Journal) (c by : ℕ) : Command → Line → Type 0 where
   Alone : (what : Command) (line : Line) (r : Reply) → Tells log c by what line r → IsAdded log c by what line
   Stored_one : (name : List ℕ) (items : List NewItem) (before : Journal) (s number : ℕ) (item : NewItem)
@@ -304,6 +312,8 @@ pub data IsAdded (log : Journal) (c by : ℕ) : Command → Line → Type 0 wher
       → IsAdded log c by (command.Scale name goal) (plain_line c by (entry.Split s sh at number low high))
 
 module _ (P : Line → Type 0) (c by s : ℕ) where
+  -- If `P` is true of the line of a put of each of `items`, with any sequence number and after any journal, it is true
+  -- of all lines that PutRecords adds for these items.
   pub each_put : (items : List NewItem) (log : Journal)
       → ((before : Journal) (n : ℕ) (item : NewItem) → IsAmong items item → P (put_line before c by s n item))
       → AllByRecursion P (put_lines log c by s items)
@@ -320,6 +330,8 @@ module _ (P : Line → Type 0) (c by s : ℕ) where
       kept true line xs ys is skip take = skip
       kept false line xs ys is skip take = (is, take)
 
+  -- If `P` is true of the line of each merge and of each split in stream `s`, it is true of all lines of the steps of a
+  -- scaling.
   pub each_step : (steps : List ScaleStep) (log : Journal)
       → ((sh other n child : ℕ) → P (plain_line c by (entry.Merged s sh other n child)))
       → ((sh at n low high : ℕ) → P (plain_line c by (entry.Split s sh at n low high)))
@@ -341,7 +353,7 @@ each_of P log c by _ _ _ (Scales name goal s named few fits) each =
     each_step P c by s (steps_to log s goal) log (λ sh other n child. each _ (Joined name goal s sh other n child))
     (λ sh at n low high. each _ (Divided name goal s sh at n low high))
 
--- A command that only reads adds no line.
+-- If a command only reads streams, shards or records, its outcome (`Outcome`) has no lines.
 idle : (log : Journal) (c by : ℕ) (what : Command) (lines : List Line) (answer : Result Reply Refusal)
     → Outcome log c by what lines answer
     → is_query what ≡ true → lines ≡ []
@@ -350,11 +362,13 @@ idle log c by _ _ _ (Answers what r shows) query = refl
 idle log c by _ _ _ (Adds _ _ _ (Creates name count fits)) query = absurd cc
 idle log c by _ _ _ _ query = absurd cc
 
+-- A command that only reads streams, shards or records (`is_query`) adds no line.
 pub query_idle : (log : Journal) (c by : ℕ) (what : Command) → is_query what ≡ true
     → lines_of (decide log c by what) ≡ []
 query_idle log c by what = idle log c by what _ _ (walk log c by what)
 
--- What is true of each line that a command may add is true of the lines that it adds.
+-- If `P` is true of each line that a command may add (`IsAdded`), it is true of all lines that the decision on the
+-- command adds.
 pub each_line : (P : Line → Type 0) (log : Journal) (c by : ℕ) (what : Command)
     → ((line : Line) → IsAdded log c by what line → P line)
     → AllByRecursion P (lines_of (decide log c by what))
@@ -362,12 +376,15 @@ each_line P log c by what each = each_of P log c by what _ _ (walk log c by what
 
 -- ---- The lines of a journal
 
+-- If `P` is true of each of `lines` and of each line of the journal `log`, it is true of each line of `log` with
+-- `lines` added.
 pub all_with : (P : Line → Type 0) (lines : List Line) (log : Journal) → AllByRecursion P lines → AllByRecursion P log
     → AllByRecursion P (with_lines lines log)
 all_with P [] log new old = old
 all_with P (line ∷ lines) log new old = all_with P lines (line ∷ log) new.1 (new.0, old)
 
--- What is true of each line that turns of some kind add is true of the journal of such turns.
+-- Suppose that `P` is true of each line that a turn with the property `Q` may add. Then `P` is true of each line in the
+-- journal that a history leaves, if all turns of the history have the property `Q`.
 pub each_journal : (P : Line → Type 0) (Q : Turn → Type 0)
     → ((log : Journal) (c : ℕ) (turn : Turn) → Q turn → (line : Line) → IsAdded log c turn.by turn.what line → P line)
     → (h : List Turn) → AllByRecursion Q h → AllByRecursion P (journal h)

@@ -1,4 +1,6 @@
--- What a machine answers to the turns of a history, and the journal that the history leaves.
+-- What a machine answers to a turn after a history, and the journal (event log) that a history leaves. A history is the
+-- list of the turns so far, the newest first: `turn ∷ h` is the history `h` followed by `turn`. In this file, `log` is
+-- a journal, `c` is a clock, and `by` is the number of the actor that sends a command.
 use Rattle.std.specs.Prelude.{ℕ, max, List, [], ◌∷◌, Result, Ok, Err}
 use Rattle.kds_defs.specs.declared.command.Command.{Command}
 use Rattle.kds_defs.specs.declared.command.Command.TheVariants as command
@@ -16,11 +18,13 @@ use Rattle.kds_defs.specs.PutCommands.{enforce, put, put_many}
 use Rattle.kds_defs.specs.ScaleCommands.{scale_stream}
 use Rattle.kds_defs.specs.Streams.{stream_named}
 
--- The decision `next` of the live stream with the name `name`, or a refusal if there is no such stream.
+-- The decision that `next` gives for the number of the live stream with the name `name`. If no live stream has this
+-- name, it is the refusal `NoStream`.
 abbrev pub with_stream : Journal → List ℕ → (ℕ → Decision) → Decision
 with_stream log name next = with stream_named log name or refusal.NoStream then next
 
--- The decision on a command of the actor `by` at the clock `c`, after the lines of `log`.
+-- The decision on the command of the actor `by` at the clock `c`, after the lines of `log`: a refusal, or the lines
+-- that the command adds and its reply.
 abbrev pub decide : Journal → ℕ → ℕ → Command → Decision
 decide log c by (command.Create name count) = create log c by name count
 decide log c by (command.Delete name) = with_stream log name λ s. delete log c by s
@@ -49,36 +53,37 @@ decide log c by (command.Give t) = give log c by t
 decide log c by (command.Mark t counter to) = mark log c by t counter to
 decide log c by (command.CutLease key counter) = cut_lease log c by key counter
 
--- The lines that a decision adds to the journal.
+-- The lines that a decision adds to the journal. A refusal adds none.
 abbrev pub lines_of : Decision → List Line
 lines_of (Refused r) = []
 lines_of (Accepted lines reply) = lines
 
--- The answer of a decision: its reply or its refusal.
+-- The answer that a decision gives: its reply as `Ok`, or its refusal as `Err`.
 abbrev pub answer_of : Decision → Result Reply Refusal
 answer_of (Refused r) = Err r
 answer_of (Accepted lines reply) = Ok reply
 
--- A history is the list of the turns so far, the newest first: `turn ∷ h` is the history `h` followed by `turn`. Its
--- clock is the greatest time of its turns, or 0 if it has no turns.
+-- The clock of a history: the greatest time of its turns, or 0 if it has no turns.
 abbrev pub clock : List Turn → ℕ
 clock [] = 0
 clock (turn ∷ h) = max (clock h) turn.at
 
--- The decision on `turn` at the clock `c`, after the lines of `log`.
+-- The decision on the command that `turn` has, sent by the turn's actor, at the clock `c` and after the lines of `log`.
 abbrev pub decision : Journal → ℕ → Turn → Decision
 decision log c turn = decide log c turn.by turn.what
 
--- The journal that a history leaves.
+-- The journal that a history leaves: the lines that the decisions on its turns add. The decision on each turn is made
+-- after the lines of the turns before it, at the greatest time of the turns up to this one.
 abbrev pub journal : List Turn → Journal
 journal [] = []
 journal (turn ∷ h) = with_lines (lines_of (decision (journal h) (clock (turn ∷ h)) turn)) (journal h)
 
--- The answer to `turn` after the history `h`.
+-- The answer to `turn` after the history `h`: a reply or a refusal.
 abbrev pub answer : List Turn → Turn → Result Reply Refusal
 answer h turn = answer_of (decision (journal h) (clock (turn ∷ h)) turn)
 
--- The answers to `turns`, which follow the history `h` one after another, the first of them first.
+-- The answers to `turns`, which follow the history `h` one after another. Unlike a history, `turns` and the answers
+-- have the oldest element first.
 abbrev pub answers : List Turn → List Turn → List (Result Reply Refusal)
 answers h [] = []
 answers h (turn ∷ turns) = answer h turn ∷ answers (turn ∷ h) turns

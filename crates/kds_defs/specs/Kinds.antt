@@ -1,4 +1,5 @@
--- Which commands are for the stream service and which are for leases, and the answers that each may get.
+-- Which commands are for the stream service and which are for leases, and which replies and refusals the commands of
+-- each kind may get.
 use Rattle.std.specs.Prelude.{Bool, true, false, ◌&&◌, not, Result, Ok, Err}
 use Rattle.kds_defs.specs.declared.command.Command.{Command}
 use Rattle.kds_defs.specs.declared.command.Command.TheVariants as command
@@ -7,7 +8,7 @@ use Rattle.kds_defs.specs.declared.reply.Refusal.TheVariants as refusal
 use Rattle.kds_defs.specs.declared.reply.Reply.{Reply}
 use Rattle.kds_defs.specs.declared.reply.Reply.TheVariants as reply
 
--- Whether a command is for streams, shards or records, and not for leases.
+-- Whether a command is for the stream service (for streams, shards or records), and not for leases.
 abbrev pub is_service : Command → Bool
 is_service command.Survey = false
 is_service (command.MakeLease key from) = false
@@ -21,7 +22,7 @@ is_service (command.Mark tenure counter to) = false
 is_service (command.CutLease key counter) = false
 is_service _ = true
 
--- Whether a command changes streams, shards or records.
+-- Whether a command is of a kind that changes streams, shards or records unless it is refused.
 abbrev pub is_change : Command → Bool
 is_change (command.Create name count) = true
 is_change (command.Delete name) = true
@@ -34,11 +35,13 @@ is_change (command.Scale name target) = true
 is_change (command.Enforce name on) = true
 is_change _ = false
 
--- Whether the command `what` reads streams, shards or records, and changes nothing.
+-- Whether the command `what` only reads streams, shards or records: it is for the stream service, and it isn't a change
+-- (`is_change`).
 abbrev pub is_query : Command → Bool
 is_query what = is_service what && not (is_change what)
 
--- Whether a command is for leases and names a tenure, together with a counter or a position.
+-- Whether a command names a tenure together with the counter that the row must have (Renew, Free and Mark) or with the
+-- position at which the tenure must read (Read).
 abbrev pub is_counted : Command → Bool
 is_counted (command.Renew tenure counter) = true
 is_counted (command.Free tenure counter) = true
@@ -46,6 +49,7 @@ is_counted (command.Read tenure position limit) = true
 is_counted (command.Mark tenure counter to) = true
 is_counted _ = false
 
+-- Whether a reply is one that a command for the stream service may get.
 abbrev pub is_service_reply : Reply → Bool
 is_service_reply (reply.Survey shards rows) = false
 is_service_reply (reply.Leased from) = false
@@ -55,6 +59,7 @@ is_service_reply (reply.Read batch reach ended) = false
 is_service_reply (reply.Given delivered) = false
 is_service_reply _ = true
 
+-- Whether a refusal is one that a command for the stream service may get.
 abbrev pub is_service_refusal : Refusal → Bool
 is_service_refusal refusal.NoStream = true
 is_service_refusal refusal.StreamThere = true
@@ -71,11 +76,13 @@ is_service_refusal refusal.Spent = true
 is_service_refusal (refusal.Throttled sh) = true
 is_service_refusal _ = false
 
--- Whether an answer is one that a command for the stream service may get.
+-- Whether an answer (a reply or a refusal) is one that a command for the stream service may get.
 abbrev pub is_service_answer : Result Reply Refusal → Bool
 is_service_answer (Ok r) = is_service_reply r
 is_service_answer (Err r) = is_service_refusal r
 
+-- Whether a reply is one that a command for leases may get. Only the reply `Done` is also one that a command for the
+-- stream service may get.
 abbrev pub is_lease_reply : Reply → Bool
 is_lease_reply reply.Done = true
 is_lease_reply (reply.Survey shards rows) = true
@@ -86,6 +93,8 @@ is_lease_reply (reply.Read batch reach ended) = true
 is_lease_reply (reply.Given delivered) = true
 is_lease_reply _ = false
 
+-- Whether a refusal is one that a command for leases may get. Only the refusal `Spent` is also one that a command for
+-- the stream service may get.
 abbrev pub is_lease_refusal : Refusal → Bool
 is_lease_refusal refusal.NoLease = true
 is_lease_refusal refusal.NoTenure = true
@@ -108,7 +117,7 @@ is_lease_refusal refusal.ShardListed = true
 is_lease_refusal refusal.Spent = true
 is_lease_refusal _ = false
 
--- Whether an answer is one that a command for leases may get.
+-- Whether an answer (a reply or a refusal) is one that a command for leases may get.
 abbrev pub is_lease_answer : Result Reply Refusal → Bool
 is_lease_answer (Ok r) = is_lease_reply r
 is_lease_answer (Err r) = is_lease_refusal r

@@ -1,4 +1,5 @@
--- The journals that a machine can leave: each line is good after the lines before it.
+-- The journals that a machine can leave: each line records a command that is accepted after the lines before it. In
+-- this file, `log` is a journal.
 use Rattle.std.specs.Prelude.{ℕ, ◌-◌, ◌^◌, ◌<◌, ◌≤◌, ◌≡◌, not, nat_lt, [], ◌∷◌, Option, Some, None}
 use Rattle.kds_defs.specs.declared.command.NewItem.{NewItem}
 use Rattle.kds_defs.specs.declared.entry.Entry.{Entry}
@@ -14,21 +15,22 @@ use Rattle.kds_defs.specs.StreamCommands.{create, delete, split, merge, keep}
 use Rattle.kds_defs.specs.PutCommands.{enforce, put}
 use Rattle.kds_defs.specs.Streams.{is_live, hours}
 
--- The decision `next` if stream `s` is live, or else a refusal.
+-- The decision `next` if stream `s` is live, and the refusal `NoStream` otherwise.
 abbrev pub in_stream : Journal → ℕ → Decision → Decision
 in_stream log s next = refuse refusal.NoStream if not (is_live log s) else next
 
--- The item that the put `line` stored.
+-- The record that was put by `line`, the line of a put with the hash key `hash`.
 abbrev pub item_of : Line → ℕ → NewItem
 item_of line hash = record { key = line.key; hash = hash; payload = line.payload }
 
--- The reach of a tenure, or 0 if there is no tenure.
+-- The reach of a tenure, which is the position after all its reads, or 0 if there is no tenure.
 abbrev pub reach_in : Option TenureState → ℕ
 reach_in None = 0
 reach_in (Some T) = reach T
 
--- The decision on the command that an entry tells, after the lines of `log`. The actor and the clock are those of
--- `line`.
+-- The decision on the command that an entry of `line` records, by the actor and at the clock of `line`, after the lines
+-- of `log`. Each record of a PutRecords counts as a PutRecord, and each step of a scaling as a SplitShard or
+-- MergeShards.
 abbrev pub told : Journal → Line → Entry → Decision
 told log line (entry.Made s name count) = create log line.clock line.by name count
 told log line (entry.Gone s) = in_stream log s (delete log line.clock line.by s)
@@ -49,32 +51,33 @@ told log line (entry.Given t) = give log line.clock line.by t
 told log line (entry.Marked t counter to) = mark log line.clock line.by t (counter - 1) to
 told log line (entry.LeaseCut key counter) = cut_lease log line.clock line.by key counter
 
--- The numbers of an entry are within their ranges.
+-- The numbers of an entry are within their ranges: the number of shards of a new stream, the hash key of a put, and a
+-- new retention.
 abbrev pub IsInRange : Entry → Type 0
 IsInRange (entry.Made s name count) = IsShardCount count
 IsInRange (entry.Put s sh number hash bytes key_bytes) = hash < 2 ^ 128
 IsInRange (entry.Kept s wanted) = IsRetention wanted
 IsInRange _ = Unit {0}
 
--- The clock of the newest line, or 0 if there are no lines.
+-- The clock of the newest line of a journal, or 0 if there are no lines.
 abbrev pub last_clock : Journal → ℕ
 last_clock [] = 0
 last_clock (line ∷ log) = line.clock
 
--- The line `line` is good after the lines of `log`: the command that it tells, by its actor at its clock, is allowed
--- there and gives exactly this line.
+-- The line `line` is good after the lines of `log`: the command that it records is accepted after these lines, and adds
+-- exactly this line. Its clock isn't below that of the newest line of `log`, and its numbers are within their ranges.
 pub record IsGood (log : Journal) (line : Line) : Type 0 where
   pub in_order : last_clock log ≤ line.clock
   pub in_range : IsInRange line.what
   pub reply : Reply
   pub allowed : told log line line.what ≡ Accepted (line ∷ []) reply
 
--- Each line of a journal is good after the lines before it.
+-- Each line of a journal is good (`IsGood`) after the lines before it.
 abbrev pub IsLegal : Journal → Type 0
 IsLegal [] = Unit {0}
 IsLegal (line ∷ log) = IsGood log line × IsLegal log
 
--- The journal `log` can be reached at the clock `c`: it is legal, and none of its lines is later than `c`.
+-- The journal `log` can be left by a machine whose clock is `c`: it is legal, and none of its lines is later than `c`.
 pub record IsReached (log : Journal) (c : ℕ) : Type 0 where
   pub legal : IsLegal log
   pub order : last_clock log ≤ c

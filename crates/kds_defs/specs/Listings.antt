@@ -1,4 +1,5 @@
--- The commands that read streams: their refusals in order, and their replies.
+-- The commands that read streams: their refusals in order, and their replies. In this file, `log` is a journal, `c` is
+-- the present clock, `s` is the number of a stream, and `sh` is the number of a shard in the stream.
 use Rattle.std.specs.Prelude.{ℕ, ◌+◌, ◌-◌, Bool, true, false, ◌&&◌, not, is_none, nat_le, nat_lt, if◌then◌else◌, List}
 use Rattle.std.specs.Prelude.{[], ◌∷◌, ◌++◌, length, map, take, Option, Some, None}
 use Rattle.std.specs.List.{filter}
@@ -23,59 +24,74 @@ use Rattle.kds_defs.specs.Records.{Logged, next_number, left_from, batch, number
 use Rattle.kds_defs.specs.Shards.{ShardState, shard_at, Closing, is_listed, listed_shards, open_shards, children, shown}
 use Rattle.kds_defs.specs.Streams.{is_live, live_streams, name_of, made_at, hours}
 
--- Whether there are more elements in `xs` than `limit`.
+-- Whether the list `xs` has more than `limit` elements.
 abbrev pub are_more : {A : Type 0} → ℕ → List A → Bool
 are_more limit xs = nat_lt limit (length xs)
 
 -- ---- ListStreams
 
--- Whether the name `a` comes before the name `b` in the order of bytes (`name_before`).
+-- Whether the result of a comparison is that the first value is less than the second.
 abbrev pub is_less : Ordering → Bool
 is_less Less = true
 is_less Equal = false
 is_less Greater = false
 
+-- Whether the name `a` comes before the name `b`. Names are compared byte by byte.
 abbrev pub name_before : List ℕ → List ℕ → Bool
 name_before a b = is_less (slice_cmp nat_cmp a b)
 
+-- A list of names in order (`name_before`), with `name` inserted in its place.
 abbrev pub with_name : List ℕ → List (List ℕ) → List (List ℕ)
 with_name name [] = name ∷ []
 with_name name (n ∷ names) = if name_before name n then name ∷ n ∷ names else n ∷ with_name name names
 
+-- The names of a list, sorted in the order of their bytes.
 abbrev pub names_in_order : List (List ℕ) → List (List ℕ)
 names_in_order [] = []
 names_in_order (name ∷ names) = with_name name (names_in_order names)
 
+-- Whether `name` comes after the name that the first argument has, or the first argument has no name.
 abbrev pub is_after_name : Option (List ℕ) → List ℕ → Bool
 is_after_name None name = true
 is_after_name (Some after) name = name_before after name
 
--- The names of the live streams, in the order of bytes. With a name in `after`, they are only those behind it.
+-- The names of the live streams, in the order of their bytes. If `after` has a name, only the names that come after
+-- this name are in the list.
 abbrev pub names_after : Journal → Option (List ℕ) → List (List ℕ)
 names_after log after = filter (is_after_name after) (names_in_order (map (name_of log) (live_streams log)))
 
+-- The decision on ListStreams. The reply has the first `limit` of the stream names after `after` (`names_after`), and
+-- whether there are more.
 abbrev pub streams : Journal → Option (List ℕ) → ℕ → Decision
 streams log after limit =
     Accepted [] (reply.Streams (take limit (names_after log after)) (are_more limit (names_after log after)))
 
 -- ---- DescribeStream, DescribeStreamSummary and ListShards for a live stream
 
+-- What replies say of stream `s`: its name, the time at which it was made, and its retention in hours.
 abbrev pub about : Journal → ℕ → About
 about log s = record { name = name_of log s; made = made_at log s; hours = hours log s }
 
+-- Whether the number of the shard `x` is greater than the number that the first argument has, or the first argument has
+-- no number.
 abbrev pub is_after_shard : Option ℕ → ShardState → Bool
 is_after_shard None x = true
 is_after_shard (Some after) x = nat_lt after x.no
 
--- The listed shards, as replies show them. With a number in `after`, they are only those with a greater number.
+-- The listed shards of stream `s` at the clock `c`, as replies show them. If `after` has a number, only shards with a
+-- greater number are in the list.
 abbrev pub shards_from : Journal → ℕ → ℕ → Option ℕ → List Shard
 shards_from log c s after = map shown (filter (is_after_shard after) (listed_shards log c s))
 
+-- The decision on DescribeStream for the live stream `s`. The reply has the stream's name, time and retention
+-- (`about`), the first `limit` of its listed shards after the number `after`, and whether there are more shards.
 abbrev pub describe : Journal → ℕ → ℕ → Option ℕ → ℕ → Decision
 describe log c s after limit =
     Accepted [] (reply.Described (about log s) (take limit (shards_from log c s after))
     (are_more limit (shards_from log c s after)))
 
+-- The decision on DescribeStreamSummary for the live stream `s`. The reply has the stream's name, time and retention
+-- (`about`), and the number of its open shards.
 abbrev pub summary : Journal → ℕ → Decision
 summary log s = Accepted [] (reply.Summary (about log s) (length (open_shards log s)))
 
@@ -85,6 +101,8 @@ last_no [] = 0
 last_no (x ∷ []) = x.no
 last_no (x ∷ y ∷ xs) = last_no (y ∷ xs)
 
+-- The decision on ListShards for the live stream `s`. The reply has the first `limit` of the listed shards after the
+-- number `after`, and a token for the next page if there are more shards.
 abbrev pub list_shards : Journal → ℕ → ℕ → Option ℕ → ℕ → Decision
 list_shards log c s after limit =
     Accepted [] (reply.Shards (take limit (shards_from log c s after))
@@ -96,6 +114,8 @@ list_shards log c s after limit =
 abbrev pub is_old : ℕ → ℕ → Bool
 is_old c issued = nat_lt TOKEN_LIFE (c - issued)
 
+-- The decision on ListShards for a request with the token `page`. The reply has the next page of at most `limit`
+-- shards. The command is refused if the token is too old or its stream isn't live.
 abbrev pub more : Journal → ℕ → Page → ℕ → Decision
 more log c page limit =
     refuse refusal.PageExpired if is_old c page.issued else
@@ -104,17 +124,23 @@ more log c page limit =
 
 -- ---- GetShardIterator for a live stream
 
--- Whether `q` is at least `first`, the shard's first number. It must also be at most `next`, the stream's next number,
--- or at most the ending number of a closed shard.
+-- Whether an iterator may begin at the sequence number `q` (AT_SEQUENCE_NUMBER). `q` must be at least `first`, the
+-- shard's starting sequence number. It must be at most the ending sequence number of a closed shard, or, if the shard
+-- is open, at most `next`, the stream's next sequence number.
 abbrev pub is_good_at : ℕ → ℕ → ℕ → Option Closing → Bool
 is_good_at first next q None = nat_le first q && nat_le q next
 is_good_at first next q (Some closing) = nat_le first q && nat_le q closing.number
 
--- Whether `is_good_at` holds for `q` and, if the shard isn't closed, `q` is also below `next`.
+-- Whether an iterator may begin after the sequence number `q` (AFTER_SEQUENCE_NUMBER). `q` must be at least `first`,
+-- the shard's starting sequence number. It must be at most the ending sequence number of a closed shard, or, if the
+-- shard is open, below `next`, the stream's next sequence number.
 abbrev pub is_good_after : ℕ → ℕ → ℕ → Option Closing → Bool
 is_good_after first next q None = nat_le first q && nat_lt q next
 is_good_after first next q (Some closing) = nat_le first q && nat_le q closing.number
 
+-- Whether an iterator of the shard `x` may have a given start. If the start names a sequence number, this number must
+-- be in the range that `is_good_at` or `is_good_after` states. Other starts are always allowed. `next` is the stream's
+-- next sequence number.
 abbrev pub is_good_start : Start → ℕ → ShardState → Bool
 is_good_start (start.At q) next x = is_good_at x.start next q x.closing
 is_good_start (start.After q) next x = is_good_after x.start next q x.closing
@@ -122,7 +148,9 @@ is_good_start start.TrimHorizon next x = true
 is_good_start start.Latest next x = true
 is_good_start (start.Time moment) next x = true
 
--- The position in shard `sh` at which reading begins.
+-- The position in shard `sh` from which an iterator with a given start reads. For the trim horizon it is 0, and for
+-- LATEST it is the stream's next sequence number. For a time, it is the number of the first untrimmed record that
+-- arrived at this time or later, or the stream's next sequence number if there is none.
 abbrev pub position_of : Journal → ℕ → ℕ → ℕ → Start → ℕ
 position_of log c s sh (start.At q) = q
 position_of log c s sh (start.After q) = q + 1
@@ -130,9 +158,12 @@ position_of log c s sh start.TrimHorizon = 0
 position_of log c s sh start.Latest = next_number log s
 position_of log c s sh (start.Time moment) = first_at (left_from log c s sh 0) moment (next_number log s)
 
+-- The iterator of shard `sh` of stream `s` that is issued at the clock `c` and reads from `position` on.
 abbrev pub iterator_at : ℕ → ℕ → ℕ → ℕ → Iter
 iterator_at c s sh position = record { stream = s; shard = sh; position = position; issued = c }
 
+-- The decision on GetShardIterator for shard `sh` of the live stream `s`. The reply has an iterator with the start
+-- `from`.
 abbrev pub get_iterator : Journal → ℕ → ℕ → ℕ → Start → Decision
 get_iterator log c s sh from =
     refuse refusal.NoShard if not (is_listed log c s sh) else
@@ -142,31 +173,35 @@ get_iterator log c s sh from =
 
 -- ---- GetRecords
 
--- Whether a shard is there and is closed.
+-- Whether there is a shard, and it is closed.
 abbrev pub is_closed_at : Option ShardState → Bool
 is_closed_at None = false
 is_closed_at (Some x) = not (is_none x.closing)
 
+-- Whether a list is empty.
 abbrev pub are_none : {A : Type 0} → List A → Bool
 are_none [] = true
 are_none (x ∷ xs) = false
 
--- Whether shard `sh` is closed, and no record at or above `place` is left that isn't trimmed.
+-- Whether reading of shard `sh` ends at `position`: the shard is closed, and it has no untrimmed record with a sequence
+-- number at or above `position`.
 abbrev pub ends_at : Journal → ℕ → ℕ → ℕ → ℕ → Bool
 ends_at log c s sh place = is_closed_at (shard_at log s sh) && are_none (left_from log c s sh place)
 
--- How long before `c` the first record of a list arrived, or 0 if the list is empty.
+-- How many milliseconds before the clock `c` the first record of a list arrived, or 0 if the list is empty.
 abbrev pub behind : ℕ → List Logged → ℕ
 behind c [] = 0
 behind c (r ∷ rs) = c - r.arrival
 
--- The reply to a read with the batch `rs`, after which reading goes on at `place`.
+-- The decision on a GetRecords of shard `sh` that returns the records `rs`, after which reading goes on at `position`.
+-- If reading ends at `position` (`ends_at`), the reply has the shard's children. Otherwise it has the next iterator.
 abbrev pub records_reply : Journal → ℕ → ℕ → ℕ → List Logged → ℕ → Decision
 records_reply log c s sh rs place =
     Accepted [] (if ends_at log c s sh place
     then reply.Records (map stored rs) None (behind c (left_from log c s sh place)) (map shown (children log s sh))
     else reply.Records (map stored rs) (Some (iterator_at c s sh place)) (behind c (left_from log c s sh place)) [])
 
+-- The decision on GetRecords, which reads at most `limit` records from the position of the iterator `iter` on.
 abbrev pub get_records : Journal → ℕ → Iter → ℕ → Decision
 get_records log c iter limit =
     refuse refusal.Expired if is_old c iter.issued else
@@ -175,13 +210,14 @@ get_records log c iter limit =
     let rs = batch log c iter.stream iter.shard iter.position limit in
     records_reply log c iter.stream iter.shard rs (place_after iter.position (numbers_of rs))
 
--- ---- The survey of a worker
+-- ---- The shards in the reply to Survey
 
+-- The keys that name the shards `xs` of stream `s`.
 abbrev pub refs_of : ℕ → List ShardState → List ShardRef
 refs_of s xs = map (λ x. ref s x.no) xs
 
--- The keys of the listed shards of the streams in a list. If these streams are in the order of their numbers, the keys
--- are in order too.
+-- The keys of the listed shards of all streams in a list, at the clock `c`. If the streams are in the order of their
+-- numbers, the keys are in order (`Keys.is_before`) too.
 abbrev pub listed_in : Journal → ℕ → List ℕ → List ShardRef
 listed_in log c [] = []
 listed_in log c (s ∷ streams) = refs_of s (listed_shards log c s) ++ listed_in log c streams

@@ -1,4 +1,6 @@
--- The sequence numbers of a stream, and the records of its shards.
+-- The next sequence number of a stream, the records of its shards, and the batch that a read returns. In this file,
+-- `log` is a journal, `c` is the present clock, `s` is the number of a stream, and `sh` is the number of a shard in the
+-- stream.
 use Rattle.std.specs.Prelude.{ℕ, zero, suc, ◌+◌, ◌-◌, ◌==◌, ◌&&◌, not, nat_le, nat_lt, if◌then◌else◌, Bool, List, []}
 use Rattle.std.specs.Prelude.{◌∷◌, ◌++◌, length, map}
 use Rattle.std.specs.List.{filter}
@@ -9,20 +11,21 @@ use Rattle.kds_defs.specs.declared.limits.TheConstants.{BATCH_BYTES}
 use Rattle.kds_defs.specs.Journal.{Line, Journal}
 use Rattle.kds_defs.specs.Streams.{is_live, trim_floor}
 
--- How many sequence numbers of stream `s` an entry draws: a put, a split and a merge draw one each.
+-- How many sequence numbers of stream `s` an entry takes: 1 if the entry is a put, a split or a merge in this stream,
+-- and 0 otherwise.
 abbrev pub draws : Entry → ℕ → ℕ
 draws (entry.Put stream shard seq hash bytes key_bytes) s = if stream == s then 1 else 0
 draws (entry.Split stream shard at seq low high) s = if stream == s then 1 else 0
 draws (entry.Merged stream shard other seq child) s = if stream == s then 1 else 0
 draws _ s = 0
 
--- The next sequence number of stream `s`: 1 plus the number of sequence numbers that were drawn.
+-- The next sequence number of stream `s`: 1 plus the number of puts, splits and merges in this stream so far.
 abbrev pub next_number : Journal → ℕ → ℕ
 next_number [] s = 1
 next_number (line ∷ log) s = draws line.what s + next_number log s
 
--- A record of a shard: its sequence number, its time of arrival, the bytes of its payload and key together, and its key
--- and payload.
+-- A record of a shard: its sequence number, its time of arrival, the number of bytes of its payload and key together,
+-- and its key and payload.
 pub record Logged : Type 0 where
   pub seq : ℕ
   pub arrival : ℕ
@@ -30,11 +33,11 @@ pub record Logged : Type 0 where
   pub key : List ℕ
   pub payload : List ℕ
 
--- The record `r` as a read returns it.
+-- The record `r` as a read returns it, without its number of bytes.
 abbrev pub stored : Logged → Stored
 stored r = record { seq = r.seq; arrival = r.arrival; key = r.key; payload = r.payload }
 
--- The stored record `r`, together with the number of bytes of its payload and key.
+-- The record `r`, which a read returned, with the number of bytes of its payload and key added.
 abbrev pub logged : Stored → Logged
 logged r = record {
   seq = r.seq;
@@ -44,7 +47,8 @@ logged r = record {
   payload = r.payload;
 }
 
--- The records of shard `sh` of stream `s`, in order (Kinesis API Reference, Record).
+-- The value of `records` for shard `sh` of stream `s` after `line` and its entry (the second argument), if its value
+-- before `line` is `before`.
 abbrev pub records_after : Line → Entry → ℕ → ℕ → List Logged → List Logged
 records_after line (entry.Put stream shard seq hash bytes key_bytes) s sh before =
     if (stream == s) && (shard == sh)
@@ -58,28 +62,33 @@ records_after line (entry.Put stream shard seq hash bytes key_bytes) s sh before
     else before
 records_after line _ s sh before = before
 
+-- All records that were put into shard `sh` of stream `s`, trimmed ones included, in the order of their puts (Kinesis
+-- API Reference, Record).
 abbrev pub records : Journal → ℕ → ℕ → List Logged
 records [] s sh = []
 records (line ∷ log) s sh = records_after line line.what s sh (records log s sh)
 
--- ---- Batches of any list of records
+-- ---- The batch from any list of records
 
--- Whether the record `r` is left: it arrived at or above `floor`, and its number is at or above `position`.
+-- Whether the record `r` is left for a reader: it arrived at a time at or above `floor`, and its sequence number is at
+-- or above `position`.
 abbrev pub is_left : ℕ → ℕ → Logged → Bool
 is_left floor position r = not (nat_lt r.arrival floor) && nat_le position r.seq
 
+-- Those of the records `rs` that arrived at a time at or above `floor` and have a sequence number at or above
+-- `position` (`is_left`).
 abbrev pub left_among : ℕ → ℕ → List Logged → List Logged
 left_among floor position rs = filter (is_left floor position) rs
 
--- The longest prefix of a list of records that has at most `limit` records and at most `room` bytes of payloads and
--- keys.
+-- The longest prefix of a list of records that has at most `limit` records, and at most `room` bytes of payloads and
+-- keys together.
 abbrev pub beginning : ℕ → ℕ → List Logged → List Logged
 beginning zero room rs = []
 beginning (suc limit) room [] = []
 beginning (suc limit) room (r ∷ rs) =
     if nat_le r.bytes room then r ∷ beginning limit (room - r.bytes) rs else []
 
--- The sequence numbers of the records `rs`.
+-- The sequence numbers of the records `rs`, in order.
 abbrev pub numbers_of : List Logged → List ℕ
 numbers_of rs = map (λ r. r.seq) rs
 
@@ -88,19 +97,22 @@ abbrev pub place_after : ℕ → List ℕ → ℕ
 place_after place [] = place
 place_after place (n ∷ ns) = place_after (n + 1) ns
 
--- ---- Batches of a shard
+-- ---- The batch from a shard
 
--- The records of shard `sh` that aren't trimmed and whose number is at or above `position`. If stream `s` isn't live,
--- there are no such records.
+-- The records of shard `sh` that aren't trimmed at the clock `c` and have a sequence number at or above `position`. If
+-- stream `s` isn't live, there are no such records.
 abbrev pub left_from : Journal → ℕ → ℕ → ℕ → ℕ → List Logged
 left_from log c s sh position =
     if is_live log s then left_among (trim_floor log c s) position (records log s sh) else []
 
--- The batch of a read of at most `limit` records at `position` (Kinesis API Reference, GetRecords).
+-- The records that a read at `position` with the limit `limit` returns from shard `sh` at the clock `c`. They are the
+-- longest prefix of the untrimmed records from `position` on that has at most `limit` records and at most `BATCH_BYTES`
+-- bytes (Kinesis API Reference, GetRecords).
 abbrev pub batch : Journal → ℕ → ℕ → ℕ → ℕ → ℕ → List Logged
 batch log c s sh position limit = beginning limit BATCH_BYTES (left_from log c s sh position)
 
--- The number of the first record in a list that arrived at or after `moment`, or else `otherwise`.
+-- The sequence number of the first record in a list that arrived at or after the time `moment`, or `otherwise` if there
+-- is no such record.
 abbrev pub first_at : List Logged → ℕ → ℕ → ℕ
 first_at [] moment otherwise = otherwise
 first_at (r ∷ rs) moment otherwise = if nat_le moment r.arrival then r.seq else first_at rs moment otherwise

@@ -1,4 +1,5 @@
--- UpdateShardCount: its refusals in order, and its lines and reply.
+-- UpdateShardCount: its refusals in order, and its lines and reply. In this file, `log` is a journal, `c` is the clock,
+-- `by` is the actor that sends the command, and `s` is the number of a stream.
 use Rattle.std.specs.Prelude.{ℕ, ◌+◌, ◌-◌, ◌==◌, ◌||◌, not, nat_lt, List, [], ◌∷◌, length, map}
 use Rattle.std.specs.List.{filter}
 use Rattle.kds_defs.specs.declared.entry.Entry.{Entry}
@@ -16,12 +17,12 @@ use Rattle.kds_defs.specs.Shards.{ShardState, shards, open_in, open_shards, home
 use Rattle.kds_defs.specs.Streams.{live_streams}
 use Rattle.kds_defs.specs.StreamCommands.{last_number}
 
--- The starts of the ranges of a list of shards, in rising order.
+-- The first keys of the ranges of a list of shards, in rising order.
 abbrev pub starts_among : List ShardState → List ℕ
 starts_among [] = []
 starts_among (x ∷ xs) = with_start x.range.start (starts_among xs)
 
--- The steps from the open shards of stream `s` to `target` uniform ranges.
+-- The merges and splits that scale the open shards of stream `s` to `target` uniform ranges.
 abbrev pub steps_to : Journal → ℕ → ℕ → List ScaleStep
 steps_to log s target = scale (starts_among (open_shards log s)) target
 
@@ -35,22 +36,23 @@ made_by (Cut b ∷ steps) = 2 + made_by steps
 abbrev pub open_elsewhere : Journal → ℕ → ℕ
 open_elsewhere log s = open_in log (filter (λ t. not (t == s)) (live_streams log))
 
--- The entry of one step. A merge is of the shard that ends before the key `b` with the shard that starts at `b`, and a
--- split is of the shard that contains `b`.
+-- The entry of one step in stream `s`. A merge at the key `b` is of the shard whose range ends right before `b` with
+-- the shard whose range contains `b`. A split at `b` is of the shard whose range contains `b`.
 abbrev pub step_entry : Journal → ℕ → ScaleStep → Entry
 step_entry log s (Join b) =
     entry.Merged s (home log s (b - 1)) (home log s b) (next_number log s) (length (shards log s))
 step_entry log s (Cut b) =
     entry.Split s (home log s b) b (next_number log s) (length (shards log s)) (length (shards log s) + 1)
 
--- A line for each step, one after another.
+-- The lines of a list of steps in stream `s`, one for each step. The numbers in the line of a step are those after the
+-- lines of the steps before it.
 abbrev pub step_lines : Journal → ℕ → ℕ → ℕ → List ScaleStep → List Line
 step_lines log c by s [] = []
 step_lines log c by s (step ∷ steps) =
     let line : Line = plain_line c by (step_entry log s step) in
     line ∷ step_lines (line ∷ log) c by s steps
 
--- The decision on UpdateShardCount for the live stream `s`.
+-- The decision on UpdateShardCount, which scales the live stream `s` with the name `name` to `target` shards.
 abbrev pub scale_stream : Journal → ℕ → ℕ → List ℕ → ℕ → ℕ → Decision
 scale_stream log c by name s target =
     refuse refusal.Full if nat_lt OPEN_SHARDS (open_elsewhere log s + target) else

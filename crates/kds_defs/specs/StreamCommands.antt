@@ -1,4 +1,6 @@
--- The commands that change streams: their refusals in order, and their lines and replies.
+-- The commands that change streams: their refusals in order, and their lines and replies. In this file, `log` is a
+-- journal, `c` is the clock, `by` is the actor that sends the command, `s` is the number of a stream, and `sh` is the
+-- number of a shard in the stream.
 use Rattle.std.specs.Prelude.{ℕ, ◌+◌, ◌-◌, ◌^◌, Bool, false, ◌==◌, ◌&&◌, ◌||◌, not, is_some, nat_le, nat_lt}
 use Rattle.std.specs.Prelude.{if◌then◌else◌, List, [], ◌∷◌, length, Option, Some, None}
 use Rattle.kds_base.specs.Span.{is_inside, are_adjacent}
@@ -14,16 +16,17 @@ use Rattle.kds_defs.specs.Records.{next_number}
 use Rattle.kds_defs.specs.Shards.{ShardState, shards, shard_at, range_of, is_open, is_listed, open_count, home}
 use Rattle.kds_defs.specs.Streams.{made_count, live_streams, hours, stream_named}
 
--- The greatest number that a `u64` can hold.
+-- The greatest number that a `u64` can hold. Sequence numbers, the numbers of streams, shards and tenures, and the
+-- counters of rows don't go above it.
 abbrev pub last_number : ℕ
 last_number = 2 ^ 64 - 1
 
--- Whether a shard is there and is open.
+-- Whether there is a shard, and it is open.
 abbrev pub is_open_at : Option ShardState → Bool
 is_open_at None = false
 is_open_at (Some x) = is_open x
 
--- The decision on CreateStream.
+-- The decision on CreateStream for a stream with the name `name` and `count` shards.
 abbrev pub create : Journal → ℕ → ℕ → List ℕ → ℕ → Decision
 create log c by name count =
     refuse refusal.StreamThere if is_some (stream_named log name) else
@@ -32,11 +35,12 @@ create log c by name count =
     refuse refusal.Spent if made_count log == last_number else
     Accepted (plain_line c by (entry.Made (made_count log + 1) name count) ∷ []) reply.Done
 
--- The decision on DeleteStream for the live stream `s`.
+-- The decision on DeleteStream for the live stream `s`, which is never refused.
 abbrev pub delete : Journal → ℕ → ℕ → ℕ → Decision
 delete log c by s = Accepted (plain_line c by (entry.Gone s) ∷ []) reply.Done
 
--- The line of a put. The record `item` goes to the home of its hash.
+-- The line of a put that stores `item` in stream `s` with the sequence number `number`. The shard is the home of the
+-- item's hash key.
 abbrev pub put_line : Journal → ℕ → ℕ → ℕ → ℕ → NewItem → Line
 put_line log c by s number item =
     record {
@@ -47,11 +51,13 @@ put_line log c by s number item =
       payload = item.payload;
     }
 
--- The place of the put record `item`: its shard and its sequence number.
+-- Where stream `s` stores `item` if the put takes the sequence number `number`: the home of the item's hash key, and
+-- this number.
 abbrev pub put_place : Journal → ℕ → ℕ → NewItem → Place
 put_place log s number item = record { shard = home log s item.hash; seq = number }
 
--- The decision on SplitShard in the live stream `s`, where `full` tells that no further shard may be open.
+-- The decision on SplitShard for shard `sh` of the live stream `s` at the key `at`. If `full` is true, no further shard
+-- may be open, and the split is refused.
 abbrev pub split_where : Bool → Journal → ℕ → ℕ → ℕ → ℕ → ℕ → Decision
 split_where full log c by s sh at =
     refuse refusal.NoShard if not (is_listed log c s sh) else
@@ -62,11 +68,12 @@ split_where full log c by s sh at =
     Accepted (plain_line c by
     (entry.Split s sh at (next_number log s) (length (shards log s)) (length (shards log s) + 1)) ∷ []) reply.Done
 
--- The decision on SplitShard in the live stream `s`.
+-- The decision on SplitShard for shard `sh` of the live stream `s` at the key `at`. The split is refused if
+-- `OPEN_SHARDS` shards are open already.
 abbrev pub split : Journal → ℕ → ℕ → ℕ → ℕ → ℕ → Decision
 split log c by s sh at = split_where (nat_le OPEN_SHARDS (open_count log)) log c by s sh at
 
--- The decision on MergeShards in the live stream `s`.
+-- The decision on MergeShards for the shards `sh` and `other` of the live stream `s`.
 abbrev pub merge : Journal → ℕ → ℕ → ℕ → ℕ → ℕ → Decision
 merge log c by s sh other =
     refuse refusal.NoShard if not (is_listed log c s sh && is_listed log c s other) else
@@ -76,7 +83,8 @@ merge log c by s sh other =
     refuse refusal.Spent if nat_lt last_number (length (shards log s)) || next_number log s == last_number else
     Accepted (plain_line c by (entry.Merged s sh other (next_number log s) (length (shards log s))) ∷ []) reply.Done
 
--- The decision on IncreaseStreamRetentionPeriod and DecreaseStreamRetentionPeriod for the live stream `s`.
+-- The decision on IncreaseStreamRetentionPeriod, if `raise` is true, and on DecreaseStreamRetentionPeriod, if it is
+-- false. The live stream `s` is to have a retention of `wanted` hours.
 abbrev pub keep : Journal → ℕ → ℕ → ℕ → ℕ → Bool → Decision
 keep log c by s wanted raise =
     refuse refusal.BadRetention if (if raise then nat_lt wanted (hours log s) else nat_lt (hours log s) wanted) else

@@ -1,4 +1,4 @@
--- The stream that an entry or a command is about.
+-- Which stream an entry or a command is about, and what a journal says of a stream that none of its lines is about.
 use Rattle.std.specs.Prelude.{ℕ, ◌≡◌, false, List, [], Option, Some, None}
 use Rattle.kds_defs.specs.declared.command.Command.{Command}
 use Rattle.kds_defs.specs.declared.command.Command.TheVariants as command
@@ -11,7 +11,7 @@ use Rattle.kds_defs.specs.Records.{next_number, records}
 use Rattle.kds_defs.specs.Shards.{shards}
 use Rattle.kds_defs.specs.Streams.{floor_of_lines, is_live, was_made}
 
--- The number of the stream that an entry is about, or `None` if the entry is about a lease.
+-- The number of the stream that an entry is about, or `None` if the entry is about a row or a tenure.
 abbrev pub stream_of : Entry → Option ℕ
 stream_of (entry.Made s name count) = Some s
 stream_of (entry.Gone s) = Some s
@@ -22,7 +22,9 @@ stream_of (entry.Kept s hours) = Some s
 stream_of (entry.Enforced s on) = Some s
 stream_of _ = None
 
--- The name of the live stream that a command is for. CreateStream has none, because its stream isn't there yet.
+-- The name of the stream that a command is for, if the command names a stream that must be live. CreateStream gives
+-- `None`, because its stream doesn't exist yet. So do ListStreams, commands with an iterator or a token in place of a
+-- name, and commands on leases.
 abbrev pub name_of_command : Command → Option (List ℕ)
 name_of_command (command.Delete name) = Some name
 name_of_command (command.Describe name after limit) = Some name
@@ -38,8 +40,9 @@ name_of_command (command.Scale name target) = Some name
 name_of_command (command.Enforce name on) = Some name
 name_of_command _ = None
 
--- Stream `s` is new to the journal `log`: all that `log` says of `s` is what an empty journal says, as if no line were
--- about `s`.
+-- The journal `log` says of stream `s` what an empty journal says. The stream was never made and isn't live, its next
+-- sequence number is 1, and the lines make its trim floor 0. It has no shards, records or puts, and its limits on
+-- throughput are off.
 pub record IsFresh (log : Journal) (s : ℕ) : Type 0 where
   pub gone : is_live log s ≡ false
   pub unmade : was_made log s ≡ false

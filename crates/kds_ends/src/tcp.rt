@@ -32,7 +32,7 @@ const LOOKS: u32 = 4;
 
 /// A client that calls every second is never idle for `CROWDED_SLICES` slices, but in all it is idle for nearly all of
 /// its time. If this many looks in a row found no free place, a read fails after `SHORT_SLICES` slices without a byte.
-/// So such clients take turns if they are more than the places.
+/// So such clients alternate if they are more than the places.
 const LONG_LOOKS: u32 = 20;
 
 const SHORT_SLICES: u32 = 2;

@@ -1,4 +1,5 @@
--- How many headers a head of a given number of bytes can have; at most one finding; what is decided stays; the limits.
+-- Bytes have one finding at most, a head or a refusal that was found stays when more bytes follow, and a finding is
+-- within the limits. A head of few bytes has few headers.
 use Rattle.std.proofs.Common.{◌≡◌, ◌≢◌, ℕ, ◌+◌, ◌*◌, ◌<◌, ◌≤◌, ◌⊎◌, List, [], ◌∷◌, ◌++◌, map, length, take, sym, ap}
 use Rattle.std.proofs.Common.{◌∙◌, subst, arith, zero, suc, get_or, refl, inl, inr, codes, Bool, true, false, Result}
 use Rattle.std.proofs.Common.{Ok, Err}
@@ -27,7 +28,7 @@ end_some : (e : LineEnd) → 1 ≤ length (print_end e)
 end_some crlf = omega arith
 end_some lf = omega arith
 
--- Each field line has three bytes or more.
+-- A header line has at least three bytes if its name isn't empty.
 field_three : (f : Field) → 0 < length f.name → 3 ≤ length (print_field f)
 field_three f h =
     let whole : length (print_field f) ≡ length f.name + (1 + (length f.raw + length (print_end f.end))) =
@@ -44,12 +45,12 @@ fields_three (f ∷ fields) all =
     + length (flat_map print_field fields) = length-append (print_field f) _ in
     omega (arith, parts, rest, field_three f first.name.0)
 
--- A head has two spaces beside its fields.
+-- A head has at least two bytes besides its header lines.
 head_fields : (h : RequestHead) → length (flat_map print_field h.fields) + 2 ≤ length (print_request h)
 unfolding print_request
 head_fields h = simp length-append (omega arith)
 
--- A head with more headers than there is room for has more bytes than are there.
+-- If `buf` has at most 3 * `room` + 2 bytes, it has no head with more than `room` headers.
 pub too_many_bytes : (room : ℕ) (buf : List ℕ) → length buf ≤ 3 * room + 2 → RequestExceeds room buf → ⊥
 too_many_bytes room buf short e =
     let h = e.3 in
@@ -62,8 +63,9 @@ too_many_bytes room buf short e =
 at_most : (n k : ℕ) → nat_lt k n ≡ false → n ≤ k
 at_most n k e = grind (arith, nat_tests)
 
--- ---- One finding
+-- ---- Bytes have one finding at most
 
+-- Bytes that never begin with a head, whatever follows, don't begin with one now.
 pub none_now : (front : List ℕ) → NeverHasRequest front → HasNoRequest front
 none_now front never h rest reads = never [] h rest (reads.0, append-nil front ∙ reads.1)
 
@@ -71,6 +73,7 @@ never_may : (front : List ℕ) → NeverBecomesHead front → MayBecomeRequest f
 never_may front p (inl m) = p.0 m.0 m.1 [] m.2
 never_may front p (inr inside) = p.1 inside
 
+-- Bytes, of which no more are given than a head may have, have one finding at most.
 pub at_most_one_in : (front : List ℕ) (found other : Found) → IsFoundIn front found → IsFoundIn front other
     → found ≡ other
 at_most_one_in front found other (inl a) (inl b) = a.2 ∙ ap judged (request_unique front a.0 b.0 _ _ a.1.1 b.1.1).0
@@ -84,13 +87,14 @@ at_most_one_in front found other (inr (inr a)) (inl b) = absurd (a.0.0 b.0 b.1.0
 at_most_one_in front found other (inr (inr a)) (inr (inl b)) = absurd (never_may front b.0 a.0.1)
 at_most_one_in front found other (inr (inr a)) (inr (inr b)) = a.1 ∙ sym b.1
 
--- ---- What is decided stays
+-- ---- What was found stays when more bytes follow
 
 never_more : (front more : List ℕ) → NeverHasRequest front → NeverHasRequest (front ++ more)
 never_more front more never rest h r reads =
     never (more ++ rest) h r (reads.0, sym (append_assoc front more rest) ∙ reads.1)
 
--- Of two ways to cut the same bytes, one cuts no later than the other.
+-- Let `a` with `b` after it be the same bytes as `c` with `d` after it. Then `c` begins with `a`, or `a` begins with
+-- `c`.
 cuts : (a b c d : List ℕ) → a ++ b ≡ c ++ d → ((m : List ℕ) × (c ≡ a ++ m))
     ⊎ ((m : List ℕ) × (a ≡ c ++ m) × (m ++ b ≡ d))
 cuts [] b c d e = inl (c, refl)
@@ -105,7 +109,7 @@ cuts (x ∷ a) b (y ∷ c) d e = both (cuts a b c d (cc))
     both (inl p) = inl (p.0, rw (same, p.1) refl)
     both (inr p) = inr (p.0, rw (same, p.1) refl, p.2)
 
--- The shortest head that goes on after a method and a space.
+-- The shortest head with the given empty lines and method: the target is `/`, and there are no headers.
 abbrev short_head : List LineEnd → List ℕ → RequestHead
 short_head blank method =
     record { blank = blank; method = method; target = 47 ∷ []; minor = 1; line_end = lf; fields = []; last = lf }
@@ -128,7 +132,7 @@ is_short_head blank method token = record {
   fields = All-nil IsField;
 }
 
--- What follows the space of that head.
+-- The bytes of the shortest head after the space that follows its method.
 short_rest : List ℕ
 short_rest = 47 ∷ 32 ∷ codes "HTTP/1.1" ++ 10 ∷ 10 ∷ []
 
@@ -137,7 +141,7 @@ short_printed : (blank : List LineEnd) (method : List ℕ)
 unfolding print_request short_rest
 short_printed blank method = simp append_assoc
 
--- If a head may come after more bytes, it may come now.
+-- If bytes followed by `more` may become a request, these bytes may become one.
 pub may_before : (front more : List ℕ) → MayBecomeRequest (front ++ more) → MayBecomeRequest front
 may_before front more (inl m) = inl (more ++ m.0, m.1, (m.2.0, sym (append_assoc front more m.0) ∙ m.2.1))
 may_before front more (inr e) =
@@ -176,6 +180,8 @@ no_room : (front m : List ℕ) → length front ≡ 16384 → length (front ++ m
 no_room front [] e l = refl
 no_room front (x ∷ m) e l = absurd (omega (arith, length-append front (x ∷ m)))
 
+-- Let a head or a refusal be found in `front`. If at most 16384 bytes are there with `m` after it, it is found in all
+-- of them.
 pub stays_in : (front m : List ℕ) (found : Found) → length (front ++ m) ≤ 16384 → IsFoundIn front found → found ≢ Need
     → IsFoundIn (front ++ m) found
 stays_in front m found l (inl a) n = inl (a.0, (a.1.0 ++ m, ReadsRequest-append front a.0 a.1.0 m a.1.1), a.2)
@@ -194,6 +200,7 @@ front_grows (suc n) (x ∷ xs) ys = let r = front_grows n xs ys in (r.0, ap (λ 
 front_short : (n : ℕ) (xs : List ℕ) → length (take n xs) ≤ n
 front_short n xs = omega (arith, length-take n xs)
 
+-- If a head or a refusal is found in bytes, it is also found when more bytes follow.
 pub stays_found : (bytes more : List ℕ) (found : Found) → IsFound bytes found → found ≢ Need
     → IsFound (bytes ++ more) found
 stays_found bytes more found f n = by_front (front_grows 16384 bytes more)
@@ -205,9 +212,10 @@ stays_found bytes more found f n = by_front (front_grows 16384 bytes more)
         subst (λ (z : List ℕ). length z ≤ 16384) g.1 (front_short 16384 (bytes ++ more)) in
         subst (λ (z : List ℕ). IsFoundIn z found) (sym g.1) (stays_in (take 16384 bytes) g.0 found short f n)
 
--- ---- The limits
+-- ---- A finding is within the limits
 
--- A refusal has a status of the table, or a head of `bytes` bytes has a body that is no longer than it may be.
+-- The finding for a head of `bytes` bytes: a refusal with a status of the table, or a head of this length whose body
+-- isn't longer than a body may be.
 IsLimited : ℕ → Found → Type 0
 IsLimited bytes Need = ⊥
 IsLimited bytes (Refused status) = is_refusal status ≡ true
@@ -259,6 +267,7 @@ front_size : (front : List ℕ) (h : RequestHead) (rest : List ℕ) → front �
     → length (print_request h) ≤ length front
 front_size front h rest e = omega (arith, ap length e, length-append (print_request h) rest)
 
+-- What is found in bytes is within the limits.
 pub limits_in : (bytes : List ℕ) (found : Found) → IsFound bytes found → IsWithinLimits bytes found
 limits_in bytes found (inl a) =
     let size = front_size (take HEAD_BYTES bytes) a.0 a.1.0 a.1.1.1 in
@@ -270,6 +279,7 @@ limits_in bytes found (inr (inr c)) =
     subst (λ (f : Found). IsWithinLimits bytes f) (sym c.1)
     (known_open (length (take HEAD_BYTES bytes) == HEAD_BYTES) bytes refl)
 
+-- If a call that succeeds returns what is found in `bytes`, this is within the limits.
 pub limits : {E : Type 0} (bytes : List ℕ) (r : Result Found E) → IfOk r (IsFound bytes) → IfOk r (IsWithinLimits bytes)
 limits bytes (Ok found) h = limits_in bytes found h
 limits bytes (Err e) h = tt
@@ -281,7 +291,7 @@ method_token = (
   All-cons (λ b. IsTrue (is_token_byte b)) 65 [] refl (All-nil (λ b. IsTrue (is_token_byte b))),
 )
 
--- If no bytes are there, more are needed.
+-- In no bytes, it is found that more bytes are needed.
 pub empty_need : IsFound [] Need
 empty_need = inr (inr (
   (no_head, inl (print_request least, least, (is_short_head [] (65 ∷ []) method_token, sym (append-nil _)))),

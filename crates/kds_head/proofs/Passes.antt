@@ -1,4 +1,4 @@
--- One scan of the headers finds what the definitions say of each name.
+-- One scan of all headers finds for each name that the service reads what the definitions say about this name.
 use Rattle.std.proofs.Common.{◌≡◌, ◌∙◌, ℕ, ◌+◌, List, [], ◌∷◌, Bool, true, false, map, Option, Some, None, refl, sym}
 use Rattle.std.proofs.Common.{ap, subst, arith, codes, inl, inr}
 use Rattle.std.proofs.lemmas.Bool.{cases_Bool}
@@ -18,7 +18,7 @@ use Rattle.kds_head.specs.Findings.{is_somewhere, value_in, IsSeen, AreFindings,
 use Rattle.kds_head.specs.Findings.{no_findings}
 use Rattle.kds_head.specs.Values.{byte_count, body_length, named_operation, operation, is_json, says_json}
 
--- ---- One name
+-- ---- One header name
 
 count_cons : (name : List ℕ) (h : List ℕ × List ℕ) (hs : Headers)
     → count_named name (h ∷ hs) ≡ cond (has_name name h) 1 0 + count_named name hs
@@ -67,9 +67,11 @@ only_named : (name : List ℕ) (h : List ℕ × List ℕ) (hs : Headers) → has
 unfolding only_value
 only_named name h hs e = rw (more_one _ _ (count_yes name h hs e), e) refl
 
+-- What was seen of the name `name` after the header `header`, by what was seen before it.
 abbrev step : List ℕ → List ℕ → Seen → HeaderSpan → Seen
 step name front seen header = seen_after seen (has_name name (header_bytes front header)) header.value
 
+-- What was seen of the name `name` after all of `headers`, if `seen` was what was seen before them.
 abbrev pass : List ℕ → List ℕ → Seen → List HeaderSpan → Seen
 pass name front seen headers = fold (step name front) seen headers
 
@@ -129,8 +131,9 @@ seen_all name front [] = record { some = sym (ap (λ k. nat_lt 0 k) (no_count na
 seen_all name front (h ∷ hs) =
     seen_step name front h hs (has_name name (header_bytes front h)) refl (seen_all name front hs)
 
--- ---- The names apart
+-- ---- All names together
 
+-- The findings after all headers of a list, if they were `found` before this list.
 abbrev read : List ℕ → Findings → List HeaderSpan → Findings
 read front found hs = fold (findings_after front) found hs
 
@@ -162,6 +165,7 @@ or_apart : (a b c : Bool) → ((a || b) || c) ≡ (a || (b || c))
 or_apart true b c = refl
 or_apart false b c = refl
 
+-- Whether a header is Connection with the value `close`.
 abbrev says : List ℕ × List ℕ → Bool
 says = has_name_and_value (codes "Connection") (codes "close")
 
@@ -172,6 +176,7 @@ closing front f (h ∷ hs) =
     closing front (findings_after front f h) hs
     ∙ or_apart f.close (says (header_bytes front h)) (list_any says (map (header_bytes front) hs))
 
+-- The findings after one scan of all headers are right for these headers (`AreFindings`).
 pub all_found : (front : List ℕ) (hs : List HeaderSpan) (found : Findings) → found ≡ read front no_findings hs
     → AreFindings front (map (header_bytes front) hs) found
 unfolding any_has
@@ -189,32 +194,42 @@ all_found front hs found e = record {
     seen name s is = subst (λ (z : Seen). IsSeen name front (map (header_bytes front) hs) z) (sym is)
         (seen_all name front hs)
 
--- ---- What the table asks
+-- ---- The values that the table of checks reads
 
+-- If a number isn't above 0, it is 0.
 pub none_is : (n : ℕ) → nat_lt 0 n ≡ false → (n == 0) ≡ true
 none_is n e = grind (arith, nat_tests)
 
+-- If a number is above 0, it isn't 0.
 pub some_is : (n : ℕ) → nat_lt 0 n ≡ true → (n == 0) ≡ false
 some_is n e = grind (arith, nat_tests)
 
+-- If the code reads the value `v` of the only Content-Length as the number `n`, `n` is the length of the body by the
+-- definition. This also holds if there is no such number.
 pub body_is : (v : Option (List ℕ)) (n : Option ℕ) (hs : Headers) → n ≡ option_and_then byte_count v
     → v ≡ only_value (codes "Content-Length") hs
     → n ≡ body_length hs
 unfolding body_length
 body_is v n hs e s = e ∙ ap (option_and_then byte_count) s
 
+-- If the code reads the value `v` of the only X-Amz-Target as the operation `o`, `o` is the operation by the
+-- definition. This also holds if there is no such value.
 pub operation_is : (v : Option (List ℕ)) (o : List ℕ) (hs : Headers) → o ≡ option_map_or named_operation v []
     → v ≡ only_value (codes "X-Amz-Target") hs
     → o ≡ operation hs
 unfolding operation
 operation_is v o hs e s = e ∙ ap (λ z. option_map_or named_operation z []) s
 
+-- If the code finds by the value `v` of the only Content-Type whether the body is JSON, the result `j` is that of the
+-- definition. This also holds if there is no such value.
 pub json_is : (v : Option (List ℕ)) (j : Bool) (hs : Headers) → j ≡ option_map_or is_json v false
     → v ≡ only_value (codes "Content-Type") hs
     → j ≡ says_json hs
 unfolding says_json
 json_is v j hs e s = e ∙ ap (λ z. option_map_or is_json z false) s
 
+-- If the code finds by the minor version and by `said` whether the connection closes, the result `c` is that of the
+-- definition. The Boolean `said` is true if some header Connection has the value `close`.
 pub close_is : (minor : ℕ) (said c : Bool) (hs : Headers) → c ≡ (minor == 0 || said)
     → said ≡ any_has (codes "Connection") (codes "close") hs
     → c ≡ (minor == 0 || any_has (codes "Connection") (codes "close") hs)

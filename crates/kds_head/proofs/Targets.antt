@@ -1,4 +1,4 @@
--- The bytes reach the target exactly where they end inside one.
+-- The code's state says that the bytes of a request end inside its target exactly if they do so by the grammar.
 use Rattle.std.proofs.Common.{◌≡◌, ℕ, List, [], ◌∷◌, ◌++◌, true, false, refl, sym, ap, ◌∙◌, arith, subst, inl, inr}
 use Rattle.std.proofs.lemmas.Bool.{cases_Bool, eqb-true}
 use Rattle.std.proofs.lemmas.List.{append_assoc}
@@ -10,6 +10,7 @@ use Rattle.kds_head.specs.declared.target.Reached.{Reached}
 use Rattle.kds_head.specs.declared.target.Reached.TheVariants.{Blank, CarriageReturn, Method, Target, Other}
 use Rattle.kds_head.specs.Target.{after_byte}
 
+-- The part of a request in which its bytes end after the bytes `bs`, if it was `r` before them.
 abbrev run : Reached → List ℕ → Reached
 run r bs = fold after_byte r bs
 
@@ -20,7 +21,7 @@ other_stays (b ∷ bs) = other_stays bs
 no_way : (bs : List ℕ) → run Other bs ≡ Target → ⊥
 no_way bs h = let bad : Other ≡ Target = sym (other_stays bs) ∙ h in cc bad
 
--- ---- From the place to the grammar
+-- ---- If the state is inside the target, so are the bytes by the grammar
 
 in_target : (bs : List ℕ) → run Target bs ≡ Target → AllPass is_uri_byte bs
 in_target [] h = All-nil (λ b. IsTrue (is_uri_byte b))
@@ -29,6 +30,7 @@ in_target (b ∷ bs) h = elim (cases_Bool (is_uri_byte b)) [
   | inr none ↦ absurd (no_way bs (rw none at h))
 ]
 
+-- The bytes `bs` are a method, a space, and zero or more bytes of a target.
 abbrev MethodThen : List ℕ → Type 0
 MethodThen bs = (m : List ℕ) × (t : List ℕ) × AllPass is_token_byte m × AllPass is_uri_byte t × (bs ≡ m ++ 32 ∷ t)
 
@@ -101,7 +103,7 @@ in_blank (b ∷ c ∷ cs) h = elim (cases_Bool (b == 10)) [
   ]
 ]
 
--- ---- From the grammar to the place
+-- ---- If the bytes end inside the target by the grammar, so does the state
 
 no_token : (b n : ℕ) → is_token_byte b ≡ true → is_token_byte n ≡ false → (b == n) ≡ false
 no_token b n token none = elim (cases_Bool (b == n)) [
@@ -154,10 +156,13 @@ blank_run [] rest = refl
 blank_run (crlf ∷ ends) rest = blank_run ends rest
 blank_run (lf ∷ ends) rest = blank_run ends rest
 
+-- If the bytes end inside the target by the grammar, the state after them is inside the target.
 pub reaches : (bs : List ℕ) → EndsInTarget bs → run Blank bs ≡ Target
 reaches bs e = ap (λ z. run Blank z) (e.5 ∙ append_assoc (print_blank e.0) e.1 (32 ∷ e.2))
     ∙ blank_run e.0 (e.1 ++ 32 ∷ e.2) ∙ start_run e.1 e.2 e.3 e.4
 
+-- Let `r` be the state after the bytes `bs`. It is inside the target exactly if `bs` end inside the target by the
+-- grammar.
 pub target_is : (r : Reached) (bs : List ℕ) → r ≡ run Blank bs → ((r ≡ Target) → EndsInTarget bs)
     × (EndsInTarget bs → r ≡ Target)
 target_is r bs e = (λ h. in_blank bs (sym e ∙ h), λ h. e ∙ reaches bs h)

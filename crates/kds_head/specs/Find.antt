@@ -1,4 +1,5 @@
--- What stands at the front of the bytes of a connection (RFC 9112, sections 2 and 3).
+-- Defines what is found in the first bytes of a connection: a head that is accepted, bytes that are refused, or too few
+-- bytes to decide (RFC 9112, sections 2 and 3). A head is the part of a request before its body.
 use Rattle.std.specs.Prelude.{◌≡◌, ◌<◌, ◌≤◌, ℕ, ◌⊎◌, ◌==◌, List, length, take, true, if◌then◌else◌}
 use Rattle.httparse.specs.Grammar.{RequestHead, ReadsRequest, HasNoRequest, NeverHasRequest, MayBecomeRequest}
 use Rattle.httparse.specs.Grammar.{EndsInTarget}
@@ -9,43 +10,48 @@ use Rattle.kds_head.specs.declared.numbers.TheConstants.{HEAD_BYTES, BODY_BYTES}
 use Rattle.kds_head.specs.Response.{is_refusal}
 use Rattle.kds_head.specs.Table.{judged}
 
--- The bytes `front` begin with the head `head`.
+-- The bytes `front` begin with the whole head `head`.
 abbrev pub BeginsWith : List ℕ → RequestHead → Type 0
 BeginsWith front head = (rest : List ℕ) × ReadsRequest front head rest
 
--- No bytes can follow `front` that make a head. A target is judged at its end, not before.
+-- Whatever bytes follow `front`, they never begin with a head together, and `front` doesn't end inside a target. A
+-- target is judged only once its end has come.
 abbrev pub NeverBecomesHead : List ℕ → Type 0
 NeverBecomesHead front = NeverHasRequest front × ¬ (EndsInTarget front)
 
--- The bytes `front` have no head, and a head may still come, or they end inside a target.
+-- The bytes `front` don't begin with a whole head. More bytes may make them do so, or `front` ends inside a target.
 abbrev pub MayBecomeHead : List ℕ → Type 0
 MayBecomeHead front = HasNoRequest front × MayBecomeRequest front
 
--- What is found in `bytes` bytes if a head may still come: a refusal if a head can't have more bytes (RFC 6585, section
--- 5), and otherwise that more bytes are needed.
+-- What is found if `bytes` bytes don't begin with a whole head, but more bytes may make them do so: the refusal 431 if
+-- a head can't have more bytes (RFC 6585, section 5), and otherwise that more bytes are needed.
 abbrev pub undecided : ℕ → Found
 undecided bytes = if bytes == HEAD_BYTES then Refused 431 else Need
 
--- The finding `found` is what is found in `front`, which are the bytes that a head may have.
+-- The finding `found` is what is found in `front`, which has at most as many bytes as a head may have. If `front`
+-- begins with a head, the finding is what the head leads to (`judged`). If no further bytes can make it a head, the
+-- finding is the refusal 400. Otherwise it is `undecided`.
 abbrev pub IsFoundIn : List ℕ → Found → Type 0
 IsFoundIn front found =
     ((head : RequestHead) × BeginsWith front head × (found ≡ judged head))
     ⊎ (NeverBecomesHead front × (found ≡ Refused 400))
     ⊎ (MayBecomeHead front × (found ≡ undecided (length front)))
 
--- The finding `found` is what is found in the bytes `bytes` of a connection.
+-- The finding `found` is what is found in the bytes `bytes` of a connection, of which only the first HEAD_BYTES count.
 abbrev pub IsFound : List ℕ → Found → Type 0
 IsFound bytes found = IsFoundIn (take HEAD_BYTES bytes) found
 
--- The head `whole` has some bytes, which are there in `bytes`, and it and its body are no longer than they may be.
+-- The head `whole` has at least one byte, and not more bytes than `bytes` has or than a head may have. Its body isn't
+-- longer than a body may be.
 pub record IsBounded (bytes : List ℕ) (whole : Head) : Type 0 where
   pub some : 0 < whole.length
   pub there : whole.length ≤ length bytes
   pub head : whole.length ≤ HEAD_BYTES
   pub body : whole.body ≤ BODY_BYTES
 
--- Bytes that need more are fewer than a head may have, a refusal has a status that refuses a connection, and a head is
--- bounded.
+-- The finding in `bytes` is within the limits. If more bytes are needed, `bytes` has fewer bytes than a head may have.
+-- If the bytes are refused, the status is one with which connections are refused. If a head was found, it and its body
+-- aren't longer than they may be (`IsBounded`).
 abbrev pub IsWithinLimits : List ℕ → Found → Type 0
 IsWithinLimits bytes Need = length bytes < HEAD_BYTES
 IsWithinLimits bytes (Refused status) = is_refusal status ≡ true

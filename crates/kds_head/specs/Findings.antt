@@ -1,4 +1,4 @@
--- What one scan of the headers of a head finds of the names that the service reads.
+-- Defines what one scan of the headers of a head finds out about the header names that the service reads.
 use Rattle.std.specs.Prelude.{◌≡◌, ℕ, List, Bool, true, false, ◌||◌, nat_lt, codes, if◌then◌else◌, Option, Some, None}
 use Rattle.httparse.specs.Spans.{header_bytes, span_bytes}
 use Rattle.httparse.specs.declared.spans.Span.{Span}
@@ -8,24 +8,27 @@ use Rattle.kds_head.specs.declared.findings.Seen.TheVariants.{Nowhere, Once, Oft
 use Rattle.kds_head.specs.declared.findings.Findings.{Findings}
 use Rattle.kds_head.specs.Headers.{Headers, has_name, has_name_and_value, count_named, only_value, any_has}
 
--- Whether some header has a name, by what was seen of the name.
+-- Whether at least one header has a name, by what was seen of this name.
 abbrev pub is_somewhere : Seen → Bool
 is_somewhere Nowhere = false
 is_somewhere (Once value) = true
 is_somewhere Often = true
 
--- The value of the header that has a name, by what was seen of the name, if exactly one header has it.
+-- The value of the header that has a name, by what was seen of this name, or None unless exactly one header has it. The
+-- value is a range of the bytes `front`.
 abbrev pub value_in : List ℕ → Seen → Option (List ℕ)
 value_in front Nowhere = None
 value_in front (Once value) = Some (span_bytes front value)
 value_in front Often = None
 
--- What was seen of the name `name` says whether some header has it, and gives the value if exactly one header has it.
+-- What was seen of the name `name` is right for `headers`: it says whether some header has the name, and it has the
+-- value of the header if exactly one has it.
 pub record IsSeen (name front : List ℕ) (headers : Headers) (seen : Seen) : Type 0 where
   pub some : is_somewhere seen ≡ nat_lt 0 (count_named name headers)
   pub value : value_in front seen ≡ only_value name headers
 
--- The findings `found` are what was seen of each name, and whether some header Connection is `close`.
+-- The findings `found` are right for `headers`: what was seen of the four names that the service reads (`IsSeen`), and
+-- whether some header Connection has the value `close`.
 pub record AreFindings (front : List ℕ) (headers : Headers) (found : Findings) : Type 0 where
   pub encoding : IsSeen (codes "Transfer-Encoding") front headers found.encoding
   pub length : IsSeen (codes "Content-Length") front headers found.length
@@ -33,17 +36,21 @@ pub record AreFindings (front : List ℕ) (headers : Headers) (found : Findings)
   pub media_type : IsSeen (codes "Content-Type") front headers found.media_type
   pub close : found.close ≡ any_has (codes "Connection") (codes "close") headers
 
--- ---- The next header
+-- ---- One more header
 
--- What was seen of a name after another header that has the name, with the value `value`.
+-- What was seen of a name after one more header with this name, which has the value `value`.
 abbrev pub one_more : Seen → Span → Seen
 one_more Nowhere value = Once value
 one_more (Once first) value = Often
 one_more Often value = Often
 
+-- What was seen of a name after one more header, which has the value `value`. The Boolean `named` is true if this
+-- header has the name.
 abbrev pub seen_after : Seen → Bool → Span → Seen
 seen_after seen named value = if named then one_more seen value else seen
 
+-- The findings after the header `header`, which comes right after the headers of `found`. The name and the value of the
+-- header are ranges of the bytes `front`.
 abbrev pub findings_after : List ℕ → Findings → HeaderSpan → Findings
 findings_after front found header = record {
   encoding = seen_after found.encoding (has_name (codes "Transfer-Encoding") (header_bytes front header)) header.value;
@@ -53,5 +60,6 @@ findings_after front found header = record {
   close = found.close || has_name_and_value (codes "Connection") (codes "close") (header_bytes front header);
 }
 
+-- The findings before the first header: no name was seen.
 abbrev pub no_findings : Findings
 no_findings = record { encoding = Nowhere; length = Nowhere; target = Nowhere; media_type = Nowhere; close = false }

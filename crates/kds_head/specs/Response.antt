@@ -1,12 +1,13 @@
--- The text of a response (RFC 9112, section 4).
+-- Defines the bytes of a response (RFC 9112, section 4).
 use Rattle.std.specs.Prelude.{◌≡◌, ℕ, List, [], ◌∷◌, ◌++◌, ◌⊎◌, Bool, true, false, length, codes, decimal}
 use Rattle.std.specs.Prelude.{if◌then◌else◌, ◌==◌, ◌||◌}
 
--- The line `text`, which ends with CR LF.
+-- The line `text` with the CR LF that ends it.
 abbrev pub line : List ℕ → List ℕ
 line text = text ++ 13 ∷ 10 ∷ []
 
--- The reason phrase of the status `status` (RFC 9110, section 15; 431 is RFC 6585, section 5).
+-- The reason phrase of the status `status`, or no bytes if responses never have this status (RFC 9110, section 15; 431
+-- is RFC 6585, section 5).
 abbrev pub reason_phrase : ℕ → List ℕ
 reason_phrase status =
     if status == 200 then codes "OK" else
@@ -19,29 +20,32 @@ reason_phrase status =
     if status == 501 then codes "Not Implemented" else
     []
 
--- Whether `status` is one of the statuses that refuse a connection.
+-- Whether `status` is one of the statuses with which connections are refused.
 abbrev pub is_refusal : ℕ → Bool
 is_refusal status = status == 400 || status == 404 || status == 405 || status == 411 || status == 413 || status == 431
     || status == 501
 
--- Whether `status` is one of the statuses of responses.
+-- Whether `status` is one of the statuses that responses have: 200, or one with which connections are refused.
 abbrev pub is_status : ℕ → Bool
 is_status status = status == 200 || is_refusal status
 
--- A response is an answer of the service in JSON, or a refusal without a body, after which the connection closes.
+-- The response is one that the service gives. If the first Boolean is true, it is an answer in JSON, with the status
+-- 200 or 400. Otherwise it refuses the connection: it has no body, and the connection closes after it (`close`).
 abbrev pub IsResponse : ℕ → List ℕ → Bool → Bool → Type 0
 IsResponse status body true close = (status ≡ 200) ⊎ (status ≡ 400)
 IsResponse status body false close = (is_refusal status ≡ true) × (body ≡ []) × (close ≡ true)
 
--- The line of the media type, if the body is JSON (RFC 9110, section 8.3).
+-- The Content-Type line if the body is JSON (`json`), and otherwise no bytes (RFC 9110, section 8.3).
 abbrev pub content_type : Bool → List ℕ
 content_type json = if json then line (codes "Content-Type: application/x-amz-json-1.1") else []
 
--- The line that says that the connection closes, if it does (RFC 9112, section 9.6).
+-- The line `Connection: close` if the connection closes after the response (`close`), and otherwise no bytes (RFC 9112,
+-- section 9.6).
 abbrev pub connection : Bool → List ℕ
 connection close = if close then line (codes "Connection: close") else []
 
--- The text of a response: the status line, the headers, an empty line and the body.
+-- The bytes of a response: the status line, the headers, an empty line and the body. `json` says whether the body is
+-- JSON, and `close` whether the connection closes after the response.
 unfoldable pub response_text : ℕ → List ℕ → Bool → Bool → List ℕ
 response_text status body json close =
     line (codes "HTTP/1.1 " ++ decimal status ++ codes " " ++ reason_phrase status)

@@ -1,4 +1,4 @@
--- What a whole head leads to: the first case of the table that holds.
+-- Defines what a whole head leads to: a refusal, by the first of several checks that it fails, or acceptance.
 use Rattle.std.specs.Prelude.{ℕ, List, Bool, ◌==◌, not, nat_lt, length, codes, map, slice_range, if◌then◌else◌, is_none}
 use Rattle.std.specs.Prelude.{unwrap_or}
 use Rattle.std.specs.Str.{bytes_eq}
@@ -12,12 +12,14 @@ use Rattle.kds_head.specs.declared.found.Found.{Found}
 use Rattle.kds_head.specs.declared.found.Found.TheVariants.{Refused, Whole}
 use Rattle.kds_head.specs.declared.numbers.TheConstants.{HEADERS, BODY_BYTES}
 
--- A case that refuses with `status` if `test` holds, and otherwise the cases `later` after it.
+-- One check of a table: the refusal with `status` if `test` is true, and otherwise what the checks after it give, which
+-- is `later`.
 infixr 1 refused◌if◌else◌
 unfoldable pub refused◌if◌else◌ : ℕ → Bool → Found → Found
 refused status if test else later = if test then Refused status else later
 
--- What a head of `bytes` bytes leads to, with its method, its target, its minor version and its headers.
+-- What a head of `bytes` bytes leads to, by its method, its target, the minor version of HTTP and its headers. The
+-- first check that it fails gives the status of the refusal. If it fails none, it is accepted (`Whole`).
 abbrev pub judged_by : ℕ → List ℕ → List ℕ → ℕ → Headers → Found
 judged_by bytes method target minor headers =
     refused 400 if nat_lt HEADERS (length headers) else
@@ -35,7 +37,8 @@ judged_by bytes method target minor headers =
       close = closes minor headers;
     })
 
--- What a head in the bytes `front` leads to, if its parts stand in `spans` and its headers in `headers`.
+-- What a head in the bytes `front` leads to, whose parts are the ranges `spans` of `front`, and the names and values of
+-- whose headers are the ranges `headers`.
 abbrev pub judged_in : List ℕ → List HeaderSpan → RequestSpans → Found
 judged_in front headers spans =
     judged_by spans.len (slice_range front spans.method.start spans.method.end)

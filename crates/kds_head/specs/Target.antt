@@ -1,10 +1,11 @@
--- Where the bytes of a request end: in the empty lines in front, in the method, or in the target (RFC 9112, section 3).
+-- Defines in which part of a request its bytes end: among the empty lines before the request, in the method, in the
+-- target, or elsewhere (RFC 9112, section 3).
 use Rattle.std.specs.Prelude.{ℕ, ◌==◌, if◌then◌else◌}
 use Rattle.httparse.specs.Grammar.{is_token_byte, is_uri_byte}
 use Rattle.kds_head.specs.declared.target.Reached.{Reached}
 use Rattle.kds_head.specs.declared.target.Reached.TheVariants.{Blank, CarriageReturn, Method, Target, Other}
 
--- What is reached with the next byte `b`, by what was reached before it.
+-- The part of a request in which its bytes end after the next byte `b`, by the part in which they ended before `b`.
 abbrev pub after_byte : Reached → ℕ → Reached
 after_byte Blank b = if b == 10 then Blank else if b
     == 13 then CarriageReturn else if is_token_byte b then Method else Other

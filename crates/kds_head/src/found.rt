@@ -16,7 +16,7 @@ pub struct Head {
     /// Whether there is exactly one Content-Type header, and its value is `application/x-amz-json-1.1`, alone or
     /// followed by `;` and parameters (RFC 9110, section 8.3).
     pub json: bool,
-    /// Whether the connection closes after the response. It closes if the request is HTTP/1.0, or if a Connection
+    /// Whether the head asks to close the connection after the response: the request is HTTP/1.0, or a Connection
     /// header has the value `close` (RFC 9112, section 9.3).
     pub close: bool,
 }

@@ -125,7 +125,7 @@ fn write_before(text: &mut [u8], at: usize, piece: &[u8]) -> usize
 /// Writes the status line and the headers of a response into the bytes directly before its body, so that the body
 /// needn't be copied. The body is in `text` from the index `body` to the end. Returns the index at which the response
 /// begins. Preconditions: `status`, `json`, `close` and the body meet the precondition of `response`, and at least
-/// `FRONT_BYTES` bytes precede the body.
+/// `RESPONSE_HEAD_BYTES` bytes precede the body.
 #[tactic(auto, unfolding(crate::specs::Response::response_text))]
 pub fn put_front(status: u16, json: bool, close: bool, text: &mut [u8], body: usize) -> usize
     requires response { IsResponse status (drop body text.old) json close }

@@ -1,4 +1,5 @@
--- The records that are to be put are lawful, or the member that their fault names is text.
+-- If a PutRecord or PutRecords has no fault, its command is one that a request may ask for (`IsRequest`). If it has
+-- one, the member that the fault names is valid UTF-8.
 use Rattle.std.proofs.Common.{◌≡◌, ℕ, ◌+◌, ◌≤◌, ◌<◌, ◌^◌, ◌++◌, List, length, decimal, nat_le, Result, Ok, Err, IfSome}
 use Rattle.std.proofs.Common.{codes, refl, arith, is_some}
 use Rattle.std.specs.List.{AllByRecursion, sum_by}
@@ -36,6 +37,8 @@ item_reads d =
     (hash_reads key (codes "ExplicitHashKey") d refl)
     (λ hash is_hash. record { key = is_key; hash = is_hash; bytes = is_short })))
 
+-- If a PutRecord has no fault, its command is one that a request may ask for. If it has one, the member that the fault
+-- names is valid UTF-8.
 pub put_reads : (d : Data) → Reads IsRequest (put_record d)
 unfolding put_record
 put_reads d =
@@ -44,6 +47,7 @@ put_reads d =
 
 -- ---- PutRecords
 
+-- The array `ds` has at least one item and at most `MANY_ITEMS`.
 abbrev pub IsCounted : Items → Type 0
 IsCounted ds = (1 ≤ count ds) × (count ds ≤ MANY_ITEMS)
 
@@ -69,7 +73,7 @@ record_reads place d small =
     either_reads IsItem (is_some (as_object d)) _ _ (in_record_reads place (item_of d) small (item_reads d))
     (record_name_text place small)
 
--- There are as many records as in the array, and each of them may be put.
+-- There are as many records `xs` as items in the array `ds`, and each of them may be put (`IsItem`).
 abbrev AreRead : Items → List NewItem → Type 0
 AreRead ds xs = AllByRecursion IsItem xs × (length xs ≡ count ds)
 
@@ -91,6 +95,8 @@ within_are ds items counts are =
       bytes = grind (arith, nat_tests);
     })
 
+-- If a PutRecords has no fault, its command is one that a request may ask for. If it has one, the member that the fault
+-- names is valid UTF-8.
 pub many_reads : (d : Data) → Reads IsRequest (put_records d)
 unfolding put_records
 many_reads d =

@@ -1,4 +1,5 @@
--- A command that is asked for is lawful, and one of the stream service; and the member that a fault names is text.
+-- If a request has no fault, its command is one that a request may ask for (`IsRequest`). If it has one, the member
+-- that the fault names is valid UTF-8.
 use Rattle.std.proofs.Common.{◌≡◌, ℕ, List, Bool, Option, Some, None, Ok, Err, true, false, codes, arith, is_some, refl}
 use Rattle.std.specs.Str.{IsUtf8, bytes_eq}
 use Rattle.std.proofs.lemmas.Str.{IsUtf8-nil}
@@ -26,7 +27,7 @@ use Rattle.kds_json_members.proofs.Members.{required_reads, some_name_is, some_o
 use Rattle.kds_json.proofs.Puts.{put_reads, many_reads}
 use Rattle.kds_json.proofs.Steps.{asks, takes, names, may_take, limits, lacks, takes_token}
 
--- ---- Operations
+-- ---- The members of each operation
 
 create_reads : (d : Data) → Reads IsRequest (create_stream d)
 unfolding create_stream
@@ -182,7 +183,7 @@ members_read op.DecreaseRetention d = keep_reads false d
 members_read op.UpdateShardCount d = scale_reads d
 members_read op.EnforceLimits d = enforce_reads d
 
--- ---- Requests
+-- ---- A whole request
 
 object_reads : (o : Option Data) → Reads (Anything Data) (if_object o)
 object_reads (Some (object ms)) = tt
@@ -197,10 +198,10 @@ asked_reads operation body =
     then_reads (Anything Data) IsRequest (object_of body) _ (object_reads (read_body body))
     (λ d _. members_read what d))
 
--- The command for which a request asks may be asked for.
+-- The command that an operation name and a body ask for is one that a request may ask for (`IsRequest`).
 pub asked_request : (operation body : List ℕ) (what : Command) → asked operation body ≡ Ok what → IsRequest what
 asked_request operation body what e = let is = rw e at (asked_reads operation body) in is
 
--- The fault of a request names a text.
+-- The member that the fault of a request names is valid UTF-8.
 pub fault_text : (operation body : List ℕ) (f : Fault) → asked operation body ≡ Err f → IsUtf8 f.member
 fault_text operation body f e = let text = rw e at (asked_reads operation body) in text

@@ -1,4 +1,6 @@
--- Steps of a request: a member, and what follows it.
+-- One member of a request is read, and `f` reads the rest. A result is right (`Reads IsRequest`) if it is a command
+-- that a request may ask for, or a fault that names valid UTF-8. If `f` gives a right result for each value that the
+-- member may have, the reading of both gives a right result.
 use Rattle.std.proofs.Common.{ℕ, List, Option, Result, IfSome, codes, refl}
 use Rattle.std.specs.Prelude.{⊤}
 use Rattle.serde_json.specs.Data.{Data}
@@ -14,7 +16,8 @@ use Rattle.kds_json_members.specs.Reading.{◌>>=◌}
 use Rattle.kds_json_members.proofs.Members.{Anything, IsPlain, Reads, absent_reads, anything, name_is, number_is}
 use Rattle.kds_json_members.proofs.Members.{optional_reads, required_reads, then_reads, token_reads}
 
--- A step reads a member that must be there.
+-- If the member is required, `P` holds of each value that `reads` gives, and `f` gives a right result for each value of
+-- which `P` holds, the reading gives a right result.
 pub asks : {A : Type 0} (P : A → Type 0) (reads : Data → Option A) (name : List ℕ) (d : Data) (f : A
     → Result Command Fault) → IsPlain name
     → ((x : Data) → IfSome (reads x) P) → ((x : A) → P x → Reads IsRequest (f x))
@@ -22,18 +25,19 @@ pub asks : {A : Type 0} (P : A → Type 0) (reads : Data → Option A) (name : L
 asks P reads name d f plain h k =
     then_reads P IsRequest (required_at reads name d) f (required_reads P reads name d plain h) k
 
--- A step reads a member that must be there, and nothing need be known of its value.
+-- If the member is required, and `f` gives a right result for each value, the reading gives a right result.
 pub takes : {A : Type 0} (reads : Data → Option A) (name : List ℕ) (d : Data) (f : A → Result Command Fault)
     → IsPlain name
     → ((x : A) → Reads IsRequest (f x)) → Reads IsRequest (required_at reads name d >>= f)
 takes {A} reads name d f plain k = asks (Anything A) reads name d f plain (λ x. anything (reads x)) (λ x _. k x)
 
--- A step reads the name of a stream.
+-- If the member is the required StreamName, and `f` gives a right result for each name of a stream, the reading gives a
+-- right result.
 pub names : (d : Data) (f : List ℕ → Result Command Fault) → ((x : List ℕ) → IsName x → Reads IsRequest (f x))
     → Reads IsRequest (required_at name_in (codes "StreamName") d >>= f)
 names d f k = asks IsName name_in (codes "StreamName") d f refl name_is k
 
--- A step reads a member that may be there.
+-- If the member is optional, and `f` gives a right result for each value, the reading gives a right result.
 pub may_take : {A : Type 0} (default : A) (reads : Data → Option A) (name : List ℕ) (d : Data) (f : A
     → Result Command Fault) → IsPlain name
     → ((x : A) → Reads IsRequest (f x)) → Reads IsRequest (optional_at default reads name d >>= f)
@@ -41,7 +45,8 @@ may_take {A} default reads name d f plain k =
     then_reads (Anything A) IsRequest (optional_at default reads name d) f
     (optional_reads (Anything A) default reads name d plain tt (λ x. anything (reads x))) (λ x _. k x)
 
--- A step reads a limit.
+-- If the member is an optional limit, its default is a limit that a request may have, and `f` gives a right result for
+-- each such limit, the reading gives a right result.
 pub limits : (default : ℕ) (name : List ℕ) (d : Data) (f : ℕ → Result Command Fault) → IsPlain name → IsLimit default
     → ((n : ℕ) → IsLimit n → Reads IsRequest (f n))
     → Reads IsRequest (optional_at default (number_in 1 MOST) name d >>= f)
@@ -49,12 +54,14 @@ limits default name d f plain is k =
     then_reads IsLimit IsRequest (optional_at default (number_in 1 MOST) name d) f
     (optional_reads IsLimit default (number_in 1 MOST) name d plain is (number_is 1 MOST)) k
 
--- A step reads a member that must not be there.
+-- If the member must be absent, which gives a fault if it is there, and `f` gives a right result, the reading gives a
+-- right result.
 pub lacks : (name : List ℕ) (d : Data) (f : ⊤ → Result Command Fault) → IsPlain name → ((x : ⊤) → Reads IsRequest (f x))
     → Reads IsRequest (absent_at name d >>= f)
 lacks name d f plain k = then_reads (Anything ⊤) IsRequest (absent_at name d) f (absent_reads name d plain) (λ x _. k x)
 
--- A step reads a token.
+-- If the member is a token, and `f` gives a right result for each thing that a token stands for, the reading gives a
+-- right result.
 pub takes_token : {A : Type 0} (stands_for : List ℕ → Option A) (name : List ℕ) (d : Data) (f : A
     → Result Command Fault) → IsPlain name
     → ((x : A) → Reads IsRequest (f x)) → Reads IsRequest (token_at stands_for name d >>= f)

@@ -1,4 +1,4 @@
--- What an operation and a body ask for: a command, or the first fault.
+-- Defines the command that the name of an operation and the body of a request ask for, or the request's first fault.
 use Rattle.std.specs.Prelude.{◌≡◌, ℕ, List, [], codes, true, false, if◌then◌else◌, Option, Some, None, Result, Ok, Err}
 use Rattle.std.specs.Str.{bytes_eq, is_utf8}
 use Rattle.serde_json.specs.Data.{Data, object}
@@ -16,20 +16,21 @@ use Rattle.kds_json.specs.Operations.{keep, update_shard_count, enforce_limits, 
 use Rattle.kds_json.specs.Operations.{get_records, split_shard, merge_shards, list_shards}
 use Rattle.kds_json.specs.Many.{put_records}
 
--- What `body` reads as, if it is JSON in UTF-8 (RFC 8259).
+-- The JSON value that `body` has, or None if `body` isn't UTF-8 or isn't JSON (RFC 8259).
 unfoldable pub read_body : List ℕ → Option Data
 read_body body = if is_utf8 body then read body else None
 
+-- The JSON value if it is an object, and otherwise the fault Serialization. None stands for a body that isn't JSON.
 abbrev pub if_object : Option Data → Result Data Fault
 if_object (Some (object ms)) = Ok (object ms)
 if_object _ = Err (fault_of Serialization [])
 
--- The object that `body` is, or a fault if it isn't an object.
+-- The JSON object that `body` has, or the fault Serialization if `body` isn't JSON or isn't an object.
 abbrev pub object_of : List ℕ → Result Data Fault
 object_of body = if_object (read_body body)
 
--- The operation with the name `name`, if there is one (Kinesis API Reference, Actions; LocalEnforceLimits is this
--- project's own), in the four parts in which the code asks for it.
+-- The operation with the name `name`, if it is one of the four that change a setting or the shard count of a stream,
+-- and otherwise None.
 abbrev pub setting_named : List ℕ → Option Operation
 setting_named name =
     if bytes_eq name (codes "IncreaseStreamRetentionPeriod") then Some op.IncreaseRetention
@@ -38,6 +39,8 @@ setting_named name =
     else if bytes_eq name (codes "LocalEnforceLimits") then Some op.EnforceLimits
     else None
 
+-- The operation with the name `name`, if it puts records, splits a shard or merges two. If `name` is none of these four
+-- names, the result is that of `setting_named`.
 abbrev pub writing_named : List ℕ → Option Operation
 writing_named name =
     if bytes_eq name (codes "PutRecord") then Some op.PutRecord
@@ -54,6 +57,8 @@ reading_named name =
     else if bytes_eq name (codes "GetRecords") then Some op.GetRecords
     else writing_named name
 
+-- The operation with the name `name`, or None if there is no such operation (Kinesis API Reference, Actions;
+-- LocalEnforceLimits is this project's own). The code compares the name in four functions, and so do these definitions.
 abbrev pub operation_named : List ℕ → Option Operation
 operation_named name =
     if bytes_eq name (codes "CreateStream") then Some op.CreateStream
@@ -62,7 +67,8 @@ operation_named name =
     else if bytes_eq name (codes "DescribeStream") then Some op.DescribeStream
     else reading_named name
 
--- What the members `d` of a request ask for, by its operation.
+-- The command that the members of the object `d` ask for in a request for this operation, or the first fault of these
+-- members.
 abbrev pub members_of : Operation → Data → Result Command Fault
 members_of op.CreateStream d = create_stream d
 members_of op.DeleteStream d = delete_stream d
@@ -81,14 +87,16 @@ members_of op.DecreaseRetention d = keep false d
 members_of op.UpdateShardCount d = update_shard_count d
 members_of op.EnforceLimits d = enforce_limits d
 
--- What the operation name `operation` and `body` ask for. An operation that isn't known is refused before the body is
--- read.
+-- The command that the operation name `operation` and the body `body` ask for, or the first fault. First the name is
+-- looked up (Unknown if no operation has it), then the body must be a JSON object (Serialization), and then its members
+-- are read.
 unfoldable pub asked : List ℕ → List ℕ → Result Command Fault
 asked operation body = do
   what ← some_or Unknown [] (operation_named operation)
   d ← object_of body
   members_of what d
 
--- The command `what` is one that a request may ask for: a lawful command of the stream service.
+-- The command `what` is one that a request may ask for: its numbers and texts are within the ranges of the API, and it
+-- is a command of the stream service, not one on leases.
 abbrev pub IsRequest : Command → Type 0
 IsRequest what = IsLawfulCommand what × (is_service what ≡ true)

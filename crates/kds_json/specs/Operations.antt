@@ -1,5 +1,5 @@
--- What the members of each operation ask for. They are checked in the order in which they stand here. A member that
--- isn't named is ignored.
+-- Defines which command the members of a request's object `d` ask for, for each operation, or which fault they have
+-- first. The members are read in the order of these definitions. A member that a definition doesn't name is ignored.
 use Rattle.std.specs.Prelude.{ℕ, List, length, codes, Bool, if◌then◌else◌, is_some, None, Result, Ok, Err}
 use Rattle.std.specs.Str.{bytes_eq}
 use Rattle.serde_json.specs.Data.{Data}
@@ -21,7 +21,8 @@ use Rattle.kds_json_members.specs.Kinds.{blob_in, id_in, some_id_in, hash_in, ha
 
 -- ---- Streams
 
--- What CreateStream asks for (Kinesis API Reference, CreateStream, Request Parameters).
+-- The command that the members of `d` ask for in a CreateStream, or the first fault. StreamModeDetails must be
+-- PROVISIONED if it is given (Kinesis API Reference, CreateStream, Request Parameters).
 unfoldable pub create_stream : Data → Result Command Fault
 create_stream d = do
   name ← required_at name_in (codes "StreamName") d
@@ -29,20 +30,23 @@ create_stream d = do
   mode ← optional_at tt mode_in (codes "StreamModeDetails") d
   Ok (command.Create name shards)
 
--- What DeleteStream asks for (Kinesis API Reference, DeleteStream, Request Parameters).
+-- The command that the members of `d` ask for in a DeleteStream, or the first fault (Kinesis API Reference,
+-- DeleteStream, Request Parameters).
 unfoldable pub delete_stream : Data → Result Command Fault
 delete_stream d = do
   name ← required_at name_in (codes "StreamName") d
   Ok (command.Delete name)
 
--- What ListStreams asks for (Kinesis API Reference, ListStreams, Request Parameters).
+-- The command that the members of `d` ask for in a ListStreams, or the first fault (Kinesis API Reference, ListStreams,
+-- Request Parameters).
 unfoldable pub list_streams : Data → Result Command Fault
 list_streams d = do
   after ← optional_at None some_name_in (codes "ExclusiveStartStreamName") d
   limit ← optional_at NAMES_LIMIT (number_in 1 MOST) (codes "Limit") d
   Ok (command.Streams after limit)
 
--- What DescribeStream asks for (Kinesis API Reference, DescribeStream, Request Parameters).
+-- The command that the members of `d` ask for in a DescribeStream, or the first fault (Kinesis API Reference,
+-- DescribeStream, Request Parameters).
 unfoldable pub describe_stream : Data → Result Command Fault
 describe_stream d = do
   name ← required_at name_in (codes "StreamName") d
@@ -50,21 +54,23 @@ describe_stream d = do
   limit ← optional_at DESCRIBED_LIMIT (number_in 1 MOST) (codes "Limit") d
   Ok (command.Describe name after limit)
 
--- What DescribeStreamSummary asks for (Kinesis API Reference, DescribeStreamSummary, Request Parameters).
+-- The command that the members of `d` ask for in a DescribeStreamSummary, or the first fault (Kinesis API Reference,
+-- DescribeStreamSummary, Request Parameters).
 unfoldable pub describe_summary : Data → Result Command Fault
 describe_summary d = do
   name ← required_at name_in (codes "StreamName") d
   Ok (command.Summary name)
 
--- What IncreaseStreamRetentionPeriod and DecreaseStreamRetentionPeriod ask for (Kinesis API Reference, Request
--- Parameters).
+-- The command that the members of `d` ask for in an IncreaseStreamRetentionPeriod if `raise` is true, and in a
+-- DecreaseStreamRetentionPeriod if it is false, or the first fault (Kinesis API Reference, Request Parameters).
 unfoldable pub keep : Bool → Data → Result Command Fault
 keep raise d = do
   name ← required_at name_in (codes "StreamName") d
   wanted ← required_at (number_in LEAST_HOURS MOST_HOURS) (codes "RetentionPeriodHours") d
   Ok (command.Keep name wanted raise)
 
--- What UpdateShardCount asks for (Kinesis API Reference, UpdateShardCount, Request Parameters).
+-- The command that the members of `d` ask for in an UpdateShardCount, or the first fault. ScalingType must be
+-- UNIFORM_SCALING (Kinesis API Reference, UpdateShardCount, Request Parameters).
 unfoldable pub update_shard_count : Data → Result Command Fault
 update_shard_count d = do
   name ← required_at name_in (codes "StreamName") d
@@ -72,7 +78,8 @@ update_shard_count d = do
   uniform ← required_at scaling_in (codes "ScalingType") d
   Ok (command.Scale name target)
 
--- What LocalEnforceLimits asks for, which is an operation of this project's own.
+-- The command that the members of `d` ask for in a LocalEnforceLimits, or the first fault. This operation, which is the
+-- project's own, turns the limits on throughput on or off.
 unfoldable pub enforce_limits : Data → Result Command Fault
 enforce_limits d = do
   name ← required_at name_in (codes "StreamName") d
@@ -81,7 +88,8 @@ enforce_limits d = do
 
 -- ---- Records
 
--- The record to put that the members of `d` describe (Kinesis API Reference, PutRecordsRequestEntry).
+-- The record that the members of `d` ask to put, or the first fault. If there is no explicit hash key, the hash key is
+-- that of the partition key (Kinesis API Reference, PutRecordsRequestEntry).
 unfoldable pub item_of : Data → Result NewItem Fault
 item_of d = do
   key ← required_at key_in (codes "PartitionKey") d
@@ -89,31 +97,36 @@ item_of d = do
   hash ← hash_at key (codes "ExplicitHashKey") d
   Ok (record { key = key; hash = hash; payload = payload })
 
--- What PutRecord asks for (Kinesis API Reference, PutRecord, Request Parameters).
+-- The command that the members of `d` ask for in a PutRecord, or the first fault (Kinesis API Reference, PutRecord,
+-- Request Parameters).
 unfoldable pub put_record : Data → Result Command Fault
 put_record d = do
   name ← required_at name_in (codes "StreamName") d
   item ← item_of d
   Ok (command.Put name item)
 
--- Reading begins at a sequence number, or after it (`start_after`).
+-- The start of reading at the sequence number in StartingSequenceNumber, a member of `d`, or the fault of this member.
 unfoldable pub start_at : Data → Result Start Fault
 start_at d = do
   number ← required_at sequence_in (codes "StartingSequenceNumber") d
   Ok (start.At number)
 
+-- The start of reading right after the sequence number in StartingSequenceNumber, a member of `d`, or the fault of this
+-- member.
 unfoldable pub start_after : Data → Result Start Fault
 start_after d = do
   number ← required_at sequence_in (codes "StartingSequenceNumber") d
   Ok (start.After number)
 
--- Reading begins at the first record of a moment or after it.
+-- The start of reading at the first record that arrived at the time in Timestamp, a member of `d`, or later. If the
+-- member has a fault, the result is this fault.
 unfoldable pub start_time : Data → Result Start Fault
 start_time d = do
   moment ← required_at moment_in (codes "Timestamp") d
   Ok (start.Time moment)
 
--- Where reading begins, by the ShardIteratorType `kind` (Kinesis API Reference, GetShardIterator, ShardIteratorType).
+-- Where reading begins, by the ShardIteratorType `kind` and by the member of `d` that belongs to it, or the first fault
+-- (Kinesis API Reference, GetShardIterator, ShardIteratorType).
 unfoldable pub start_of : List ℕ → Data → Result Start Fault
 start_of kind d =
     if bytes_eq kind (codes "TRIM_HORIZON") then Ok start.TrimHorizon
@@ -123,7 +136,8 @@ start_of kind d =
     else if bytes_eq kind (codes "AT_TIMESTAMP") then start_time d
     else Err (fault_of Invalid (codes "ShardIteratorType"))
 
--- What GetShardIterator asks for (Kinesis API Reference, GetShardIterator, Request Parameters).
+-- The command that the members of `d` ask for in a GetShardIterator, or the first fault (Kinesis API Reference,
+-- GetShardIterator, Request Parameters).
 unfoldable pub get_shard_iterator : Data → Result Command Fault
 get_shard_iterator d = do
   name ← required_at name_in (codes "StreamName") d
@@ -132,7 +146,8 @@ get_shard_iterator d = do
   from ← start_of kind d
   Ok (command.GetIterator name shard from)
 
--- What GetRecords asks for (Kinesis API Reference, GetRecords, Request Parameters).
+-- The command that the members of `d` ask for in a GetRecords, or the first fault (Kinesis API Reference, GetRecords,
+-- Request Parameters).
 unfoldable pub get_records : Data → Result Command Fault
 get_records d = do
   iter ← token_at iter_of (codes "ShardIterator") d
@@ -141,7 +156,8 @@ get_records d = do
 
 -- ---- Shards
 
--- What SplitShard asks for (Kinesis API Reference, SplitShard, Request Parameters).
+-- The command that the members of `d` ask for in a SplitShard, or the first fault (Kinesis API Reference, SplitShard,
+-- Request Parameters).
 unfoldable pub split_shard : Data → Result Command Fault
 split_shard d = do
   name ← required_at name_in (codes "StreamName") d
@@ -149,7 +165,8 @@ split_shard d = do
   at ← required_at hash_in (codes "NewStartingHashKey") d
   Ok (command.Split name shard at)
 
--- What MergeShards asks for (Kinesis API Reference, MergeShards, Request Parameters).
+-- The command that the members of `d` ask for in a MergeShards, or the first fault (Kinesis API Reference, MergeShards,
+-- Request Parameters).
 unfoldable pub merge_shards : Data → Result Command Fault
 merge_shards d = do
   name ← required_at name_in (codes "StreamName") d
@@ -157,7 +174,8 @@ merge_shards d = do
   other ← required_at id_in (codes "AdjacentShardToMerge") d
   Ok (command.Merge name shard other)
 
--- What ListShards asks for if it lists the shards of a stream that is given by its name.
+-- The command that the members of `d` ask for in a ListShards without a NextToken, or the first fault. The stream is
+-- given by its name, and ShardFilter must be absent.
 unfoldable pub list_from_start : Data → Result Command Fault
 list_from_start d = do
   name ← required_at name_in (codes "StreamName") d
@@ -166,7 +184,8 @@ list_from_start d = do
   limit ← optional_at SHARDS_LIMIT (number_in 1 MOST) (codes "MaxResults") d
   Ok (command.Shards name after limit)
 
--- What ListShards asks for if it goes on where an earlier listing ended.
+-- The command that the members of `d` ask for in a ListShards with a NextToken, which goes on where an earlier listing
+-- ended, or the first fault. StreamName, ShardFilter and ExclusiveStartShardId must be absent.
 unfoldable pub list_from_token : Data → Result Command Fault
 list_from_token d = do
   no_name ← absent_at (codes "StreamName") d
@@ -176,6 +195,7 @@ list_from_token d = do
   limit ← optional_at SHARDS_LIMIT (number_in 1 MOST) (codes "MaxResults") d
   Ok (command.More page limit)
 
--- What ListShards asks for (Kinesis API Reference, ListShards, Request Parameters).
+-- The command that the members of `d` ask for in a ListShards, or the first fault. It depends on whether NextToken is
+-- given and isn't null (Kinesis API Reference, ListShards, Request Parameters).
 unfoldable pub list_shards : Data → Result Command Fault
 list_shards d = if is_some (member_of (codes "NextToken") d) then list_from_token d else list_from_start d

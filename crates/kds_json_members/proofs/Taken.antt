@@ -1,4 +1,4 @@
--- The map in which the members of an object stand: what is found at a name.
+-- What is found by a name in the map of an object's members is the member with this name.
 use Rattle.std.proofs.Common.{◌≡◌, ℕ, List, [], ◌∷◌, Option, Some, None, is_some, option_map, option_and_then, String}
 use Rattle.std.proofs.Common.{BTreeMap, Global, Ordering, Less, Equal, Greater, string_bytes, nat_cmp, is_eq}
 use Rattle.std.proofs.Common.{cond, Bool, true, false, bytes_eq, true≢false, refl, sym, ap, ◌∙◌}
@@ -15,10 +15,11 @@ use Rattle.serde_json.proofs.Views.{view-lookup}
 use Rattle.serde_json.specs.declared.value.Value.{Value}
 use Rattle.kds_json_members.specs.Member.{unless_null, member_of}
 
+-- An entry of the map: the name of a member and its value.
 abbrev Entry : Type 0
 Entry = String Global × Value
 
--- The test of the name `name` by which a map finds an entry.
+-- Whether an entry of the map has the name `name`, by the name of the entry.
 abbrev pub at_name : List ℕ → String Global → Bool
 at_name name = is_at (λ k. slice_cmp nat_cmp name (string_bytes k))
 
@@ -38,17 +39,19 @@ other_is (string s) h = refl
 other_is (array ds) h = refl
 other_is (object ms) h = refl
 
--- What is at a name: null counts as absent, another value is the member, and nothing is no member.
+-- If null is found in the map by a name, the object has no member with this name, as null counts as absent.
 pub null_at : (name : List ℕ) (es : List Entry) (v : Value) → Some v ≡ lookup (at_name name) es
     → is_some (as_null (view v)) ≡ true
     → None ≡ member_of name (object (members_view es))
 null_at name es v e h = null_is (view v) h ∙ sym (ap (option_and_then unless_null) (found_at name es (Some v) e))
 
+-- If a value that isn't null is found in the map by a name, it is the value of the object's member with this name.
 pub value_at : (name : List ℕ) (es : List Entry) (v : Value) → Some v ≡ lookup (at_name name) es
     → is_some (as_null (view v)) ≡ false
     → Some (view v) ≡ member_of name (object (members_view es))
 value_at name es v e h = other_is (view v) h ∙ sym (ap (option_and_then unless_null) (found_at name es (Some v) e))
 
+-- If nothing is found in the map by a name, the object has no member with this name.
 pub nothing_at : (name : List ℕ) (es : List Entry) → None ≡ lookup (at_name name) es
     → None ≡ member_of name (object (members_view es))
 nothing_at name es e = sym (ap (option_and_then unless_null) (found_at name es None e))

@@ -1,4 +1,5 @@
--- What is true after a line, and where the reading stopped.
+-- After one more line or piece of an input was fed, the line buffer stands for the fed bytes (`Stands`), or the reading
+-- is halted. To be halted with an outcome means that `Halted` holds with it.
 use Rattle.std.proofs.Common.{◌≡◌, ℕ, ◌+◌, List, [], ◌∷◌, ◌++◌, length, Bool, true, false, Option, Some, None, refl}
 use Rattle.std.proofs.Common.{sym, ap, ◌∙◌, subst, ◌<◌, ◌≤◌, ◌⊎◌, arith, inl, inr}
 use Rattle.std.proofs.lemmas.Grind.{common_steps}
@@ -23,9 +24,9 @@ use Rattle.kds_lines.specs.Telling.{Because, HasTaken, Unwritten, Told}
 use Rattle.kds_lines.proofs.Pieces.{line_fed, line_over, more_fed, more_over, at_end, lines_so_far, fed_begins}
 use Rattle.kds_lines.proofs.Pieces.{begins_more, too_long_more}
 
--- ---- What is written
+-- ---- The output that waits is written
 
--- If what waited is written, nothing waits.
+-- If all of the output that waits is written, no output waits.
 pub flushed : (start before now : Option (List ℕ)) (output waits missing : List ℕ)
     → Wrote start before output waits missing → Appends before now waits → Wrote start now output [] missing
 flushed start before now output waits missing w a = record {
@@ -34,7 +35,7 @@ flushed start before now output waits missing w a = record {
   written = Appends-trans start before now w.front waits w.written a;
 }
 
--- If a front of what waited is written, the rest is lost.
+-- If only a first part of the output that waits is written, the rest is lost (`Loses`).
 pub lost : (start before now : Option (List ℕ)) (output waits missing : List ℕ)
     → Wrote start before output waits missing → AppendsFront before now waits → Loses start now output
 lost start before now output waits missing w a = (
@@ -47,6 +48,7 @@ lost start before now output waits missing w a = (
   },
 )
 
+-- If a flush succeeds, all of the output that waited is written, and no output waits.
 pub flush_ok : {E : Type 0} (r : Result (Unit {0}) E) (before now : Option (List ℕ)) (piece waits : List ℕ)
     → piece ≡ waits → OnOk r (Appends before now piece)
     → OnOk r ((start : Option (List ℕ)) (whole missing : List ℕ) → Wrote start before whole waits missing
@@ -56,6 +58,7 @@ flush_ok (Ok x) before now piece waits e h =
     flushed start before now whole waits missing w (subst (λ (z : List ℕ). Appends before now z) e h)
 flush_ok (Err x) before now piece waits e h = tt
 
+-- If a flush fails, only a first part of the output that waited is written, and the rest is lost (`Loses`).
 pub flush_err : {E : Type 0} (r : Result (Unit {0}) E) (before now : Option (List ℕ)) (piece waits : List ℕ)
     → piece ≡ waits → OnErr r (AppendsFront before now piece)
     → OnErr r ((start : Option (List ℕ)) (whole missing : List ℕ) → Wrote start before whole waits missing
@@ -65,7 +68,7 @@ flush_err (Err x) before now piece waits e h =
     λ start whole missing w.
     lost start before now whole waits missing w (subst (λ (z : List ℕ). AppendsFront before now z) e h)
 
--- ---- The end of a line
+-- ---- A line ends
 
 at_length : (len used : ℕ) (w : List ℕ) {b : Bool} → len ≡ length w → is_over len (used + len + 1) ≡ b
     → is_over (length w) (used + length w + 1) ≡ b
@@ -73,6 +76,8 @@ at_length len used w {b} el h = subst (λ (z : ℕ). is_over z (used + z + 1) �
 
 module _ (before took : List (List ℕ) → Type 0) (broke refuses : List (List ℕ) → List ℕ
     → Type 0) (output : List (List ℕ) → List ℕ) where
+  -- The bytes `a` and a line feed end the line that the line buffer holds. If neither this line nor the input is too
+  -- long, and the taker takes the line, the bytes up to the line feed were fed (`Stands`).
   pub line_taken : (y a : List ℕ) (len : ℕ) (old new : LineBuffer) (start now : Option (List ℕ))
       → len ≡ length (old.held ++ a)
       → (st : Stands before output y old start now) → NoFeed a → is_over len (old.used + len + 1) ≡ false
@@ -98,7 +103,8 @@ module _ (before took : List (List ℕ) → Type 0) (broke refuses : List (List 
         };
       }
 
-  -- A line stops the reading.
+  -- The bytes `a` and a line feed end the held line. If `Stops` holds for the outcome `o` in these bytes, the taker
+  -- took the lines before, and no output is missing, the reading is halted with `o`.
   pub line_stops : (o : Outcome) (y a : List ℕ) (ts : List (List ℕ)) (used : ℕ) (held waits : List ℕ)
       (start now : Option (List ℕ)) → Fed y ts used held → NoFeed a
       → HasTakenFed o took broke (y ++ (a ++ 10 ∷ [])) ts → Stops o refuses (y ++ (a ++ 10 ∷ [])) ts → Unwritten o []
@@ -114,7 +120,8 @@ module _ (before took : List (List ℕ) → Type 0) (broke refuses : List (List 
     unwritten = all;
   }
 
-  -- Memory ran out before the line, after it, or in the middle of it.
+  -- The bytes `a` and a line feed end the held line. If memory runs out when the taker is handed this line, whether it
+  -- takes it whole, in part or not, the reading is halted with Memory.
   line_breaks : (y a held waits : List ℕ) (ts : List (List ℕ)) (used : ℕ) (start now : Option (List ℕ))
       → Fed y ts used held → NoFeed a
       → is_over (length (held ++ a)) (used + length (held ++ a) + 1) ≡ false → Wrote start now (output ts) waits []
@@ -140,6 +147,8 @@ module _ (before took : List (List ℕ) → Type 0) (broke refuses : List (List 
     unwritten = tt;
   }
 
+  -- The bytes `a` and a line feed end the held line. If this line or the input is too long with them, the reading is
+  -- halted with TooLong.
   pub stands_over : (y a : List ℕ) (len : ℕ) (old : LineBuffer) (start now : Option (List ℕ))
       → len ≡ length (old.held ++ a)
       → Stands took output y old start now → NoFeed a → is_over len (old.used + len + 1) ≡ true
@@ -149,6 +158,8 @@ module _ (before took : List (List ℕ) → Type 0) (broke refuses : List (List 
       (line_over y a st.texts old.used old.held st.bytes n (at_length len old.used (old.held ++ a) el over))
       refl st.wrote
 
+  -- The bytes `a` and a line feed end the held line, which isn't too long. If the taker refuses this line, the reading
+  -- is halted with Stopped and the line's number.
   pub stands_stops : (y a waits : List ℕ) (len : ℕ) (old : LineBuffer) (start now : Option (List ℕ))
       → len ≡ length (old.held ++ a)
       → (st : Stands before output y old start now) → NoFeed a → is_over len (old.used + len + 1) ≡ false
@@ -161,6 +172,8 @@ module _ (before took : List (List ℕ) → Type 0) (broke refuses : List (List 
       line_stops (Stopped (old.count + 1)) y a st.texts old.used old.held waits start now st.bytes n s.0
       (old.held ++ a, fed_begins _ _ _ _ fed, s.1, ap (λ z. z + 1) st.count) refl (rw same st.wrote)
 
+  -- The bytes `a` and a line feed end the held line, which isn't too long. If memory runs out when the taker is handed
+  -- this line, the reading is halted with Memory.
   pub stands_breaks : (y a waits : List ℕ) (len : ℕ) (old : LineBuffer) (start now : Option (List ℕ))
       → len ≡ length (old.held ++ a)
       → (st : Stands before output y old start now) → NoFeed a → is_over len (old.used + len + 1) ≡ false
@@ -171,9 +184,10 @@ module _ (before took : List (List ℕ) → Type 0) (broke refuses : List (List 
       line_breaks y a old.held waits st.texts old.used start now st.bytes n
       (at_length len old.used (old.held ++ a) el short) (rw same st.wrote) (breaks st.texts st.taken)
 
-  -- ---- What is written
+  -- ---- Output is written, or lost
 
-  -- The output was written, or waits on.
+  -- If the line buffer stands for the fed bytes (`Stands`), it still does after some or all of the waiting output was
+  -- written.
   pub stands_written : (y : List ℕ) (old new : LineBuffer) (start mid now : Option (List ℕ)) → new.held ≡ old.held
       → new.count ≡ old.count → new.used ≡ old.used
       → (st : Stands took output y old start mid)
@@ -187,6 +201,7 @@ module _ (before took : List (List ℕ) → Type 0) (broke refuses : List (List 
     wrote = writes (output st.texts) [] st.wrote;
   }
 
+  -- If the waiting output can't all be written, the reading is halted with Write, and the unwritten output is lost.
   pub stands_lost : (y waits : List ℕ) (old : LineBuffer) (start mid now : Option (List ℕ)) → waits ≡ []
       → (st : Stands took output y old start mid)
       → ((whole missing : List ℕ) → Wrote start mid whole old.output missing → Loses start now whole)
@@ -202,6 +217,8 @@ module _ (before took : List (List ℕ) → Type 0) (broke refuses : List (List 
         unwritten = tt;
       }
 
+  -- If the waiting output is written after the reading was halted with `o`, the reading is halted with `o`, and no
+  -- output waits.
   pub halted_written : (o : Outcome) (y waits : List ℕ) (start mid now : Option (List ℕ))
       → Halted o took broke refuses output y waits start mid
       → ((whole missing : List ℕ) → Wrote start mid whole waits missing → Wrote start now whole [] missing)
@@ -216,7 +233,8 @@ module _ (before took : List (List ℕ) → Type 0) (broke refuses : List (List 
     unwritten = h.unwritten;
   }
 
-  -- The sink failed after the reading had stopped already.
+  -- If output is lost after the taker took the lines `ts`, the first of the bytes `y`, the reading is halted with
+  -- Write, and no output waits.
   lost_there : (y : List ℕ) (ts : List (List ℕ)) (start now : Option (List ℕ)) → Begins y ts → took ts
       → Loses start now (output ts)
       → Halted Write took broke refuses output y [] start now
@@ -230,6 +248,8 @@ module _ (before took : List (List ℕ) → Type 0) (broke refuses : List (List 
     unwritten = tt;
   }
 
+  -- If the waiting output can't all be written after the reading was halted with `o`, it is halted with Memory if `o`
+  -- is Memory, and otherwise with Write.
   pub halted_lost : (o : Outcome) (y waits : List ℕ) (start mid now : Option (List ℕ))
       → Halted o took broke refuses output y waits start mid
       → ((whole missing : List ℕ) → Wrote start mid whole waits missing → Loses start now whole)
@@ -247,6 +267,8 @@ module _ (before took : List (List ℕ) → Type 0) (broke refuses : List (List 
   halted_lost _ y waits start mid now h loses =
       lost_there y h.texts start now h.begins h.taken (loses (output h.texts) h.missing h.wrote)
 
+  -- If a piece was fed with the result `r`, and then the waiting output can't all be written, the reading is halted
+  -- with `lost_after r`.
   pub fed_lost : (r : Result (Unit {0}) Outcome) (piece : List ℕ) (old new : LineBuffer)
       (held mid now : Option (List ℕ))
       → OnOk r ((fed : List ℕ) (start : Option (List ℕ)) → Stands before output fed old start held
@@ -261,7 +283,7 @@ module _ (before took : List (List ℕ) → Type 0) (broke refuses : List (List 
   fed_lost (Err o) piece old new held mid now ok err fed start st loses =
       halted_lost o (fed ++ piece) new.output start mid now (err fed start st) loses
 
-  -- ---- One after another
+  -- ---- The lines of a piece, one after another
 
   stops_more : (o : Outcome) (y z : List ℕ) (ts : List (List ℕ)) → IsFeedStop o → Stops o refuses y ts
       → Stops o refuses (y ++ z) ts
@@ -277,7 +299,8 @@ module _ (before took : List (List ℕ) → Type 0) (broke refuses : List (List 
   taken_more Memory y z ts (inr part) = inr (part.0, begins_more y z _ part.1, part.2)
   taken_more _ y z ts t = t
 
-  -- After the reading has stopped, more bytes change nothing.
+  -- If the reading is halted in the bytes `y` with an outcome of a piece (`IsFeedStop`), it is halted with this outcome
+  -- in `y` with any bytes `z` after it.
   pub halted_more : (o : Outcome) (y z waits : List ℕ) (start now : Option (List ℕ)) → IsFeedStop o
       → Halted o took broke refuses output y waits start now
       → Halted o took broke refuses output (y ++ z) waits start now
@@ -291,6 +314,7 @@ module _ (before took : List (List ℕ) → Type 0) (broke refuses : List (List 
     unwritten = h.unwritten;
   }
 
+  -- Before any byte of `piece` is fed, its fed part is empty, and all of it remains.
   pub lines_begin : (fed piece : List ℕ) (line_buffer : LineBuffer) (start now : Option (List ℕ))
       → Stands took output fed line_buffer start now → FedLines took output fed piece piece line_buffer start now
   lines_begin fed piece line_buffer start now st = record {
@@ -299,7 +323,8 @@ module _ (before took : List (List ℕ) → Type 0) (broke refuses : List (List 
     stands = subst (λ (z : List ℕ). Stands took output z line_buffer start now) (sym (append-nil fed)) st;
   }
 
-  -- A further line goes on from the lines before it.
+  -- If the line `line`, with which the remaining bytes of `piece` begin, is fed too, the fed part is longer by this
+  -- line, and `next` remains.
   pub lines_go : (fed piece rest line next : List ℕ) (old new : LineBuffer) (start mid now : Option (List ℕ))
       → (f : FedLines before output fed piece rest old start mid) → rest ≡ line ++ next
       → Stands took output ((fed ++ f.front) ++ line) new start now → FedLines took output fed piece next new start now
@@ -309,6 +334,7 @@ module _ (before took : List (List ℕ) → Type 0) (broke refuses : List (List 
     stands = subst (λ (z : List ℕ). Stands took output z new start now) (append_assoc fed f.front line) st;
   }
 
+  -- If the reading is halted in the line with which the remaining bytes of `piece` begin, it is halted in `piece`.
   pub lines_stop : (fed piece rest line next waits : List ℕ) (old : LineBuffer) (start mid now : Option (List ℕ))
       (o : Outcome) → IsFeedStop o
       → (f : FedLines before output fed piece rest old start mid) → rest ≡ line ++ next
@@ -321,8 +347,10 @@ module _ (before took : List (List ℕ) → Type 0) (broke refuses : List (List 
       subst (λ (z : List ℕ). Halted o took broke refuses output z waits start now) e
       (halted_more o ((fed ++ f.front) ++ line) next waits start now k h)
 
-  -- ---- A whole piece
+  -- ---- The bytes of a piece after its last line feed
 
+  -- If the remaining bytes of `piece` have no line feed and are added to the bytes that the line buffer holds, the
+  -- whole piece was fed.
   pub piece_held : (fed piece rest : List ℕ) (old new : LineBuffer) (start now : Option (List ℕ))
       → (f : FedLines took output fed piece rest old start now) → NoFeed rest
       → new.output ≡ old.output → new.count ≡ old.count
@@ -346,6 +374,8 @@ module _ (before took : List (List ℕ) → Type 0) (broke refuses : List (List 
   held_stops Memory y ts t h = (tt, (tt, inl t))
   held_stops _ y ts t h = absurd h
 
+  -- If the remaining bytes of `piece` have no line feed and can't be held, for the reason that `HoldStops` gives with
+  -- the outcome `o`, the reading is halted with `o`.
   pub piece_stops : (fed piece rest waits : List ℕ) (old : LineBuffer) (start now : Option (List ℕ)) (o : Outcome)
       → (f : FedLines took output fed piece rest old start now) → NoFeed rest
       → waits ≡ old.output → ((y : List ℕ) (ts : List (List ℕ)) → Fed y ts old.used old.held → NoFeed rest
@@ -366,12 +396,13 @@ module _ (before took : List (List ℕ) → Type 0) (broke refuses : List (List 
         unwritten = s.1.0;
       })
 
--- ---- Bytes that are held
+-- ---- Bytes without a line feed
 
 some_over : (used : ℕ) (w : List ℕ) → used ≤ INPUT_BYTES → is_over (length w) (used + length w) ≡ true → (0 < length w)
     × ((LINE_BYTES < length w) ⊎ (INPUT_BYTES < used + length w))
 some_over used w h over = (grind (arith, common_steps), grind (arith, common_steps))
 
+-- If bytes without a line feed make the held line or the input too long, `IsTooLong` holds, whatever follows.
 pub hold_over : (y a : List ℕ) (len used : ℕ) (held : List ℕ) (ts : List (List ℕ)) → len ≡ length (held ++ a)
     → used ≤ INPUT_BYTES → Fed y ts used held → NoFeed a
     → is_over len (used + len) ≡ true → IsTooLong (y ++ a) ts
@@ -381,11 +412,12 @@ hold_over y a len used held ts el small f n over =
     let o = some_over used (held ++ a) small over' in
     more_over y a ts used held f n o.0 o.1
 
+-- If bytes without a line feed are added to the held bytes, `Fed` holds with them.
 pub hold_fed : (y a : List ℕ) (used : ℕ) (held now : List ℕ) (ts : List (List ℕ)) → now ≡ held ++ a → Fed y ts used held
     → NoFeed a → Fed (y ++ a) ts used now
 hold_fed y a used held now ts e f n = rw e (more_fed y a ts used held f n)
 
--- An outcome with which a line stops the reading is one with which a piece does.
+-- Each outcome with which a line may stop the reading is one with which a piece may.
 pub own_is_feed : (o : Outcome) → IsOwnStop o → IsFeedStop o
 own_is_feed (Stopped n) h = tt
 own_is_feed TooLong h = tt
@@ -393,19 +425,20 @@ own_is_feed Memory h = tt
 own_is_feed Write h = tt
 own_is_feed _ h = absurd h
 
+-- No line stops the reading with Write.
 pub own_is_no_write : (o : Outcome) → IsOwnStop o → o ≡ Write → ⊥
 own_is_no_write o h e = let bad : IsOwnStop Write = subst (λ (z : Outcome). IsOwnStop z) e h in bad
 
--- ---- The source
+-- ---- The size of the input
 
 not_over : (len used : ℕ) → len ≤ LINE_BYTES → used + len ≤ INPUT_BYTES → is_over len (used + len) ≡ false
 not_over len used a b = grind (arith, common_steps)
 
--- ---- What is told
+-- ---- What is known at the end of the reading
 
 module _ (took : List (List ℕ) → Type 0) (broke refuses : List (List ℕ) → List ℕ → Type 0) (output : List (List ℕ)
     → List ℕ) where
-  -- The source fails.
+  -- If the source fails, which keeps its bytes, a running reading is halted with Read.
   pub halted_read : (all left after start now : Option (List ℕ)) (line_buffer : LineBuffer)
       → Running took output all left line_buffer start now → Keeps left after
       → HaltedAfter Read took broke refuses output all after start now
@@ -441,12 +474,13 @@ module _ (took : List (List ℕ) → Type 0) (broke refuses : List (List ℕ) �
     unwritten = h.unwritten;
   }
 
-  -- The lines of all bytes begin with the first lines.
+  -- Let `fed` be the first of all bytes, and let its first lines be `ts`. Then the lines of all bytes are `ts`,
+  -- followed by further lines.
   begun : (x fed ys : List ℕ) (ts : List (List ℕ)) → x ≡ fed ++ ys → (b : Begins fed ts)
       → (lined x).texts ≡ ts ++ (b ys).0
   begun x fed ys ts e b = ap (λ z. (lined z).texts) e ∙ (b ys).1
 
-  -- What is told if memory ran out, by how far the taker took the next line.
+  -- If memory ran out, `Told` holds of the reading, whether the taker took the next line whole, in part or not.
   told_broken : (x fed ys : List ℕ) (start now : Option (List ℕ)) → x ≡ fed ++ ys
       → (h : Halted Memory took broke refuses output fed [] start now)
       → HasTakenFed Memory took broke fed h.texts → Told Memory took broke refuses output x (Some ys) start now
@@ -484,6 +518,8 @@ module _ (took : List (List ℕ) → Type 0) (broke refuses : List (List ℕ) �
   told_at Whole x fed ys start now k e h = absurd k
   told_at (Unfinished n) x fed ys start now k e h = absurd k
 
+  -- If the reading was halted with `o` before the input's end, and the source tells its bytes, `Told` holds of the
+  -- reading of all of them.
   pub told_halt : (o : Outcome) (all left start now : Option (List ℕ)) → IsStop o
       → HaltedAfter o took broke refuses output all left start now
       → IfSome all (λ bytes. Told o took broke refuses output bytes left start now)
@@ -525,6 +561,8 @@ module _ (took : List (List ℕ) → Type 0) (broke refuses : List (List ℕ) �
         unwritten = refl;
       })
 
+  -- If the source is at its end, `Told` holds of the reading of all bytes, with Whole if the line buffer holds no byte,
+  -- and otherwise with Unfinished.
   pub told_end : (all left start now : Option (List ℕ)) (line_buffer : LineBuffer)
       → Running took output all left line_buffer start now → IsAtEnd left
       → length line_buffer.held ≤ LINE_BYTES → line_buffer.used + length line_buffer.held ≤ INPUT_BYTES

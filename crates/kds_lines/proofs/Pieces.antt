@@ -1,4 +1,4 @@
--- An input that comes in pieces: what its bytes so far decide, whatever follows.
+-- The bytes of an input so far decide its first lines, whatever bytes follow.
 use Rattle.std.proofs.Common.{◌≡◌, ℕ, zero, suc, ◌+◌, ◌<◌, ◌≤◌, List, [], ◌∷◌, ◌++◌, length, take, drop, Bool, true}
 use Rattle.std.proofs.Common.{false, Option, Some, None, cond, refl, sym, ap, subst, ◌∙◌, arith, inl, inr, ◌⊎◌}
 use Rattle.std.proofs.lemmas.Grind.{common_steps}
@@ -40,6 +40,7 @@ parted [] at within here = absurd (omega arith)
 parted (b ∷ bs) zero within here = ap (λ x. x ∷ bs) (eqb-true b 10 here)
 parted (b ∷ bs) (suc at) within here = ap (λ rest. b ∷ rest) (parted bs at (omega arith) here)
 
+-- The search for the byte 10 finds the index of the first line feed, or finds none if there is no line feed.
 pub first_is : (bytes : List ℕ) (r : Option ℕ) → IsFirstByte (is_byte 10) bytes r
     → MatchOption r (NoFeed bytes) (HasFeedAt bytes)
 first_is bytes None h = nowhere bytes (λ k within. h k (omega arith) within)
@@ -51,7 +52,7 @@ first_is bytes (Some at) h =
       parts = parted bytes at h.0.high h.1 ∙ ap (λ n. take at bytes ++ 10 ∷ drop n bytes) next;
     }
 
--- The bytes around the first line feed are taken apart there.
+-- If the first line feed is at the index `at`, the bytes are those before it, the line feed, and those after it.
 pub feed_parts : (rest tail after next : List ℕ) (at : ℕ) → HasFeedAt rest at → tail ≡ take at rest
     → after ≡ drop at rest → next ≡ drop 1 after
     → (rest ≡ (tail ++ 10 ∷ []) ++ next) × NoFeed tail
@@ -62,8 +63,9 @@ feed_parts rest tail after next at c et ea en =
       subst (λ (z : List ℕ). NoFeed z) (sym et) c.before,
     )
 
--- ---- Pieces
+-- ---- The parts between line feeds
 
+-- A list of parts isn't empty.
 abbrev IsCut : List (List ℕ) → Type 0
 IsCut ps = (q : List ℕ) × (qs : List (List ℕ)) × (ps ≡ q ∷ qs)
 
@@ -75,11 +77,12 @@ cut_cond : (c : Bool) (ps : List (List ℕ)) (b : ℕ) → IsCut (cond c ([] ∷
 cut_cond true ps b = ([], ps, refl)
 cut_cond false ps b = onto_first_cut b ps
 
--- There is always a piece.
+-- Bytes have at least one part.
 pieces_cut : (bytes : List ℕ) → IsCut (pieces bytes)
 pieces_cut [] = ([], [], refl)
 pieces_cut (b ∷ bs) = cut_cond (is_feed b) (pieces bs) b
 
+-- The parts `ps` with the bytes `a` put before the first one.
 abbrev onto_piece : List ℕ → List (List ℕ) → List (List ℕ)
 onto_piece a [] = a ∷ []
 onto_piece a (q ∷ qs) = (a ++ q) ∷ qs
@@ -93,7 +96,7 @@ onto_nothing : (ps : List (List ℕ)) → IsCut ps → ps ≡ onto_piece [] ps
 onto_nothing [] c = cc
 onto_nothing (q ∷ qs) c = refl
 
--- Bytes with no line feed go before the first piece of what follows.
+-- If the bytes `a` without a line feed come before `z`, they belong to the first part.
 pieces_onto : (a z : List ℕ) → NoFeed a → pieces (a ++ z) ≡ onto_piece a (pieces z)
 pieces_onto [] z n = onto_nothing (pieces z) (pieces_cut z)
 pieces_onto (b ∷ a) z n = slice_split-cons_no is_feed b (a ++ z) n.0 ∙ ap (onto_first b) (pieces_onto a z n.1)
@@ -103,7 +106,7 @@ no_feed-append : (a b : List ℕ) → NoFeed a → NoFeed b → NoFeed (a ++ b)
 no_feed-append [] b n m = m
 no_feed-append (x ∷ a) b n m = (n.0, no_feed-append a b n.1 m)
 
--- Bytes with no line feed are one piece.
+-- Bytes without a line feed are one part.
 pieces_none : (a : List ℕ) → NoFeed a → pieces a ≡ a ∷ []
 pieces_none a n = ap pieces (sym (append-nil a)) ∙ pieces_onto a [] n ∙ ap (λ w. w ∷ []) (append-nil a)
 
@@ -111,7 +114,7 @@ pieces_feed : (a z : List ℕ) → NoFeed a → pieces (a ++ 10 ∷ z) ≡ a ∷
 pieces_feed a z n = pieces_onto a (10 ∷ z) n ∙ ap (λ q. onto_piece a q) (slice_split-cons_yes is_feed 10 z refl)
     ∙ ap (λ q. q ∷ pieces z) (append-nil a)
 
--- ---- Lines
+-- ---- Lines within the limits
 
 lined_cut : (used : ℕ) (p : List ℕ) (ps : List (List ℕ)) → IsCut ps
     → lined_from used (p ∷ ps)
@@ -139,7 +142,8 @@ longer : (used n m k : ℕ) → n ≤ m → (LINE_BYTES < n) ⊎ (INPUT_BYTES < 
 longer used n m k le (inl h) = inl (omega arith)
 longer used n m k le (inr h) = inr (omega arith)
 
--- Too many bytes with no line feed are too long, whatever follows.
+-- If the bytes `a` without a line feed make the line or the input too long, the input ends with `too_long`, whatever
+-- follows.
 lined_over : (used : ℕ) (a : List ℕ) (ps : List (List ℕ)) → IsCut ps → 0 < length a → (LINE_BYTES < length a)
     ⊎ (INPUT_BYTES < used + length a)
     → lined_from used (onto_piece a ps) ≡ ended too_long
@@ -156,9 +160,10 @@ lined_over used a (q ∷ r ∷ rs) c n h =
     over_at _ _ (longer used (length a) (length (a ++ q)) 1 (omega arith) h) in
     rw over refl
 
--- ---- Bytes that are fed
+-- ---- Bytes are fed
 
--- What a line feed makes of the lines.
+-- The bytes `a` and a line feed end the held line. The lines with them are the lines so far, this line, and those of
+-- the bytes `z` that follow. If this line or the input is too long, the lines end before it.
 feed_goes : (y a z : List ℕ) (ts : List (List ℕ)) (used : ℕ) (held : List ℕ) → Fed y ts used held → NoFeed a
     → lined ((y ++ (a ++ 10 ∷ [])) ++ z)
     ≡ preceded_by ts (cond (is_over (length (held ++ a)) (used + length (held ++ a) + 1)) (ended too_long)
@@ -169,7 +174,8 @@ feed_goes y a z ts used held f n =
     ap lined whole_y ∙ f.goes_on (a ++ 10 ∷ z) ∙ ap (λ w. preceded_by ts (lined_from used (pieces w))) whole_held
     ∙ ap (preceded_by ts) (lined_first used (held ++ a) z (no_feed-append held a f.no_feed n))
 
--- If a line feed comes, the line is whole, and nothing is held.
+-- The bytes `a` and a line feed end the held line. If neither this line nor the input is too long, it is one more whole
+-- line, and no bytes are held.
 pub line_fed : (y a : List ℕ) (ts : List (List ℕ)) (used : ℕ) (held : List ℕ) → Fed y ts used held → NoFeed a
     → is_over (length (held ++ a)) (used + length (held ++ a) + 1) ≡ false
     → Fed (y ++ (a ++ 10 ∷ [])) (ts ++ (held ++ a) ∷ []) (used + length (held ++ a) + 1) []
@@ -186,7 +192,7 @@ line_fed y a ts used held f n short = record {
 nothing_more : (ts : List (List ℕ)) → preceded_by ts (ended too_long) ≡ record { texts = ts; end = too_long }
 nothing_more ts = ap (λ w. record { texts = w; end = too_long }) (append-nil ts)
 
--- If a line feed comes with which the line or the input is too long, the bytes are too long.
+-- The bytes `a` and a line feed end the held line. If this line or the input is too long, `IsTooLong` holds.
 pub line_over : (y a : List ℕ) (ts : List (List ℕ)) (used : ℕ) (held : List ℕ) → Fed y ts used held → NoFeed a
     → is_over (length (held ++ a)) (used + length (held ++ a) + 1) ≡ true → IsTooLong (y ++ (a ++ 10 ∷ [])) ts
 line_over y a ts used held f n over = λ more. feed_goes y a more ts used held f n
@@ -195,7 +201,7 @@ line_over y a ts used held f n over = λ more. feed_goes y a more ts used held f
     over
     ∙ nothing_more ts
 
--- If bytes come with no line feed, they are held too.
+-- Bytes without a line feed are held with the bytes that are held already.
 pub more_fed : (y a : List ℕ) (ts : List (List ℕ)) (used : ℕ) (held : List ℕ) → Fed y ts used held → NoFeed a
     → Fed (y ++ a) ts used (held ++ a)
 more_fed y a ts used held f n = record {
@@ -204,7 +210,7 @@ more_fed y a ts used held f n = record {
   no_feed = no_feed-append held a f.no_feed n;
 }
 
--- If too many bytes come with no line feed, the bytes are too long.
+-- If bytes without a line feed make the held line or the input too long, `IsTooLong` holds.
 pub more_over : (y a : List ℕ) (ts : List (List ℕ)) (used : ℕ) (held : List ℕ) → Fed y ts used held → NoFeed a
     → 0 < length (held ++ a)
     → (LINE_BYTES < length (held ++ a)) ⊎ (INPUT_BYTES < used + length (held ++ a)) → IsTooLong (y ++ a) ts
@@ -213,7 +219,7 @@ more_over y a ts used held f n some over =
     λ z. g.goes_on z ∙ ap (λ w. preceded_by ts (lined_from used w)) (pieces_onto (held ++ a) z g.no_feed)
     ∙ ap (preceded_by ts) (lined_over used (held ++ a) (pieces z) (pieces_cut z) some over) ∙ nothing_more ts
 
--- At the end of the bytes, what is held is the last line.
+-- At the end of the bytes, the lines are the whole lines so far, and the held bytes decide how the input ends.
 pub at_end : (y : List ℕ) (ts : List (List ℕ)) (used : ℕ) (held : List ℕ) → Fed y ts used held
     → lined y ≡ preceded_by ts (last_of used held)
 at_end y ts used held f =
@@ -225,19 +231,22 @@ no_texts : (used : ℕ) (held : List ℕ) → (last_of used held).texts ≡ []
 no_texts used [] = refl
 no_texts used (b ∷ bs) = refl
 
--- The whole lines so far are the lines of the bytes.
+-- The whole lines so far are all whole lines of the bytes so far.
 pub lines_so_far : (y : List ℕ) (ts : List (List ℕ)) (used : ℕ) (held : List ℕ) → Fed y ts used held
     → (lined y).texts ≡ ts
 lines_so_far y ts used held f =
     ap (λ l. l.texts) (at_end y ts used held f) ∙ ap (λ z. ts ++ z) (no_texts used held) ∙ append-nil ts
 
--- ---- The first lines, whatever follows
+-- ---- The first lines of an input
 
+-- If the whole lines of bytes are `ts` (`Fed`), these are the first lines, whatever follows.
 pub fed_begins : (y : List ℕ) (ts : List (List ℕ)) (used : ℕ) (held : List ℕ) → Fed y ts used held → Begins y ts
 fed_begins y ts used held f = λ more. (_, ap (λ l. l.texts) (f.goes_on more))
 
+-- If the first lines of bytes are `ts`, they still are when the bytes `z` follow.
 pub begins_more : (y z : List ℕ) (ts : List (List ℕ)) → Begins y ts → Begins (y ++ z) ts
 begins_more y z ts b = λ more. let r = b (z ++ more) in (r.0, ap (λ w. (lined w).texts) (append_assoc y z more) ∙ r.1)
 
+-- If the line after the lines `ts`, or the input with it, is too long, it still is when the bytes `z` follow.
 pub too_long_more : (y z : List ℕ) (ts : List (List ℕ)) → IsTooLong y ts → IsTooLong (y ++ z) ts
 too_long_more y z ts d = λ more. ap lined (append_assoc y z more) ∙ d (z ++ more)

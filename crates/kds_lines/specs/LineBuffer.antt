@@ -1,4 +1,7 @@
--- What is true while an input is read line by line.
+-- Defines what is true while an input is read line by line: which lines the taker took, what was written, and why the
+-- reading stopped. Of a taker, `took texts` says that it took just the lines `texts`, and `output texts` is its output
+-- for them. `refuses texts text` says that it stops at the line `text` after them, and `broke texts text` that it then
+-- took `text` in part because memory ran out.
 use Rattle.std.specs.Prelude.{◌≡◌, ◌⊎◌, ℕ, ◌+◌, List, [], ◌∷◌, ◌++◌, length, Result, Err}
 use Rattle.std.specs.declared.option.Option.{Option}
 use Rattle.std.specs.Io.KnownBytes.{Consumes}
@@ -9,7 +12,9 @@ use Rattle.kds_lines.specs.declared.outcome.Outcome.{Outcome}
 use Rattle.kds_lines.specs.declared.outcome.Outcome.TheVariants.{Stopped, TooLong, Read, Write, Memory}
 use Rattle.kds_lines.specs.declared.line_buffer.LineBuffer.{LineBuffer}
 
--- The bytes `fed` were fed: their whole lines were taken, and the output for these lines was written or waits.
+-- The bytes `fed` were fed to the line buffer. The taker took their whole lines, the line buffer counts them, and it
+-- holds the bytes after them. Of the output for these lines, a part was written, which took the sink's bytes from
+-- `start` to `now`, and the rest waits in the line buffer.
 pub record Stands (took : List (List ℕ) → Type 0) (output : List (List ℕ)
     → List ℕ) (fed : List ℕ) (line_buffer : LineBuffer)
     (start now : Option (List ℕ)) : Type 0 where
@@ -19,7 +24,10 @@ pub record Stands (took : List (List ℕ) → Type 0) (output : List (List ℕ)
   pub taken : took texts
   pub wrote : Wrote start now (output texts) line_buffer.output []
 
--- Why the reading stopped with an outcome after the lines `texts` of the bytes `fed`.
+-- Why the reading stopped with an outcome after the taker took the lines `texts` of the bytes `fed`. With TooLong, the
+-- next line or the input is too long. With Stopped, the taker refused the next line, which has the number `n`. With
+-- Read, `texts` are all whole lines of `fed`. With Write and Memory, nothing more is known. No other outcome stops the
+-- reading.
 abbrev pub Stops : Outcome → (List (List ℕ) → List ℕ → Type 0) → List ℕ → List (List ℕ) → Type 0
 Stops TooLong refuses fed texts = IsTooLong fed texts
 Stops (Stopped n) refuses fed texts = (text : List ℕ) × Begins fed (texts ++ text ∷ []) × refuses texts text
@@ -29,16 +37,18 @@ Stops Write refuses fed texts = Unit {0}
 Stops Memory refuses fed texts = Unit {0}
 Stops _ refuses fed texts = ⊥
 
--- The lines `texts` of the bytes `fed` were taken. If memory ran out, it may have done so in the middle of the next
--- line.
+-- The taker took the lines `texts` of the bytes `fed`. If the outcome is Memory, it may instead have taken `texts` and
+-- a part of the next line.
 abbrev pub HasTakenFed : Outcome → (List (List ℕ) → Type 0) → (List (List ℕ) → List ℕ → Type 0) → List ℕ → List (List ℕ)
     → Type 0
 HasTakenFed Memory took broke fed texts =
     took texts ⊎ ((text : List ℕ) × Begins fed (texts ++ text ∷ []) × broke texts text)
 HasTakenFed _ took broke fed texts = took texts
 
--- The bytes `fed` were fed when the reading stopped with `outcome`. The lines that were taken are the first lines of
--- these bytes.
+-- The bytes `fed` were fed when the reading stopped with `outcome`. The taker took the first lines of `fed`
+-- (`HasTakenFed`), and `Stops` says why it took no more. Of the output for these lines, a part was written, which took
+-- the sink's bytes from `start` to `now`, and then `waits` waits. More output is missing only if the sink failed or
+-- memory ran out.
 pub record Halted (outcome : Outcome) (took : List (List ℕ) → Type 0) (broke refuses : List (List ℕ) → List ℕ → Type 0)
     (output : List (List ℕ) → List ℕ) (fed waits : List ℕ) (start now : Option (List ℕ)) : Type 0 where
   pub texts : List (List ℕ)
@@ -49,7 +59,8 @@ pub record Halted (outcome : Outcome) (took : List (List ℕ) → Type 0) (broke
   pub wrote : Wrote start now (output texts) waits missing
   pub unwritten : Unwritten outcome missing
 
--- A prefix of `piece` was fed, and `rest` is what remains of `piece`.
+-- After the bytes `fed`, a first part of `piece` was fed too, and `Stands` holds. The bytes `rest` are the part of
+-- `piece` that wasn't fed.
 pub record FedLines (took : List (List ℕ) → Type 0) (output : List (List ℕ) → List ℕ) (fed piece rest : List ℕ)
     (line_buffer : LineBuffer)
     (start now : Option (List ℕ)) : Type 0 where
@@ -57,44 +68,50 @@ pub record FedLines (took : List (List ℕ) → Type 0) (output : List (List ℕ
   pub parts : piece ≡ front ++ rest
   pub stands : Stands took output (fed ++ front) line_buffer start now
 
--- ---- One step of a reading, whatever was fed before it: what the taker took and the sink held, before and after it
+-- ---- One step of a reading
 
+-- In this module, the taker took `took` before the step and `took_now` after it. The line buffer is `before` and then
+-- `after`, and the sink's bytes are `held` and then `now`.
 module _ (took took_now : List (List ℕ) → Type 0) (output : List (List ℕ) → List ℕ) (before after : LineBuffer)
     (held now : Option (List ℕ)) where
-  -- The step feeds the bytes `piece`.
+  -- Whatever was fed before, the step feeds the bytes `piece`.
   abbrev pub Feeds : List ℕ → Type 0
   Feeds piece = (fed : List ℕ) (start : Option (List ℕ)) → Stands took output fed before start held
       → Stands took_now output (fed ++ piece) after start now
 
-  -- The step feeds a prefix of `piece`, and `rest` is what remains of `piece`.
+  -- Whatever was fed before, the step feeds a first part of `piece`, and `rest` is the part that it doesn't feed.
   abbrev pub FeedsFront : List ℕ → List ℕ → Type 0
   FeedsFront piece rest = (fed : List ℕ) (start : Option (List ℕ)) → Stands took output fed before start held
       → FedLines took_now output fed piece rest after start now
 
-  -- The step feeds `tail` and a line feed, which end the line that is held.
+  -- Whatever was fed before, the step feeds `tail`, which has no line feed, and a line feed. These bytes end the line
+  -- that the line buffer holds.
   abbrev pub EndsLine : List ℕ → Type 0
   EndsLine tail =
       (fed : List ℕ) (start : Option (List ℕ)) → Stands took output fed before start held → NoFeed tail
       → Stands took_now output (fed ++ (tail ++ 10 ∷ [])) after start now
 
   module _ (broke refuses : List (List ℕ) → List ℕ → Type 0) where
-    -- The reading stops with `outcome` in the bytes `piece`.
+    -- Whatever was fed before, the reading stops with `outcome` in the bytes `piece`.
     abbrev pub StopsIn : Outcome → List ℕ → Type 0
     StopsIn outcome piece =
         (fed : List ℕ) (start : Option (List ℕ)) → Stands took output fed before start held
         → Halted outcome took_now broke refuses output (fed ++ piece) after.output start now
 
-    -- The reading stops with `outcome` in the line that `tail` and a line feed end.
+    -- Whatever was fed before, the reading stops with `outcome` in the line that `tail`, which has no line feed, and a
+    -- line feed end.
     abbrev pub StopsInLine : Outcome → List ℕ → Type 0
     StopsInLine outcome tail =
         (fed : List ℕ) (start : Option (List ℕ)) → Stands took output fed before start held → NoFeed tail
         → Halted outcome took_now broke refuses output (fed ++ (tail ++ 10 ∷ [])) after.output start now
 
--- The number of bytes that were fed.
+-- The number of bytes that were fed: those of the completed lines, with their line feeds, and those of the line that is
+-- held.
 abbrev pub fed_count : LineBuffer → ℕ
 fed_count line_buffer = line_buffer.used + length line_buffer.held
 
--- Some bytes were taken from the source and fed, and no output waits.
+-- Of the bytes `all` that the source had, the first ones were taken and fed, and `left` are left. The line buffer
+-- stands for the fed bytes (`Stands`), and no output waits.
 pub record Running (took : List (List ℕ) → Type 0) (output : List (List ℕ) → List ℕ) (all left : Option (List ℕ))
     (line_buffer : LineBuffer)
     (start now : Option (List ℕ)) : Type 0 where
@@ -103,7 +120,8 @@ pub record Running (took : List (List ℕ) → Type 0) (output : List (List ℕ)
   pub stands : Stands took output fed line_buffer start now
   pub flushed : line_buffer.output ≡ []
 
--- The reading stopped with `outcome` after some bytes were taken from the source.
+-- Of the bytes `all` that the source had, the first ones were taken and fed, and `left` are left. The reading stopped
+-- with `outcome` in the fed bytes (`Halted`), and no output waits.
 pub record HaltedAfter (outcome : Outcome) (took : List (List ℕ) → Type 0) (broke refuses : List (List ℕ) → List ℕ
     → Type 0)
     (output : List (List ℕ) → List ℕ) (all left start now : Option (List ℕ)) : Type 0 where
@@ -111,45 +129,53 @@ pub record HaltedAfter (outcome : Outcome) (took : List (List ℕ) → Type 0) (
   pub consumed : Consumes all left fed
   pub halted : Halted outcome took broke refuses output fed [] start now
 
--- ---- A read and all that follows from it, from what was left of the source to what is left now
+-- ---- One round of a reading: a read and what follows from it
 
+-- In this module, the taker took `took` before the round and `took_now` after it. The bytes left in the source are
+-- `left` and then `left_now`, and the sink's bytes are `held` and then `now`.
 module _ (took took_now : List (List ℕ) → Type 0) (output : List (List ℕ)
     → List ℕ) (left left_now held now : Option (List ℕ)) where
+  -- A reading that was running with the line buffer `before` (`Running`) is now running with the line buffer `after`.
   abbrev pub RunsOn : LineBuffer → LineBuffer → Type 0
   RunsOn before after = (all start : Option (List ℕ)) → Running took output all left before start held
       → Running took_now output all left_now after start now
 
+  -- A reading that was running with the line buffer `before` (`Running`) has now stopped with `outcome`.
   abbrev pub StopsRunning : (List (List ℕ) → List ℕ → Type 0) → (List (List ℕ) → List ℕ → Type 0) → Outcome → LineBuffer
       → Type 0
   StopsRunning broke refuses outcome before =
       (all start : Option (List ℕ)) → Running took output all left before start held
       → HaltedAfter outcome took_now broke refuses output all left_now start now
 
--- How the reading stops if the output of a piece can't be written: with Write, or with Memory if memory ran out when
--- the piece was fed, because a line may have been taken in part.
+-- The outcome of the reading if the output for a piece can't be written, by the result of feeding this piece. It is
+-- Memory if memory ran out then, because a line may have been taken in part, and otherwise Write.
 abbrev pub lost_after : Result (Unit {0}) Outcome → Outcome
 lost_after (Err Memory) = Memory
 lost_after _ = Write
 
--- Why bytes that end no line can't be held, by the outcome with which the reading then stops.
+-- Why bytes that end no line can't be held, by the outcome. With TooLong, their line or the input is too long, and the
+-- lines before it are `texts`. With Memory, nothing more is known. There is no other outcome.
 abbrev pub HoldStops : Outcome → List ℕ → List (List ℕ) → Type 0
 HoldStops TooLong fed texts = IsTooLong fed texts
 HoldStops Memory fed texts = Unit {0}
 HoldStops _ fed texts = ⊥
 
--- A line may stop the reading with this outcome.
+-- The outcome is one with which a line may stop the reading: the taker stops at it, it or the input is too long, or
+-- memory runs out.
 abbrev pub IsOwnStop : Outcome → Type 0
 IsOwnStop (Stopped n) = Unit {0}
 IsOwnStop TooLong = Unit {0}
 IsOwnStop Memory = Unit {0}
 IsOwnStop _ = ⊥
 
--- A piece of the input may stop the reading with the outcome `o`.
+-- The outcome `o` is one with which the feeding of a piece may stop the reading: the sink fails, or a line stops it
+-- (`IsOwnStop`).
 abbrev pub IsFeedStop : Outcome → Type 0
 IsFeedStop Write = Unit {0}
 IsFeedStop o = IsOwnStop o
 
--- The reading may stop with the outcome `o` before the input's end.
+-- The outcome `o` is one with which the reading may stop before the input's end: the source fails, or the feeding of a
+-- piece stops it (`IsFeedStop`).
 abbrev pub IsStop : Outcome → Type 0
 IsStop Read = Unit {0}
 IsStop o = IsFeedStop o

@@ -1,7 +1,9 @@
--- What it means to take a line.
+-- Defines what it means that a taker takes a line, or that memory runs out while it does. Of a taker, `took lines` says
+-- that it took just these lines, and `output lines` is its whole output for them.
 use Rattle.std.specs.Prelude.{◌≡◌, ◌⊎◌, ℕ, List, [], ◌∷◌, ◌++◌}
 
--- The line `text` was taken after `lines`, and the output grew from `before` to `after` by what the line adds.
+-- The taker took the line `text` after `lines`. Its output for all of them is its output for `lines` with some bytes
+-- added. These bytes were also added to `before`, which became `after`.
 pub record Goes (took : List (List ℕ) → Type 0) (output : List (List ℕ) → List ℕ) (lines : List (List ℕ))
     (text before after : List ℕ) : Type 0 where
   pub taken : took (lines ++ text ∷ [])
@@ -9,11 +11,13 @@ pub record Goes (took : List (List ℕ) → Type 0) (output : List (List ℕ) �
   pub grows : output (lines ++ text ∷ []) ≡ output lines ++ added
   pub wrote : after ≡ before ++ added
 
--- The text `whole` begins with `front`.
+-- The bytes `whole` begin with `front`.
 abbrev pub GoesOn : List ℕ → List ℕ → Type 0
 GoesOn front whole = (back : List ℕ) × (whole ≡ front ++ back)
 
--- Memory ran out after `lines`: the line `text` was not taken, or it was taken, or memory ran out in the middle of it.
+-- Memory ran out when the taker was handed the line `text` after `lines`: it didn't take the line, or it took the line
+-- whole, or it took the line in part (`broke`). If it took the line whole, its output for `lines` and `text` together
+-- begins with its output for `lines`.
 abbrev pub Breaks : (List (List ℕ) → Type 0) → (List (List ℕ) → List ℕ → Type 0) → (List (List ℕ) → List ℕ)
     → List (List ℕ) → List ℕ → Type 0
 Breaks took broke output lines text =

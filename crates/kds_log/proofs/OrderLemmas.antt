@@ -1,4 +1,5 @@
--- Records in order: what an append and a trim do to them, and which of them has the least number.
+-- The records of a log stay in order if a record is appended and if records are trimmed, and the first of records in
+-- order has the least sequence number.
 use Rattle.std.proofs.Common.{ℕ, ◌<◌, ◌≤◌, Bool, true, false, List, [], ◌∷◌, ◌++◌, Option, Some, None, refl}
 use Rattle.std.proofs.Common.{arith}
 use Rattle.std.specs.Prelude.{cond, IfSome}
@@ -19,6 +20,7 @@ in_order_choice : (b : Bool) (r : Logged) (rs : List Logged) → AllByRecursion 
 in_order_choice true r rs h g = (h, g)
 in_order_choice false r rs h g = g
 
+-- Records in order stay in order if some of them are filtered out.
 pub in_order-filter : (p : Logged → Bool) (rs : List Logged) → AreInOrder rs → AreInOrder (filter p rs)
 in_order-filter p [] h = tt
 in_order-filter p (r ∷ rs) h =
@@ -26,7 +28,8 @@ in_order-filter p (r ∷ rs) h =
 
 -- ---- The log
 
--- A record that is appended comes after those before it.
+-- If the sequence number of the record `x` is above the last one of the log, and `x` arrived no earlier than the record
+-- `r` of the log, then `r` is before `x` (`IsBefore`).
 up_to_before : (last : Option ℕ) (r x : Logged) → IfSome last (λ n. n < x.seq) → IsUpTo last r → r.arrival ≤ x.arrival
     → IsBefore r x
 up_to_before None r x above up arrival = absurd up
@@ -36,6 +39,8 @@ up_to_more : (last : Option ℕ) (r x : Logged) → IfSome last (λ n. n < x.seq
 up_to_more None r x above up = absurd up
 up_to_more (Some n) r x above up = omega arith
 
+-- A log stays orderly (`IsOrderly`) if a record is appended whose sequence number is above the log's last one, and
+-- which arrived no earlier than the records of the log.
 pub orderly-append : (log : LogValue) (x : Logged) → IfSome log.last (λ n. n < x.seq)
     → AllByRecursion (λ r. r.arrival ≤ x.arrival) log.kept → IsOrderly log
     → IsOrderly (record { kept = log.kept ++ x ∷ []; last = Some x.seq })
@@ -49,6 +54,8 @@ orderly-append log x above arrival orderly =
           log.kept orderly.numbers) (omega arith, tt);
     }
 
+-- A log stays orderly (`IsOrderly`) if it loses the records that arrived below `floor` and those with a sequence number
+-- below `position`.
 pub orderly-left : (log : LogValue) (floor position : ℕ) → IsOrderly log
     → IsOrderly (record { kept = left_among floor position log.kept; last = log.last })
 orderly-left log floor position orderly = record {
@@ -66,7 +73,7 @@ all_numbers : (n : ℕ) (rs : List Logged) → AllByRecursion (λ r. n < r.seq) 
 all_numbers n [] h = tt
 all_numbers n (r ∷ rs) h = let first : n < r.seq = h.0 in (omega arith, all_numbers n rs h.1)
 
--- In order, the first number is the least.
+-- If records are in order, the sequence number of the first one is the least of their sequence numbers.
 pub first_is_least : (rs : List Logged) → AreInOrder rs → IsLeast (numbers_of rs) (first_number rs)
 first_is_least [] h = refl
 first_is_least (r ∷ rs) h = (
@@ -78,6 +85,8 @@ first_is_least (r ∷ rs) h = (
   ),
 )
 
+-- Of the records of an orderly log that are left and arrived at or after `moment`, the first one has the least sequence
+-- number.
 pub first_since : (moment floor position : ℕ) (log : LogValue) → IsOrderly log
     → IsLeast (numbers_of (since moment (left_among floor position log.kept)))
     (first_number (since moment (left_among floor position log.kept)))

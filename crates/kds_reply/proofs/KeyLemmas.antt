@@ -1,4 +1,4 @@
--- The keys of the lines of every journal are text, and so are those of the records that answers hold.
+-- The partition keys in the journal of each history are valid UTF-8, and so are those of the records in answers.
 use Rattle.std.proofs.Common.{subst, ℕ, zero, suc, ◌-◌, List, [], ◌∷◌, map, Bool, true, false, nat_le, ◌==◌, ◌&&◌}
 use Rattle.std.proofs.Common.{if◌then◌else◌}
 use Rattle.std.specs.List.{AllByRecursion}
@@ -32,14 +32,17 @@ all-if : {A : Type 0} (P : A → Type 0) (b : Bool) (xs ys : List A) → AllByRe
 all-if P true xs ys h k = h
 all-if P false xs ys h k = k
 
--- ---- Records
+-- ---- Partition keys in lines and records
 
+-- The partition key in the line `line` is valid UTF-8.
 abbrev HasTextKey : Line → Type 0
 HasTextKey line = IsUtf8 line.key
 
+-- The partition key of the record `r` is valid UTF-8.
 abbrev IsKeptText : Logged → Type 0
 IsKeptText r = IsUtf8 r.key
 
+-- The partition key in each line of the journal `log` is valid UTF-8.
 abbrev HasTextKeys : Journal → Type 0
 HasTextKeys log = AllByRecursion HasTextKey log
 
@@ -76,9 +79,9 @@ batch_text : (log : Journal) (c s sh position limit : ℕ) → HasTextKeys log
 batch_text log c s sh position limit h =
     printed_text _ (beginning_text limit BATCH_BYTES _ (left_text log c s sh position h))
 
--- ---- Commands
+-- ---- The lines and the answer of a command
 
--- A line that a lawful command adds has a text key.
+-- The partition key in each line that a lawful command adds is valid UTF-8.
 line_text : (log : Journal) (c by : ℕ) (what : Command) (line : Line) → IsAdded log c by what line
     → IsLawfulCommand what → HasTextKey line
 line_text log c by _ _ (Alone _ _ _ (Puts name item s named fits)) lawful = lawful.1.key.text
@@ -86,7 +89,8 @@ line_text log c by _ _ (Stored_one name items before s n item among) lawful =
     (of_all IsItem items item among lawful.1.each).key.text
 line_text log c by _ _ _ lawful = IsUtf8-nil
 
--- What a command is answered after lines with text keys is printed whole.
+-- If the partition keys in the journal are valid UTF-8, those in the answer to a command are printed unchanged
+-- (`ArePrintedWhole`).
 answer_text : (log : Journal) (c by : ℕ) (what : Command) (lines : List Line) (answer : Result Reply Refusal)
     → Outcome log c by what lines answer
     → HasTextKeys log → ArePrintedWhole answer
@@ -97,12 +101,13 @@ answer_text log c by _ _ _ (Adds _ _ _ (Reads t position limit T place ended beg
     batch_text log c T.key.stream T.key.shard (reach T) limit h
 answer_text log c by _ _ _ _ h = tt
 
--- ---- Histories
+-- ---- The answers of a history
 
 journal_text : (h : List Turn) → IsHistory h → HasTextKeys (journal h)
 journal_text h is = each_journal HasTextKey IsLawful (λ log c turn lawful line added.
     line_text log c turn.by turn.what line added lawful.1) h is
 
+-- The partition keys in the answer to a lawful turn after a history are printed unchanged (`ArePrintedWhole`).
 pub answers_text : (h : List Turn) (turn : Turn) → IsHistory (turn ∷ h) → ArePrintedWhole (answer h turn)
 answers_text h turn is =
     answer_text (journal h) (clock (turn ∷ h)) turn.by turn.what _ _

@@ -1,4 +1,4 @@
--- What is answered over the wire: a status and a body in compact JSON.
+-- Defines the HTTP status and the body of the response to a command or to a faulty request. A body is compact JSON.
 use Rattle.std.specs.Prelude.{ℕ, Result, Ok, Err, List, [], Option, Some, None}
 use Rattle.serde_json.specs.Data.{Data}
 use Rattle.serde_json.specs.Written.{compact_text}
@@ -14,8 +14,8 @@ use Rattle.kds_reply_texts.specs.Records.{records_data}
 use Rattle.kds_reply.specs.Shards.{shards_data}
 use Rattle.kds_reply.specs.Streams.{streams_data, described_data, summary_data, scaled_data}
 
--- What a reply of the stream service tells, if there is anything to tell. No other reply is told in JSON: the last line
--- stands for those, which the condition of `reply` excludes.
+-- The JSON body of a reply of the stream service, or None if the reply has no body. A reply of any other kind gets None
+-- here, and is never sent over HTTP.
 abbrev pub reply_data : Reply → Option Data
 reply_data Done = None
 reply_data (Streams names more) = Some (streams_data names more)
@@ -29,20 +29,20 @@ reply_data (Records batch next behind children) = Some (records_data batch next 
 reply_data (Shards shards next) = Some (shards_data shards next)
 reply_data _ = None
 
--- The text of a body in compact JSON, which is empty if there is nothing to tell.
+-- The bytes of a body: its compact JSON text, or no bytes if there is no body.
 abbrev pub body_text : Option Data → List ℕ
 body_text None = []
 body_text (Some d) = compact_text d
 
--- The body of the reply `r`.
+-- The bytes of the body of the reply `r`.
 abbrev pub reply_text : Reply → List ℕ
 reply_text r = body_text (reply_data r)
 
--- The status and the body of an answer.
+-- The HTTP status and the body for an answer: 200 with the reply's body, or 400 with the refusal's body.
 abbrev pub reply_of : Result Reply Refusal → ℕ × List ℕ
 reply_of (Ok r) = (200, reply_text r)
 reply_of (Err r) = (400, refusal_text r)
 
--- The status and the body of the fault `f`.
+-- The HTTP status, which is 400, and the body for the fault `f`.
 abbrev pub fault_reply : Fault → ℕ × List ℕ
 fault_reply f = (400, fault_text f)

@@ -1,4 +1,4 @@
--- Shards as replies show them, and listings of shards.
+-- Defines the JSON objects for shards, and for the reply to ListShards.
 use Rattle.std.specs.Prelude.{ℕ, List, codes, Option, option_map}
 use Rattle.serde_json.specs.Data.{Data, object, no_members, member}
 use Rattle.kds_defs.specs.declared.reply.Page.{Page}
@@ -7,15 +7,16 @@ use Rattle.kds_reply_texts.specs.Bodies.{number_data, id_data, list_data}
 use Rattle.kds_reply.specs.Bodies.{member_if, page_string}
 use Rattle.kds_reply_texts.specs.Children.{range_data}
 
--- The sequence numbers of a shard, with the ending one if the shard is closed (Kinesis API Reference,
--- SequenceNumberRange).
+-- The object for the sequence numbers of a shard: its starting one, and its ending one if the shard is closed (Kinesis
+-- API Reference, SequenceNumberRange).
 unfoldable pub sequence_data : ℕ → Option ℕ → Data
 sequence_data start end =
     object
     (member_if (codes "EndingSequenceNumber") (option_map number_data end)
     (member (codes "StartingSequenceNumber") (number_data start) no_members))
 
--- The shard `s`, whose parents are named even when they have expired (Kinesis API Reference, Shard).
+-- The object for the shard `s`. It has the IDs of the shard's parents even if these have expired (Kinesis API
+-- Reference, Shard).
 unfoldable pub shard_data : Shard → Data
 shard_data s =
     object
@@ -25,7 +26,7 @@ shard_data s =
     (member (codes "SequenceNumberRange") (sequence_data s.start s.end)
     (member (codes "ShardId") (id_data s.no) no_members)))))
 
--- A listing of the shards `shards`, with the token that goes on if more shards follow (Kinesis API Reference,
+-- The reply to ListShards: the shards `shards`, and a NextToken if more shards follow (Kinesis API Reference,
 -- ListShards, Response Elements).
 unfoldable pub shards_data : List Shard → Option Page → Data
 shards_data shards next =

@@ -1,4 +1,4 @@
--- Streams as replies show them, and the list of their names.
+-- Defines the JSON objects for streams, and for the reply to ListStreams.
 use Rattle.std.specs.Prelude.{ℕ, List, ◌++◌, codes, Bool}
 use Rattle.serde_json.specs.Data.{unsigned, Data, boolean, number, string, array, object, no_items, item, Members}
 use Rattle.serde_json.specs.Data.{no_members, member}
@@ -7,26 +7,29 @@ use Rattle.kds_defs.specs.declared.reply.Shard.{Shard}
 use Rattle.kds_reply_texts.specs.Bodies.{list_data, seconds_data}
 use Rattle.kds_reply.specs.Shards.{shard_data}
 
--- The names `names`, and whether more of them follow (Kinesis API Reference, ListStreams, Response Elements).
+-- The reply to ListStreams: the names `names`, and whether more names follow (Kinesis API Reference, ListStreams,
+-- Response Elements).
 unfoldable pub streams_data : List (List ℕ) → Bool → Data
 streams_data names more =
     object
     (member (codes "HasMoreStreams") (boolean more)
     (member (codes "StreamNames") (list_data string names) no_members))
 
--- The metrics of shards, of which none are kept (Kinesis API Reference, EnhancedMetrics).
+-- The value of EnhancedMonitoring in a reply: one object with an empty list of metrics, because no metrics of shards
+-- are kept (Kinesis API Reference, EnhancedMetrics).
 abbrev pub monitoring_data : Data
 monitoring_data = array (item (object (member (codes "ShardLevelMetrics") (array no_items) no_members)) no_items)
 
--- The name by which other services know the stream `name` (Kinesis API Reference, StreamDescription, StreamARN).
+-- The ARN of the stream with the name `name`, as a JSON string (Kinesis API Reference, StreamDescription, StreamARN).
 abbrev pub arn_data : List ℕ → Data
 arn_data name = string (codes "arn:aws:kinesis:local:000000000000:stream/" ++ name)
 
--- The status of a live stream (Kinesis API Reference, StreamDescription, StreamStatus).
+-- The status of a live stream, which is always ACTIVE, as a JSON string (Kinesis API Reference, StreamDescription,
+-- StreamStatus).
 abbrev pub status_data : Data
 status_data = string (codes "ACTIVE")
 
--- What both descriptions of a stream tell.
+-- The members that the replies to DescribeStream and to DescribeStreamSummary both have.
 abbrev pub about_members : About → Members
 about_members about =
     member (codes "EnhancedMonitoring") monitoring_data
@@ -36,7 +39,8 @@ about_members about =
     (member (codes "StreamName") (string about.name)
     (member (codes "StreamStatus") status_data no_members)))))
 
--- A stream with its shards, and whether more shards follow (Kinesis API Reference, StreamDescription).
+-- The object for a stream with its shards. `more` says whether more shards follow (Kinesis API Reference,
+-- StreamDescription).
 unfoldable pub description_data : About → List Shard → Bool → Data
 description_data about shards more =
     object
@@ -49,7 +53,7 @@ description_data about shards more =
     (member (codes "StreamName") (string about.name)
     (member (codes "StreamStatus") status_data no_members))))))))
 
--- A stream, and how many of its shards are open (Kinesis API Reference, StreamDescriptionSummary).
+-- The object for a stream with the number of its open shards (Kinesis API Reference, StreamDescriptionSummary).
 unfoldable pub description_summary_data : About → ℕ → Data
 description_summary_data about open_shards =
     object
@@ -61,18 +65,20 @@ description_summary_data about open_shards =
     (member (codes "StreamName") (string about.name)
     (member (codes "StreamStatus") status_data no_members)))))))
 
--- The reply to DescribeStream (Kinesis API Reference, DescribeStream, Response Elements).
+-- The reply to DescribeStream: an object with the description of the stream and its shards (Kinesis API Reference,
+-- DescribeStream, Response Elements).
 unfoldable pub described_data : About → List Shard → Bool → Data
 described_data about shards more =
     object (member (codes "StreamDescription") (description_data about shards more) no_members)
 
--- The reply to DescribeStreamSummary (Kinesis API Reference, DescribeStreamSummary, Response Elements).
+-- The reply to DescribeStreamSummary: an object with the summary of the stream (Kinesis API Reference,
+-- DescribeStreamSummary, Response Elements).
 unfoldable pub summary_data : About → ℕ → Data
 summary_data about open_shards =
     object (member (codes "StreamDescriptionSummary") (description_summary_data about open_shards) no_members)
 
--- How many shards a stream had, and how many it is to have (Kinesis API Reference, UpdateShardCount, Response
--- Elements).
+-- The reply to UpdateShardCount: the stream's name, how many open shards it had before, and how many it is to have
+-- (Kinesis API Reference, UpdateShardCount, Response Elements).
 unfoldable pub scaled_data : List ℕ → ℕ → ℕ → Data
 scaled_data name before target =
     object

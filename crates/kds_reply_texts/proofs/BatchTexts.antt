@@ -1,4 +1,4 @@
--- The texts of batches of records, in pieces.
+-- The pieces that the code appends for a reply to GetRecords make the text of this reply.
 use Rattle.std.proofs.Common.{◌≡◌, ℕ, List, ◌++◌, Some, None, decimal, codes, append_assoc, ◌∙◌}
 use Rattle.json.specs.Print.{escape, escape_byte}
 use Rattle.serde_json.specs.Data.{Data, unsigned, null, number, object, string, no_members, member}
@@ -15,7 +15,8 @@ in_pieces : (a b c d e f g : List ℕ)
     → (((((a ++ b) ++ c) ++ d) ++ e) ++ f) ++ g ≡ a ++ (b ++ (c ++ (d ++ (e ++ (f ++ g)))))
 in_pieces a b c d e f g = simp append_assoc
 
--- The text of an object of these names, whatever their values.
+-- The pieces of a reply to GetRecords with a next iterator make the text of its object, whatever the values of its
+-- members are.
 opened : (behind : ℕ) (token : List ℕ) (records : Data)
     → codes "{\"MillisBehindLatest\":" ++ (decimal behind ++ (codes ",\"NextShardIterator\":\"" ++ (escape token
     ++ (codes "\",\"Records\":" ++ (compact_text records ++ codes "}")))))
@@ -24,6 +25,8 @@ opened : (behind : ℕ) (token : List ℕ) (records : Data)
 unfolding escape_byte
 opened behind token records = simp append_assoc
 
+-- Let `token` be the escaped token of the next iterator. The pieces that the code appends for a reply to GetRecords
+-- with this iterator make the text of the reply.
 pub open_pieces : (batch : List Stored) (next : Iter) (behind : ℕ) (children : List Shard) (token : List ℕ)
     → token ≡ escape (iter_token next)
     → (((((codes "{\"MillisBehindLatest\":" ++ decimal behind) ++ codes ",\"NextShardIterator\":\"") ++ token)
@@ -38,7 +41,8 @@ open_pieces batch next behind children token is =
     (codes "\",\"Records\":") (compact_text records) (codes "}")
     ∙ opened behind (iter_token next) records)
 
--- The text of such an object at the end of a closed shard.
+-- The pieces of a reply to GetRecords at the end of a closed shard make the text of its object, whatever the values of
+-- its members are.
 ended : (family : Data) (behind : ℕ) (records : Data)
     → codes "{\"ChildShards\":" ++ (compact_text family ++ (codes ",\"MillisBehindLatest\":" ++ (decimal behind
     ++ (codes ",\"NextShardIterator\":null,\"Records\":" ++ (compact_text records ++ codes "}")))))
@@ -48,6 +52,8 @@ ended : (family : Data) (behind : ℕ) (records : Data)
 unfolding escape_byte
 ended family behind records = simp append_assoc
 
+-- Let `family` be the text of the array of the shard's children. The pieces that the code appends for a reply to
+-- GetRecords at the end of a closed shard make the text of the reply.
 pub end_pieces : (batch : List Stored) (behind : ℕ) (children : List Shard) (family : List ℕ)
     → family ≡ compact_text (list_data child_data children)
     → (((((codes "{\"ChildShards\":" ++ family) ++ codes ",\"MillisBehindLatest\":") ++ decimal behind)

@@ -1,4 +1,4 @@
--- Texts that have no byte to escape.
+-- Base64 text, decimal numbers, and texts that the code has tested need no escaping in a JSON string.
 use Rattle.std.proofs.Common.{◌≡◌, ℕ, zero, suc, ◌+◌, ◌*◌, ◌/◌, ◌%◌, ◌^◌, ◌<◌, ◌≤◌, Bool, true, false, ◌==◌, ◌||◌}
 use Rattle.std.proofs.Common.{nat_lt, List, [], ◌∷◌, ◌++◌, length, refl, ap, ◌∙◌, decimal, arith, slice_index, get_or}
 use Rattle.std.proofs.Common.{replicate, IsUtf8, inl, inr}
@@ -20,6 +20,7 @@ use Rattle.json.specs.Written.{PlainBetween}
 use Rattle.json.proofs.Printed.Plain.{escape_on_plain}
 use Rattle.json.proofs.Printed.Strings.{escape_byte_plain}
 
+-- No byte of the text needs escaping.
 abbrev IsPlain : List ℕ → Type 0
 IsPlain [] = ⊤
 IsPlain (x ∷ xs) = (is_plain x ≡ true) × IsPlain xs
@@ -42,7 +43,7 @@ escape_plain : (s : List ℕ) → IsPlain s → escape s ≡ s
 escape_plain [] h = refl
 escape_plain (x ∷ xs) h = λ i. plain_byte x h.0 i ++ escape_plain xs h.1 i
 
--- ---- Base64
+-- ---- Base64 text
 
 symbol : (k : ℕ) → k < 64 → is_plain (slice_index standard.encode_table k) ≡ true
 symbol k small = AllPass-from_list_all is_plain standard.encode_table refl k 0 small
@@ -69,7 +70,7 @@ symbols (a ∷ b ∷ c ∷ rest) bytes =
       ),
     )
 
--- The alphabet of base64 and its padding have no byte to escape.
+-- The base64 text of bytes needs no escaping. Each element of `m` must be below 256.
 pub escape-encoded : (m : List ℕ) → ((k : ℕ) → get_or m k 0 < 256)
     → escape (encode_of standard m) ≡ encode_of standard m
 escape-encoded m bytes =
@@ -77,7 +78,7 @@ escape-encoded m bytes =
     (plain-append (encode_symbols standard.encode_table m) _ (symbols m bytes)
     (plain-replicate (padding_len (length m)) 61 refl))
 
--- ---- Digits
+-- ---- Decimal numbers
 
 digit : (x : ℕ) → 48 ≤ x → x ≤ 57 → is_plain x ≡ true
 digit x low high = rw (ne_eqb x 34 (λ e. omega arith), ne_eqb x 92 (λ e. omega arith), le-ltb x 32 (omega arith)) refl
@@ -88,12 +89,13 @@ digits_plain (x ∷ xs) h =
     let first = h 0 (omega arith) in
     (digit x first.0 first.1, digits_plain xs (λ i small. h (suc i) (omega arith)))
 
+-- A number below 2^64 in decimal needs no escaping.
 pub escape-decimal : (n : ℕ) → n < 2 ^ 64 → escape (decimal n) ≡ decimal n
 escape-decimal n small =
     escape_plain (decimal n)
     (digits_plain (decimal n) (λ i inside. digit_at (decimal n) i (decimal_is_IsNumeral n small).0.1 inside))
 
--- ---- Texts that stand between quotes as they are, where n bytes were looked at, which are all
+-- ---- Texts that the code copies into a JSON string unchanged
 
 below_128 : (d : List ℕ) (n : ℕ) → length d ≤ n → ((k : ℕ) → k < n → get_or d k 0 < 128) → IsAscii d
 below_128 d n all low i =
@@ -111,6 +113,8 @@ escape_seen false d n is all seen = absurd (cc)
 stands : (d : List ℕ) → IsUtf8 d → escape d ≡ d → escape (utf8_lossy d) ≡ d
 stands d text plain = ap escape (utf8_lossy-IsUtf8 d text) ∙ plain
 
+-- Let the code have looked at `n` bytes, which are all bytes of the text `d`. If it found that none of them needs
+-- escaping (`plain`) and all are below 128 (`ascii`), the text stands in a JSON string unchanged.
 pub plain_ascii : (plain ascii : Bool) (d : List ℕ) (n : ℕ) → plain ≡ true → length d ≤ n
     → OnTrue plain (PlainBetween d 0 n)
     → OnTrue ascii ((k : ℕ) → k < n → get_or d k 0 < 128) → OnTrue ascii (escape (utf8_lossy d) ≡ d)
@@ -118,6 +122,8 @@ plain_ascii plain true d n is all seen low =
     stands d (IsUtf8-from_ascii d (below_128 d n all low)) (escape_seen plain d n is all seen)
 plain_ascii plain false d n is all seen low = tt
 
+-- Let the code have looked at `n` bytes, which are all bytes of the text `d`. If it found that none of them needs
+-- escaping (`plain`) and that the text is valid UTF-8 (`text`), the text stands in a JSON string unchanged.
 pub plain_text : (plain text : Bool) (d : List ℕ) (n : ℕ) → plain ≡ true → length d ≤ n
     → OnTrue plain (PlainBetween d 0 n)
     → OnTrue text (IsUtf8 d) → OnTrue text (escape (utf8_lossy d) ≡ d)

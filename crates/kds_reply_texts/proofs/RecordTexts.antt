@@ -1,4 +1,5 @@
--- The text of records in pieces.
+-- The pieces that the code appends for a record make the record's text, and those of all records with commas make the
+-- array's text.
 use Rattle.std.proofs.Common.{◌≡◌, ℕ, ◌+◌, ◌-◌, ◌/◌, ◌^◌, ◌<◌, ◌≤◌, Bool, true, List, [], ◌∷◌, ◌++◌, Some, None, Option}
 use Rattle.std.proofs.Common.{length, take, drop, map, get_or, refl, sym, ap, ◌∙◌, decimal, codes, arith, append_assoc}
 use Rattle.std.proofs.Common.{inl, inr}
@@ -17,7 +18,7 @@ use Rattle.serde_json.specs.View.{items_of}
 use Rattle.kds_defs.specs.declared.reply.Stored.{Stored}
 use Rattle.kds_reply_texts.specs.Records.{record_data}
 
--- The text of a record, whose digits and base64 stand between quotes as they are.
+-- The pieces of a record make its text. Its numbers and its base64 text need no escaping.
 pub record_text : (r : Stored)
     → codes "{\"ApproximateArrivalTimestamp\":"
     ++ (decimal (r.arrival / 1000) ++ (codes ",\"Data\":\"" ++ (escape (encode_of standard r.payload)
@@ -28,7 +29,8 @@ pub record_text : (r : Stored)
 unfolding record_data escape_byte
 record_text r = simp append_assoc
 
--- The length of base64, if it fits.
+-- Let `r` be the size of the base64 text of `n` bytes, or None if it doesn't fit into 64 bits. If `r` has a size, it is
+-- the length of this text.
 pub size_is : (n size : ℕ) (r : Option ℕ) → (encoded_size n true < 2 ^ 64 → r ≡ Some (encoded_size n true))
     → (2 ^ 64 ≤ encoded_size n true → r ≡ None) → r ≡ Some size → size ≡ encoded_size n true
 size_is n size r fits long is = elim (cases_lt (encoded_size n true) (2 ^ 64)) [
@@ -36,7 +38,8 @@ size_is n size r fits long is = elim (cases_lt (encoded_size n true) (2 ^ 64)) [
   | inr over ↦ let e = long over in absurd (cc)
 ]
 
--- What was written over the room that was made at the end of `old`.
+-- Let the first `at` bytes of a vector be `old`, and let `size` bytes of room follow. If a text of this length is
+-- written into the room, the bytes are `old` followed by the text.
 pub written_over : (s new rest old text part : List ℕ) (at size wide k : ℕ) → take at s ≡ old → at ≡ length old
     → length s ≡ at + size → k ≡ length s → size ≡ wide
     → length new ≡ length part → length new + at ≡ length s → new ≡ text ++ drop wide part
@@ -53,17 +56,18 @@ written_over s new rest old text part at size wide k front is long all fits same
     ap length bytes ∙ length-append old text ∙ omega (arith, ap length over_all) in
     take_at _ _ k len ∙ bytes
 
--- What a writer has of one string.
+-- If a writer without bytes and tokens adds one string, what it prints is this string in quotes.
 pub string_text : (before : List ℕ) (ts : List Token) (text : List ℕ) → before ≡ [] → ts ≡ string text ∷ []
     → before ++ print ts ≡ quoted text
 unfolding print_from
 string_text before ts text nothing is = rw (nothing, is) (append-nil (quoted text))
 
+-- Nine pieces that are appended one after another are the nine pieces in order.
 pub in_pieces : (a b c d e f g h i : List ℕ) → (((((((a ++ b) ++ c) ++ d) ++ e) ++ f) ++ g) ++ h) ++ i ≡ a
     ++ (b ++ (c ++ (d ++ (e ++ (f ++ (g ++ (h ++ i)))))))
 in_pieces a b c d e f g h i = simp append_assoc
 
--- The text of a record, as its pieces were added.
+-- The pieces that the code appends for the record `r` make the text of this record.
 pub record_pieces : (r : Stored) (n : ℕ) (payload name : List ℕ) → n ≡ r.arrival / 1000 → payload ≡ r.payload
     → name ≡ r.key
     → (((((((codes "{\"ApproximateArrivalTimestamp\":" ++ decimal n) ++ codes ",\"Data\":\"")
@@ -77,8 +81,10 @@ record_pieces r n payload name is_n is_payload is_name =
     (escape (decimal r.seq)) (codes "\"}")
     ∙ record_text r)
 
--- ---- Items one after another, as records and outcomes are
+-- ---- The elements of an array, one after another
 
+-- If the element at the index `i` is appended, with a comma before it if it isn't the first (`later`), the text so far
+-- and that of the elements still to come are together `all`, as before.
 pub next_item : {A : Type 0} (f : A → Data) (xs : List A) (i : ℕ) (x : A) (later : Bool) (out parted more all : List ℕ)
     → i < length xs → x ≡ get_or xs i x
     → parted ≡ out ++ comma_if later → more ≡ parted ++ compact_text (f x)
@@ -93,7 +99,7 @@ next_item f xs i x later out parted more all inside is comma text whole =
     ∙ append_assoc out (comma_if later) (compact_text (f x) ++ rest) in
     joined ∙ ap (λ ys. out ++ items_text later (items_of (map f ys))) (sym here) ∙ whole
 
--- The end of an array, if no item is left.
+-- If no element is still to come, the closing bracket completes the array's text.
 pub last_item : {A : Type 0} (f : A → Data) (xs : List A) (i : ℕ) (later : Bool) (out all : List ℕ)
     → length xs ≤ i → out ++ items_text later (items_of (map f (drop i xs))) ≡ all → out ++ 93 ∷ [] ≡ all
 last_item f xs i later out all past whole =

@@ -1,4 +1,5 @@
--- Texts that are written over room.
+-- If a text is written over bytes of a vector, the vector has this text there. What is written in this way for a record
+-- is the record's JSON text.
 use Rattle.std.proofs.Common.{◌≡◌, ℕ, ◌+◌, ◌/◌, ◌≤◌, true, List, ◌++◌, length, take, drop, replicate, subst, ap, ◌∙◌}
 use Rattle.std.proofs.Common.{decimal, codes, arith, append_assoc}
 use Rattle.std.proofs.lemmas.List.{length-append, length-replicate, length-take-le, take_at}
@@ -16,7 +17,7 @@ use Rattle.kds_reply_texts.specs.Records.{record_data}
 use Rattle.kds_reply_texts.specs.Room.{front_text, written_record}
 use Rattle.kds_reply_texts.proofs.RecordTexts.{record_text}
 
--- The length of base64.
+-- The length of the base64 text of `m` is `encoded_size`.
 pub length-encoded : (m : List ℕ) → length (encode_of standard m) ≡ encoded_size (length m) true
 length-encoded m =
     let symbols = encode_symbols standard.encode_table m in
@@ -24,7 +25,8 @@ length-encoded m =
     let size : length padding ≡ padding_len (length m) = length-replicate {A = ℕ} (padding_len (length m)) 61 in
     omega (arith, length-append symbols padding, length-encode_symbols standard.encode_table m)
 
--- A text that was written at a place stands there, with what stands behind it in the part that was lent.
+-- Let `text` be written into the vector `xs` from the index `a` on. The bytes up to the end of `text` are those before
+-- `a`, followed by `text`.
 pub over_part : (a k n : ℕ) (xs ys text rest : List ℕ) → ys ≡ text ++ rest → a ≤ length xs → n ≡ a + length text
     → take n (put_mid a k xs ys) ≡ take a xs ++ text
 over_part a k n xs ys text rest is inside end =
@@ -36,7 +38,8 @@ over_part a k n xs ys text rest is inside end =
 front_first : (a b c rest : List ℕ) → (a ++ (b ++ c)) ++ rest ≡ a ++ (b ++ (c ++ rest))
 front_first a b c rest = simp append_assoc
 
--- What was written is the text of a record.
+-- If `front`, `payload` and `name` are the text before the payload, the payload and the escaped key of the record `r`,
+-- what is written from them is the text of `r`.
 pub record_over : (r : Stored) (front payload name : List ℕ)
     → front ≡ front_text (r.arrival / 1000) → payload ≡ r.payload → name ≡ escape (utf8_lossy r.key)
     → written_record front payload name r.seq ≡ compact_text (record_data r)
@@ -49,7 +52,7 @@ record_over r front payload name is_front is_payload is_name =
 seven : (a b c d e f g : List ℕ) → (((((a ++ b) ++ c) ++ d) ++ e) ++ f) ++ g ≡ a ++ (b ++ (c ++ (d ++ (e ++ (f ++ g)))))
 seven a b c d e f g = simp append_assoc
 
--- The text of a record, as its pieces were written.
+-- The pieces that the code writes for a record, one after another, are `written_record`.
 pub record_in_pieces : (front payload name : List ℕ) (seq : ℕ)
     → (((((front ++ escape (encode_of standard payload)) ++ codes "\",\"PartitionKey\":\"") ++ name)
     ++ codes "\",\"SequenceNumber\":\"") ++ escape (decimal seq)) ++ codes "\"}"
@@ -59,12 +62,13 @@ record_in_pieces front payload name seq =
     seven front (escape (encode_of standard payload)) (codes "\",\"PartitionKey\":\"") name
     (codes "\",\"SequenceNumber\":\"") (escape (decimal seq)) (codes "\"}")
 
--- What the standard's engine wrote.
+-- If the base64 engine `e` is the standard one, what it wrote over the bytes `old` is what the standard one writes.
 pub encoded_by : (e : GeneralPurpose) (m old new : List ℕ) → e ≡ standard → IsEncodedOver e m old new
     → IsEncodedOver standard m old new
 encoded_by e m old new is written = subst (λ (g : GeneralPurpose). IsEncodedOver g m old new) is written
 
--- The front of a vector whose items were written over.
+-- If the `k` elements `new` are written over the first elements of a vector, its first `e` of these `k` elements are
+-- the first `e` of `new`.
 pub over_vec : (e k : ℕ) (new items : List ℕ) → length new ≡ k → take e (take k (new ++ drop (length new) items))
     ≡ take e new
 over_vec e k new items size = ap (λ (s : List ℕ). take e s) (take_at new _ k size)

@@ -1,4 +1,4 @@
--- The children of a shard, as replies show them.
+-- Defines the JSON objects for the child shards that GetRecords returns at the end of a closed shard.
 use Rattle.std.specs.Prelude.{ℕ, List, ◌++◌, codes}
 use Rattle.std.specs.Option.{option_to_list}
 use Rattle.serde_json.specs.Data.{Data, object, no_members, member}
@@ -6,18 +6,20 @@ use Rattle.kds_base.specs.Span.{Span}
 use Rattle.kds_defs.specs.declared.reply.Shard.{Shard}
 use Rattle.kds_reply_texts.specs.Bodies.{number_data, id_data, list_data}
 
--- The range of hash keys `r` (Kinesis API Reference, HashKeyRange).
+-- The object for the range of hash keys `r`, with its two ends as decimal strings (Kinesis API Reference,
+-- HashKeyRange).
 unfoldable pub range_data : Span → Data
 range_data r =
     object
     (member (codes "EndingHashKey") (number_data r.end)
     (member (codes "StartingHashKey") (number_data r.start) no_members))
 
--- The parent of the shard `s`, and then its adjacent parent, as far as it has them.
+-- The number of the parent of the shard `s`, followed by that of its adjacent parent. If the shard doesn't have one of
+-- them, this parent is left out.
 abbrev pub parents_of : Shard → List ℕ
 parents_of s = option_to_list s.parent ++ option_to_list s.adjacent
 
--- The child `s` of a shard (Kinesis API Reference, ChildShard).
+-- The object for the child shard `s`: its range, its parents' IDs and its own ID (Kinesis API Reference, ChildShard).
 unfoldable pub child_data : Shard → Data
 child_data s =
     object

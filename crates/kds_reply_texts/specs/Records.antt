@@ -1,4 +1,4 @@
--- Records as replies to a read show them.
+-- Defines the JSON values for the records that GetRecords returns, and for the whole reply.
 use Rattle.std.specs.Prelude.{ℕ, List, codes, Option, Some, None}
 use Rattle.std.specs.Str.Lossy.{utf8_lossy}
 use Rattle.base64.specs.Engines.{standard}
@@ -10,15 +10,17 @@ use Rattle.kds_defs.specs.declared.reply.Stored.{Stored}
 use Rattle.kds_reply_texts.specs.Bodies.{number_data, list_data, seconds_data, iterator_string}
 use Rattle.kds_reply_texts.specs.Children.{child_data}
 
--- The bytes `bytes` in standard base64 with padding (RFC 4648, section 4).
+-- The bytes `bytes` as a JSON string, in standard base64 with padding (RFC 4648, section 4).
 abbrev pub blob_data : List ℕ → Data
 blob_data bytes = string (encode_of standard bytes)
 
--- The partition key `key` as text. The keys of the records of every history are UTF-8, so no byte is replaced.
+-- The partition key `key` as a JSON string. Invalid UTF-8 would be replaced, but the keys of the records of every
+-- history are valid UTF-8.
 abbrev pub key_data : List ℕ → Data
 key_data key = string (utf8_lossy key)
 
--- The record `r` (Kinesis API Reference, Record).
+-- The object for the record `r`: its arrival time, its payload, its partition key and its sequence number (Kinesis API
+-- Reference, Record).
 unfoldable pub record_data : Stored → Data
 record_data r =
     object
@@ -27,8 +29,9 @@ record_data r =
     (member (codes "PartitionKey") (key_data r.key)
     (member (codes "SequenceNumber") (number_data r.seq) no_members))))
 
--- The records `batch`, how far they are behind, and where reading goes on. At the end of a closed shard there is no
--- iterator, and its children are named (Kinesis API Reference, GetRecords, Response Elements).
+-- The reply to GetRecords: the records `batch`, by how many milliseconds the reader is behind, and the next shard
+-- iterator. At the end of a closed shard there is no next iterator. It is null then, and the shard's children are
+-- included (Kinesis API Reference, GetRecords, Response Elements).
 unfoldable pub records_data : List Stored → Option Iter → ℕ → List Shard → Data
 records_data batch (Some next) behind children =
     object

@@ -1,22 +1,23 @@
--- The text of records that are written over zero bytes that were appended before, where the key stands in the text as
--- it is.
+-- Defines the JSON text of a record that is written over zero bytes, which were appended before. This is done if the
+-- record's key needs no escaping.
 use Rattle.std.specs.Prelude.{ℕ, List, ◌+◌, ◌++◌, true, codes, decimal, length}
 use Rattle.base64.specs.Engines.{standard}
 use Rattle.base64.specs.GeneralPurpose.{encode_of}
 use Rattle.base64.specs.Rfc4648.{encoded_size}
 use Rattle.json.specs.Print.{escape}
 
--- The text before the data of a record that arrived in the second `second`.
+-- The JSON text of a record before its payload. The record arrived in the second with the number `second`.
 unfoldable pub front_text : ℕ → List ℕ
 front_text second = codes "{\"ApproximateArrivalTimestamp\":" ++ (decimal second ++ codes ",\"Data\":\"")
 
--- The text of a record that begins with `front`, with its data, its key and its sequence number.
+-- The JSON text of a record: `front`, the text before the payload, then the payload in base64, the key `name`, which is
+-- written as it is, and the sequence number.
 unfoldable pub written_record : List ℕ → List ℕ → List ℕ → ℕ → List ℕ
 written_record front payload name seq =
     front ++ (escape (encode_of standard payload)
     ++ (codes "\",\"PartitionKey\":\""
     ++ (name ++ (codes "\",\"SequenceNumber\":\"" ++ (escape (decimal seq) ++ codes "\"}")))))
 
--- The number of bytes that a record takes at most, with a comma before it.
+-- An upper bound on the bytes of a record's JSON text with a comma before it, if its key `name` needs no escaping.
 abbrev pub record_room : List ℕ → List ℕ → ℕ
 record_room payload name = encoded_size (length payload) true + (length name + 128)

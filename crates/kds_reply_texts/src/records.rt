@@ -133,8 +133,8 @@ fn put_record(out: &mut Vec<u8>, alloc: Global, stored: &Stored) -> Result<(), M
     Ok(())
 }
 
-/// Truncates the vector at the index `at`, appends a comma if `later` is true, appends a record as `put_record` does,
-/// and returns the index after the record.
+/// Truncates the vector at the index `at`, appends a comma if `later` is true, appends a record as `append_record`
+/// does, and returns the index after the record.
 #[inline(never)]
 fn add_escaped_record(
     out: &mut Vec<u8>,

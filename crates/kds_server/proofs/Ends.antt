@@ -1,4 +1,5 @@
--- What was read and written when a connection ends.
+-- For each status with which a connection ends, the status is right for the connection's bytes and for what was written
+-- (`Tells`).
 use Rattle.std.proofs.Common.{◌≡◌, ◌≢◌, ℕ, List, [], ◌∷◌, ◌++◌, sym, ap, ◌∙◌, subst, refl, inl, inr, Option, Some, None}
 use Rattle.std.proofs.Common.{Result}
 use Rattle.std.specs.Option.{IfSome}
@@ -22,9 +23,10 @@ use Rattle.kds_server.specs.Texts.{Written, WrittenPart, Tells, IsAnswerStatus, 
 use Rattle.kds_server.specs.Serving.{AsksAtMostOnce}
 use Rattle.kds_server.specs.Steps.{Reads, IsReadStop}
 
--- ---- Reading
+-- ---- The output is written
 
--- What the session had to send was written.
+-- Let `Reads` hold for the session `s`. After its output was written, `Reads` holds for the session `new`, which has
+-- sent this output.
 pub flushed : (all left : Option (List ℕ)) (s new : SessionState) (start held now : Option (List ℕ))
     (given : List Command) (told : Answers) → Reads all left s start held given told
     → Passes s new (sent_more s.output) → Appends held now s.output
@@ -37,7 +39,7 @@ flushed all left s new start held now given told r stands o = record {
   written = Appends-trans start held now r.sent s.output r.written o;
 }
 
--- ---- The whole text, where the session is quiet and has nothing to send
+-- ---- All responses, if the session is quiet and its output is empty
 
 written_by : WholeText
     → (s : SessionState) (fed : List ℕ) (given : List Command) (told : Answers) (sent : List ℕ)
@@ -59,7 +61,8 @@ tells_at bytes left given told start now closed w = inr w
 tells_at bytes left given told start now inside w = w
 tells_at bytes left given told start now (refused status) w = (status, w)
 
--- The input has ended.
+-- If the input has ended, the session is quiet and its output is empty, all responses were written, and `Tells` holds
+-- with the status that the session's ending gives.
 tells_end : WholeText
     → (all left : Option (List ℕ)) (s : SessionState) (given : List Command) (told : Answers)
     (start now : Option (List ℕ)) → Reads all left s start now given told → IsQuiet s → s.output ≡ []
@@ -72,6 +75,8 @@ tells_end whole (Some bytes) (Some rest) s given told start now r quiet none end
     (subst (λ (z : List ℕ). Written z (end_of s) given told start now) (sym all_fed)
     (written_by whole s r.fed given told r.sent start now r.stands quiet none r.written))
 
+-- If the input has ended after the output of a quiet session was written, `Tells` holds with the status that the
+-- session's ending gives.
 pub tells_status : WholeText
     → (status : Status) (all left : Option (List ℕ)) (s flushed_to asked : SessionState) (given : List Command)
     (told : Answers) (start now : Option (List ℕ)) → Reads all left s start now given told
@@ -83,7 +88,8 @@ tells_status whole status all left s flushed_to asked given told start now r qui
     (tells_end whole all left s given told start now r (subst (λ (z : SessionState). IsQuiet z) (sym (e ∙ same)) quiet)
     (ap (λ (z : SessionState). z.output) (e ∙ same)) ends)
 
--- The connection has ended before.
+-- If a quiet session isn't live any more and its output was written, `Tells` holds with the status that the session's
+-- ending gives, whatever the source has left.
 pub tells_over : WholeText → NothingFollows
     → (status : Status) (all left : Option (List ℕ)) (s asked : SessionState) (given : List Command) (told : Answers)
     (start now : Option (List ℕ)) → Reads all left s start now given told
@@ -100,7 +106,8 @@ tells_over whole follows status (Some bytes) (Some rest) s asked given told star
     (written_by whole s bytes given told r.sent start now st quiet_now (ap (λ (z : SessionState). z.output) same)
     r.written))
 
--- The source failed.
+-- If the source fails, which keeps its bytes, and the session is quiet and its output is empty, `Tells` holds with
+-- Read: all responses to the bytes that were read were written.
 tells_read : WholeText
     → (all left after : Option (List ℕ)) (s : SessionState) (given : List Command) (told : Answers)
     (start now : Option (List ℕ)) → Reads all left s start now given told → IsQuiet s → s.output ≡ []
@@ -117,7 +124,7 @@ tells_read whole (Some bytes) (Some rest) (Some same) s given told start now r q
   written_by whole s r.fed given told r.sent start now r.stands quiet none r.written,
 )
 
--- ---- A front of the text
+-- ---- A prefix of the responses
 
 part_by : FirstPart → (s : SessionState) (fed more : List ℕ) (given : List Command) (told : Answers) (sent : List ℕ)
     (start now : Option (List ℕ)) → StandsFor s (traffic fed given told sent)
@@ -130,7 +137,8 @@ part_by first s fed more given told sent start now st front = record {
       subst (λ (z : List ℕ). AppendsFront start now z) (sym r.1) (front_longer start now (sent ++ s.output) r.0 front);
 }
 
--- A prefix of the output was written.
+-- If a prefix of the session's output was written, what was written in all is a prefix of the responses to the source's
+-- bytes (`WrittenPart`).
 pub tells_part : FirstPart
     → (all left : Option (List ℕ)) (s : SessionState) (given : List Command) (told : Answers)
     (start held now : Option (List ℕ)) → Reads all left s start held given told
@@ -142,10 +150,11 @@ tells_part first (Some bytes) (Some rest) s given told start held now r o =
     (part_by first s r.fed rest given told r.sent start now r.stands
     (front_later start held now r.sent s.output r.written o))
 
+-- If nothing is written, a prefix of any text is written, the empty one.
 pub front_none : (held : Option (List ℕ)) (text : List ℕ) → AppendsFront held held text
 front_none held text = ([], text, refl, Appends-nil held)
 
--- What was written so far, if memory ran out.
+-- While a connection goes on, what was written is a prefix of the responses to the source's bytes (`WrittenPart`).
 pub tells_so_far : FirstPart
     → (all left : Option (List ℕ)) (s : SessionState) (given : List Command) (told : Answers)
     (start held : Option (List ℕ)) → Reads all left s start held given told
@@ -153,7 +162,8 @@ pub tells_so_far : FirstPart
 tells_so_far first all left s given told start held r =
     tells_part first all left s given told start held held r (front_none held s.output)
 
--- Reading stopped.
+-- If the reading of a piece stopped with `status` after the output of a quiet session was written, `Tells` holds with
+-- this status.
 pub tells_stop : WholeText → FirstPart → (status : Status) → IsReadStop status
     → (all left after : Option (List ℕ)) (s asked : SessionState) (given : List Command) (told : Answers)
     (start now : Option (List ℕ)) → Reads all left s start now given told
@@ -166,7 +176,8 @@ tells_stop whole first Memory k all left after s asked given told start now r qu
     tells_so_far first all left s given told start now r
 tells_stop whole first other k all left after s asked given told start now r quiet same keeps = absurd k
 
--- A command waits whose turn wasn't made.
+-- Let `WrittenPart` hold with the commands `given` and then `what`. It also holds with `given` alone, if no turn of
+-- `what` was made.
 part_asked : (bytes : List ℕ) (given : List Command) (told : Answers) (what : Command) (start now : Option (List ℕ))
     → WrittenPart bytes (given ++ what ∷ []) told start now → WrittenPart bytes given told start now
 part_asked bytes given told what start now p = record {
@@ -174,13 +185,15 @@ part_asked bytes given told what start now p = record {
   written = p.written;
 }
 
+-- If the source tells its bytes, and `WrittenPart` holds with the commands `given` and then `what`, it holds with
+-- `given` alone.
 pub tells_asked : (all : Option (List ℕ)) (given : List Command) (told : Answers) (what : Command)
     (start held : Option (List ℕ)) → IfSome all (λ bytes. WrittenPart bytes (given ++ what ∷ []) told start held)
     → IfSome all (λ bytes. WrittenPart bytes given told start held)
 tells_asked None given told what start held p = tt
 tells_asked (Some bytes) given told what start held p = part_asked bytes given told what start held p
 
--- A turn was made, and its answer wasn't written.
+-- If `WrittenPart` holds with the answers `told`, it also holds with one more answer `a` that wasn't written.
 part_told : (bytes : List ℕ) (given : List Command) (told : Answers) (a : Result Reply Refusal)
     (start now : Option (List ℕ)) → WrittenPart bytes given told start now
     → WrittenPart bytes given (told ++ a ∷ []) start now
@@ -191,35 +204,43 @@ part_told bytes given told a start now p = record {
       (sym (append_assoc told (a ∷ []) later)) (p.written ms ending f (a ∷ later));
 }
 
+-- If the source tells its bytes, and `WrittenPart` holds with the answers `told`, it holds with one more answer `a`
+-- that wasn't written.
 pub tells_told : (all : Option (List ℕ)) (given : List Command) (told : Answers) (a : Result Reply Refusal)
     (start held : Option (List ℕ)) → IfSome all (λ bytes. WrittenPart bytes given told start held)
     → IfSome all (λ bytes. WrittenPart bytes given (told ++ a ∷ []) start held)
 tells_told None given told a start held p = tt
 tells_told (Some bytes) given told a start held p = part_told bytes given told a start held p
 
--- ---- How a connection ends of which no more is read
+-- ---- The status that an ending gives
 
+-- The status that an ending gives is one with which a connection may end.
 pub kind_at : (e : Ending) → IsAnswerStatus (status_at e)
 kind_at boundary = tt
 kind_at _ = tt
 
+-- No ending gives the status Read.
 pub end_not_read : (e : Ending) → status_at e ≡ Read → ⊥
 end_not_read boundary h = cc
 end_not_read _ h = cc
 
+-- No ending gives the status Write.
 pub end_not_write : (e : Ending) → status_at e ≡ Write → ⊥
 end_not_write boundary h = cc
 end_not_write _ h = cc
 
+-- A status that is given isn't None.
 pub some_none : (s : Status) → Some s ≡ None → ⊥
 some_none s e = cc
 
--- ---- What is said of a status
+-- ---- What holds of a status
 
+-- If `P` implies `Q` for each status, and `P` holds of the status that is given, if there is one, so does `Q`.
 pub if_some : (o : Option Status) (P Q : Status → Type 0) → ((s : Status) → P s → Q s) → IfSome o P → IfSome o Q
 if_some None P Q f p = tt
 if_some (Some s) P Q f p = f s p
 
+-- If the clock gave no moment, `AsksAtMostOnce` holds for any status.
 pub asks_none : (status : Status) (before : Option (List ℕ)) → AsksAtMostOnce status before before
 asks_none Memory before = inl refl
 asks_none other before = refl

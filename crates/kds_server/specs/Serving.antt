@@ -1,4 +1,4 @@
--- What serving one connection did.
+-- Defines what serving one connection on a machine means for the machine's history, the clock and the output.
 use Rattle.std.specs.Prelude.{◌≡◌, ◌⊎◌, ℕ, List, [], ◌∷◌, IfSome}
 use Rattle.std.specs.declared.option.Option.{Option}
 use Rattle.kds_defs.specs.declared.command.Command.{Command}
@@ -11,14 +11,16 @@ use Rattle.kds_server.specs.Around.{Around}
 use Rattle.kds_server.specs.Turns.{turns_at, followed, TurnsMade}
 use Rattle.kds_server.specs.Texts.{Tells}
 
--- The clock gave no further moment, or gave one for a turn in which memory ran out.
+-- The clock gave no moment from `before` to `now`. If the status is Memory, it may have given one, at which memory ran
+-- out in a turn.
 abbrev pub AsksAtMostOnce : Status → Option (List ℕ) → Option (List ℕ) → Type 0
 AsksAtMostOnce Memory before now = (now ≡ before) ⊎ ((at : ℕ) × Gives before (at ∷ []) now)
 AsksAtMostOnce _ before now = now ≡ before
 
--- A connection that began after the history `h` ended with `status`: `input`, `clock` and `out` are the input, the
--- clock's moments and the output before and after it. Its commands became turns, and if the source tells its bytes, the
--- commands, the text and the end are those of these bytes.
+-- A connection that began after the history `h` ended with `status`. The pairs `input`, `clock` and `out` have what the
+-- source has left, the clock's moments and what the sink holds, before and after. The commands `given` became turns
+-- with the answers `told`. If the source tells its bytes, the commands, what was written and the status are right for
+-- these bytes (`Tells`).
 pub record Served (h : List Turn) (input clock out : Around (Option (List ℕ))) (status : Status) : Type 0 where
   pub given : List Command
   pub told : Answers
@@ -27,13 +29,13 @@ pub record Served (h : List Turn) (input clock out : Around (Option (List ℕ)))
   pub asked : AsksAtMostOnce status between clock.after
   pub tells : IfSome input.before (λ bytes. Tells status bytes input.after given told out.before out.after)
 
--- The turns that the connection of `s` made.
+-- The turns that the connection of `s` made, in their order, at the moments that the clock gave.
 abbrev pub turns_of : {h : List Turn} {input clock out : Around (Option (List ℕ))} {status : Status}
     → Served h input clock out status → List Turn
 turns_of s = turns_at s.made.moments s.given
 
--- Whatever history the machine stood for before, the connection ended with `status` after it, and the machine then
--- stands for that history followed by just the turns of the connection.
+-- For each history that the machine stands for before the connection, the connection made turns after this history and
+-- ended with `status` (`Served`), and the machine then stands for this history followed by these turns.
 abbrev pub ServedAfter : {M : Type 0} → (M → List Turn → Type 0) → Around M
     → (input clock out : Around (Option (List ℕ))) (status : Status) → Type 0
 ServedAfter stands_for machine input clock out status =

@@ -14,7 +14,9 @@ use Rattle.kds_server.specs.Around.{Around, around}
 use Rattle.kds_server.specs.Serving.{AsksAtMostOnce}
 use Rattle.kds_server.specs.Texts.{Tells}
 
--- Some bytes were taken from the source and fed to `session`, and its output so far was written.
+-- The source had the bytes `all`, of which the first were read and fed to `session`, and has `left` now. The session
+-- gave the commands `given` and was told the answers `told`. The bytes that it sent were written, which took the sink's
+-- bytes from `start` to `held`.
 pub record Reads (all left : Option (List ℕ)) (session : SessionState) (start held : Option (List ℕ))
     (given : List Command) (told : Answers) : Type 0 where
   pub fed : List ℕ
@@ -23,13 +25,16 @@ pub record Reads (all left : Option (List ℕ)) (session : SessionState) (start 
   pub stands : StandsFor session (traffic fed given told sent)
   pub written : Appends start held sent
 
--- The clock gave some moments, and commands were taken at them.
+-- The clock gave some moments, which took its moments from `before` to `now`, and the statement `makes` is true of the
+-- ones given.
 pub record Taken (makes : List ℕ → Type 0) (before now : Option (List ℕ)) : Type 0 where
   pub moments : List ℕ
   pub gives : Gives before moments now
   pub made : makes moments
 
--- The commands so far were taken, and got their answers.
+-- The commands `given` were taken so far, at moments that the clock gave, with the answers `told` (`makes`). The
+-- session stands for what was read and written so far (`Reads`). The pairs have what the source has left, the clock's
+-- moments and what the sink holds, at first and now.
 pub record Running (makes : List ℕ → List Command → Answers → Type 0) (session : SessionState)
     (input clock out : Around (Option (List ℕ))) : Type 0 where
   pub given : List Command
@@ -37,7 +42,9 @@ pub record Running (makes : List ℕ → List Command → Answers → Type 0) (s
   pub reads : Reads input.before input.after session out.before out.after given told
   pub taken : Taken (λ moments. makes moments given told) clock.before clock.after
 
--- The connection ended with `status`, after its commands were taken and got their answers.
+-- The connection ended with `status`, after the commands `given` were taken with the answers `told` (`makes`). Then the
+-- clock gave no moment, or one at which memory ran out in a turn (`AsksAtMostOnce`). If the source tells its bytes, the
+-- commands, what was written and the status are right for these bytes (`Tells`).
 pub record Ended (makes : List ℕ → List Command → Answers → Type 0) (input clock out : Around (Option (List ℕ)))
     (status : Status) : Type 0 where
   pub given : List Command
@@ -47,25 +54,27 @@ pub record Ended (makes : List ℕ → List Command → Answers → Type 0) (inp
   pub asked : AsksAtMostOnce status between clock.after
   pub tells : IfSome input.before (λ bytes. Tells status bytes input.after given told out.before out.after)
 
--- ---- Whatever was before
+-- ---- Steps of a connection, whatever was read, taken and written before
 
--- What was read and written so far goes on to the session `session_now`, with what is left of the input and what the
--- output has then.
+-- If the session `session` stands for what was read and written so far (`Reads`), `session_now` does so after a step.
+-- What the source has left went from `left` to `left_now`, and what the sink holds from `held` to `held_now`. No
+-- command was given or answered.
 abbrev pub ReadsOn : (left : Option (List ℕ)) (session : SessionState) (held : Option (List ℕ))
     (left_now : Option (List ℕ)) (session_now : SessionState) (held_now : Option (List ℕ)) → Type 0
 ReadsOn left session held left_now session_now held_now =
     (all start : Option (List ℕ)) (given : List Command) (told : Answers) → Reads all left session start held given told
     → Reads all left_now session_now start held_now given told
 
--- The connection ended with `status` after what was read and written so far.
+-- If the session `session` stands for what was read and written so far (`Reads`), the connection ends with `status`,
+-- which is right for the source's bytes (`Tells`). The source then has `left_now` left, and the sink holds `held_now`.
 abbrev pub EndsThere : (left : Option (List ℕ)) (session : SessionState) (held left_now held_now : Option (List ℕ))
     (status : Status) → Type 0
 EndsThere left session held left_now held_now status =
     (all start : Option (List ℕ)) (given : List Command) (told : Answers) → Reads all left session start held given told
     → IfSome all (λ bytes. Tells status bytes left_now given told start held_now)
 
--- The point at which a connection stands: the state of what makes its turns, its session, what is left of its input,
--- its clock's moments, and what its output has.
+-- A point in the course of a connection: the state of what makes its turns (a machine or a pass), its session, what the
+-- source has left, the clock's moments, and what the sink holds.
 pub record Point (S : Type 0) : Type 0 where
   pub state : S
   pub session : SessionState
@@ -73,18 +82,21 @@ pub record Point (S : Type 0) : Type 0 where
   pub clock : Option (List ℕ)
   pub held : Option (List ℕ)
 
--- The relation `made` says what was taken so far, from the first state on.
+-- In this module, `made first moments given told last` says that the commands `given` were taken at `moments` with the
+-- answers `told`, which led from the state `first` to `last`.
 module _ {S : Type 0} (made : S → List ℕ → List Command → Answers → S → Type 0) where
+  -- The commands `given` were taken at `moments` with the answers `told`, which led from the state `first` to `now`.
   abbrev pub MadeFrom : S → S → List ℕ → List Command → Answers → Type 0
   MadeFrom first now moments given told = made first moments given told now
 
-  -- From the first state and the first input, moments and output, a connection ran to the point `here`.
+  -- A connection has run to the point `here`. It began with the state `first`, the bytes `all` in the source, the
+  -- moments `before` of the clock and the bytes `start` in the sink.
   abbrev pub RunsTo : (first : S) (all before start : Option (List ℕ)) → Point S → Type 0
   RunsTo first all before start here =
       Running (MadeFrom first here.state) here.session (around all here.left) (around before here.clock)
       (around start here.held)
 
-  -- A connection that stands at `here` runs on to `there`.
+  -- Whatever a connection began with, if it has run to the point `here`, it runs on to the point `there`.
   abbrev pub RunsOn : Point S → Point S → Type 0
   RunsOn here there = (first : S) (all before start : Option (List ℕ)) → RunsTo first all before start here
       → RunsTo first all before start there
@@ -96,7 +108,8 @@ module _ {S : Type 0} (made : S → List ℕ → List Command → Answers → S 
       → Ended (MadeFrom first there.state) (around all there.left) (around before there.clock) (around start there.held)
       status
 
-  -- The command `what`, which waits, was taken and got its answer.
+  -- Whatever was taken before, the command `what`, which the session gave last, was taken and got its answer. The
+  -- connection goes on with `state_now`, `session_now` and `clock_now`, and the source and the sink are unchanged.
   abbrev pub TakesOne : (what : Command) (state : S) (session : SessionState) (clock : Option (List ℕ))
       (state_now : S) (session_now : SessionState) (clock_now : Option (List ℕ)) → Type 0
   TakesOne what state session clock state_now session_now clock_now =
@@ -118,12 +131,13 @@ module _ {S : Type 0} (made : S → List ℕ → List Command → Answers → S 
 abbrev pub ROOM : ℕ
 ROOM = HEAD_BYTES + BODY_BYTES
 
--- The most turns and reads that may still come: for each request and for the end, a turn and the reads of an unfinished
--- message, minus the bytes of it that are there.
+-- A number that falls with each turn and with each read that brings bytes, and so bounds how many may still come. For
+-- each request that is allowed and for the end of the connection, it counts a turn and the bytes of an unfinished
+-- message, without the bytes that are unread now.
 abbrev pub work : SessionState → ℕ
 work s = to_come s * (ROOM + 1) + (ROOM - length s.unread)
 
--- Reading may stop with this status.
+-- The status is one with which the reading of a piece may stop the connection: the source fails, or memory runs out.
 abbrev pub IsReadStop : Status → Type 0
 IsReadStop Read = Unit {0}
 IsReadStop Memory = Unit {0}

@@ -1,4 +1,5 @@
--- The streams of a service at a later clock, and back at the earlier one.
+-- After an advance, a retreat or a settling, the streams of a service are all at the same clock, and show the journals
+-- that they showed before.
 use Rattle.std.proofs.Common.{◌≡◌, ℕ, zero, suc, ◌<◌, ◌≤◌, List, [], ◌∷◌, length, map, slice_get, slice_set, Some, refl}
 use Rattle.std.proofs.Common.{sym, ap, subst, ◌∙◌, arith}
 use Rattle.kds_defs.specs.Journal.{Journal}
@@ -6,18 +7,21 @@ use Rattle.kds_stream.specs.Value.{StreamValue, settled}
 use Rattle.kds_service.specs.Clocks.{advanced, retreated, settled_in}
 use Rattle.kds_service.specs.Shown.{AreAt, AreShown, IsRising, ServiceValue, ShowsAll, is_among, numbers_of, service}
 
--- ---- Where the streams stand
+-- ---- The clocks of the streams
 
+-- After an advance to `clock`, all streams are at `clock`.
 pub advanced_at : (clock : ℕ) (vs : List StreamValue) → AreAt clock (map (advanced clock) vs)
 advanced_at clock [] = tt
 advanced_at clock (v ∷ vs) = (refl, advanced_at clock vs)
 
+-- Settling the stream at the index `i` leaves all streams at the clock `c`.
 pub settled_at : (c i : ℕ) (vs : List StreamValue) → AreAt c vs → AreAt c (settled_in i vs)
 settled_at c i [] at = tt
 settled_at c zero (v ∷ vs) at = at
 settled_at c (suc i) (v ∷ vs) at = (at.0, settled_at c i vs at.1)
 
--- A reading that settling keeps for each stream is kept for all of them.
+-- Let `g` be any function of a stream. If `g` gives the same for each stream after settling as before, it gives the
+-- same for each of several streams after one of them is settled.
 pub kept_in : {Y : Type 0} (g : StreamValue → Y) → ((v : StreamValue) → g (settled v) ≡ g v)
     → (i : ℕ) (vs : List StreamValue) → map g (settled_in i vs) ≡ map g vs
 kept_in g same i [] = refl
@@ -26,14 +30,16 @@ kept_in g same (suc i) (v ∷ vs) = ap (λ ys. g v ∷ ys) (kept_in g same i vs)
 
 -- ---- The service
 
--- Services with the same streams, and the same one to settle next, are the same.
+-- Two services are equal if they have equal streams and the same index of the stream to settle next, and their other
+-- fields are equal. The indexes are `t` and `u`.
 pub same_service : (c b n t u : ℕ) (vs us : List StreamValue) → vs ≡ us → t ≡ u
     → record (service c b n vs) { next_to_settle = t } ≡ record (service c b n us) { next_to_settle = u }
 same_service c b n t u vs us are is = ap (λ xs. record (service c b n xs) { next_to_settle = t }) are
     ∙ ap (λ k. record (service c b n us) { next_to_settle = k }) is
 
--- ---- The stream at a place
+-- ---- The stream at an index
 
+-- If the stream `x` at the index `i` is replaced by what settling makes of it, the list is `settled_in i vs`.
 pub settled_here : (i : ℕ) (vs : List StreamValue) (x v : StreamValue) → slice_get vs i ≡ Some x → v ≡ settled x
     → slice_set vs i v ≡ settled_in i vs
 settled_here i [] x v here is = refl
@@ -42,6 +48,7 @@ settled_here zero (y ∷ vs) x v here is =
     ap (λ u. u ∷ vs) (is ∙ ap settled (sym e))
 settled_here (suc i) (y ∷ vs) x v here is = ap (λ us. y ∷ us) (settled_here i vs x v here is)
 
+-- If the index `i` isn't below the number of streams, settling at `i` changes no stream.
 pub settled_beyond : (i : ℕ) (vs : List StreamValue) → length vs ≤ i → vs ≡ settled_in i vs
 settled_beyond i [] beyond = refl
 settled_beyond zero (v ∷ vs) beyond = absurd (omega arith)
@@ -51,13 +58,14 @@ pub back_at : (c clock : ℕ) (vs : List StreamValue) → AreAt c vs → AreAt c
 back_at c clock [] at = tt
 back_at c clock (v ∷ vs) at = (at.0, back_at c clock vs at.1)
 
--- A reading that is kept for each stream is kept for all of them.
+-- Let `g` be any function of a stream. If `g` gives the same for each stream after the change `f` as before, it gives
+-- the same for each stream of a list that `f` changed.
 pub kept_of : {Y : Type 0} (g : StreamValue → Y) (f : StreamValue → StreamValue) → ((v : StreamValue) → g (f v) ≡ g v)
     → (vs : List StreamValue) → map g (map f vs) ≡ map g vs
 kept_of g f same [] = refl
 kept_of g f same (v ∷ vs) = ap (λ y. y ∷ map g (map f vs)) (same v) ∙ ap (λ ys. g v ∷ ys) (kept_of g f same vs)
 
--- ---- What they show
+-- ---- The journals that they show
 
 -- Streams of the same numbers, at another clock, show what the others showed.
 pub shows_along : (w u : ServiceValue) (log : Journal) → u.made ≡ w.made → numbers_of u.streams ≡ numbers_of w.streams

@@ -1,4 +1,5 @@
--- What CreateStream leads to.
+-- CreateStream is refused if a stream has the name, if there is no room, or if no number is left. Otherwise the service
+-- has the new stream afterwards.
 use Rattle.std.proofs.Common.{◌≡◌, ℕ, ◌+◌, ◌<◌, true, false, List, [], ◌∷◌, ◌++◌, length, sym, ap, subst, ◌∙◌, arith}
 use Rattle.std.specs.Prelude.{◌==◌, ◌||◌, is_some, nat_le, nat_lt, Ok, Err}
 use Rattle.kds_defs.specs.declared.command.Command.TheVariants as command
@@ -20,7 +21,8 @@ use Rattle.kds_service.proofs.Readings.{live_count, open_are, some_named}
 use Rattle.kds_service.specs.Places.{is_full, index_by_name}
 use Rattle.kds_service.specs.Shown.{Leads, ServiceValue, ShowsAll, StaysShownWith, service}
 
--- The limits are those of the service.
+-- The machine, which counts in the journal, and the service, which counts its own streams, agree on whether there is no
+-- room for a stream of `count` shards.
 full : (w : ServiceValue) (log : Journal) (count : ℕ) → ShowsAll w log
     → (nat_le LIVE_STREAMS (length (live_streams log)) || nat_lt OPEN_SHARDS (open_count log + count))
     ≡ is_full w.streams count
@@ -28,19 +30,23 @@ full w log count all =
     ap (λ n. nat_le LIVE_STREAMS n || nat_lt OPEN_SHARDS (open_count log + count)) (live_count w log all)
     ∙ ap (λ n. nat_le LIVE_STREAMS (length w.streams) || nat_lt OPEN_SHARDS (n + count)) (open_are w log all)
 
--- What `others` ensures of a stream that is added.
+-- A premise of the lemmas here, which the file `Lives` proves: if a new stream shows the journal with the line that
+-- makes it, the service with this stream at the end shows this journal too.
 abbrev pub Adds : Type 0
 Adds = (c b n by count : ℕ) (name : List ℕ) (vs : List StreamValue) (v : StreamValue) (log : Journal)
     → ShowsAll (service c b n vs) log
     → StaysShownWith c b n vs log v by name count
 
 module _ (c b n : ℕ) (vs : List StreamValue) (name : List ℕ) (count : ℕ) where
+  -- If a stream has the name `name`, CreateStream is refused with StreamThere, and the service is unchanged.
   pub create_there : is_some (index_by_name vs name) ≡ true
       → Leads (service c b n vs) (service c b n vs) (command.Create name count) (Err refusal.StreamThere)
   create_there is =
       refused_leads (service c b n vs) (command.Create name count) refusal.StreamThere
       (λ log by all. refused_if _ _ _ (some_named (service c b n vs) log name all ∙ is))
 
+  -- If no stream has the name `name`, but there is no room for `count` shards or for a further stream, CreateStream is
+  -- refused with Full, and the service is unchanged.
   pub create_full : is_some (index_by_name vs name) ≡ false → is_full vs count ≡ true
       → Leads (service c b n vs) (service c b n vs) (command.Create name count) (Err refusal.Full)
   create_full is at_limit =
@@ -48,6 +54,8 @@ module _ (c b n : ℕ) (vs : List StreamValue) (name : List ℕ) (count : ℕ) w
       (λ log by all. passed_if _ _ _ (some_named (service c b n vs) log name all ∙ is)
       ∙ refused_if _ _ _ (full (service c b n vs) log count all ∙ at_limit))
 
+  -- If no stream has the name and there is room, but `n`, the greatest number of a stream so far, is the last number
+  -- that there is, CreateStream is refused with Spent, and the service is unchanged.
   pub create_spent : is_some (index_by_name vs name) ≡ false → is_full vs count ≡ false → (n == last_number) ≡ true
       → Leads (service c b n vs) (service c b n vs) (command.Create name count) (Err refusal.Spent)
   create_spent is room last =
@@ -57,6 +65,8 @@ module _ (c b n : ℕ) (vs : List StreamValue) (name : List ℕ) (count : ℕ) w
       ∙ passed_if _ _ _ (full (service c b n vs) log count all ∙ room)
       ∙ refused_if _ _ _ (ap (λ m. m == last_number) all.made ∙ last))
 
+  -- If no stream has the name, there is room, and a number is left, CreateStream is accepted, and the service has the
+  -- new stream `v` after the streams `vs`. The new stream's number is `m`.
   pub create_done : (m : ℕ) (ws : List StreamValue) (v : StreamValue) → Adds → is_some (index_by_name vs name) ≡ false
       → is_full vs count ≡ false
       → (n == last_number) ≡ false

@@ -1,4 +1,5 @@
--- The entries of the map: the values and the keys after one is replaced, added or taken out.
+-- If an entry of a map is replaced, added or removed, the other keys and values are unchanged. The map has the streams
+-- by their names, and each stream stays under its own name.
 use Rattle.std.proofs.Common.{◌≡◌, ℕ, zero, suc, ◌+◌, Bool, cond, List, [], ◌∷◌, ◌++◌, map, remove, slice_get}
 use Rattle.std.proofs.Common.{slice_set, Some, None, refl, sym, ap, subst, ◌∙◌}
 use Rattle.std.specs.Prelude.{Result, Ok, Err, OnErr}
@@ -14,17 +15,20 @@ use Rattle.kds_service.specs.Places.{ArePlaced}
 use Rattle.kds_service.specs.Shown.{AreAt, names_of}
 
 module _ {K X : Type 0} where
+  -- If the value at the index `i` is replaced by `w`, the list of the values has `w` at this index, and the others are
+  -- unchanged.
   pub values_set : (es : List (K × X)) (i : ℕ) (w : X) → values_of (set_value_at es i w) ≡ slice_set (values_of es) i w
   values_set [] i w = refl
   values_set (e ∷ es) zero w = refl
   values_set (e ∷ es) (suc i) w = ap (λ ys. e.1 ∷ ys) (values_set es i w)
 
+  -- If a value is replaced, the keys are unchanged.
   pub keys_set : (es : List (K × X)) (i : ℕ) (w : X) → keys_of (set_value_at es i w) ≡ keys_of es
   keys_set [] i w = refl
   keys_set (e ∷ es) zero w = refl
   keys_set (e ∷ es) (suc i) w = ap (λ ys. e.0 ∷ ys) (keys_set es i w)
 
-  -- A new key goes last.
+  -- If no key of the map is equal to `k`, the pair of `k` and `v` is added at the end.
   pub insert_last : (eq : K → K → Bool) (n : ℕ) (es : List (K × X)) (k : K) (v : X)
       → position_from (eq k) n (keys_of es) ≡ None → insert_entry eq es k v ≡ es ++ ((k, v) ∷ [])
   insert_last eq n [] k v none = refl
@@ -36,13 +40,14 @@ module _ {K X : Type 0} where
       ap (λ b. cond b ((e.0, v) ∷ es) (e ∷ insert_entry eq es k v)) is
       ∙ ap (λ ys. e ∷ ys) (insert_last eq (n + 1) es k v rest))
 
+-- Removing the element at an index and applying `f` to each element gives the same list in either order.
 pub map_take_out : {X Y : Type 0} (f : X → Y) (xs : List X) (i : ℕ) → map f (remove xs i) ≡ remove (map f xs) i
 map_take_out f [] zero = refl
 map_take_out f [] (suc i) = refl
 map_take_out f (x ∷ xs) zero = refl
 map_take_out f (x ∷ xs) (suc i) = ap (λ ys. f x ∷ ys) (map_take_out f xs i)
 
--- ---- The streams stand where they did
+-- ---- Each stream is still under its own name and at the clock
 
 pub placed_set : (c i : ℕ) (es : List (List ℕ × StreamValue)) (x v : StreamValue) → ArePlaced c es
     → slice_get (values_of es) i ≡ Some x → v.name ≡ x.name → v.clock ≡ c → ArePlaced c (set_value_at es i v)
@@ -52,7 +57,8 @@ placed_set c i es x v placed here name clock = record {
   at = subst (AreAt c) (sym (values_set es i v)) (all_set (λ u. u.clock ≡ c) i (values_of es) v placed.at clock);
 }
 
--- After an error nothing has changed.
+-- If a call on the stream `x` failed and so left it unchanged as `v`, writing `v` back to the index `i` changes no
+-- value.
 pub kept_set : {A E : Type 0} (r : Result A E) (i : ℕ) (es : List (List ℕ × StreamValue)) (x v : StreamValue)
     → slice_get (values_of es) i ≡ Some x → OnErr r (v ≡ x) → OnErr r (values_of (set_value_at es i v) ≡ values_of es)
 kept_set (Ok a) i es x v here same = tt

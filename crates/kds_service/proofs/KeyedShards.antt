@@ -1,4 +1,5 @@
--- Shards by their keys: what the streams of a service say of them is what the journal says.
+-- The shard with a key, whether it is listed, and the keys of all listed shards are the same in a service as in each
+-- journal that the service shows.
 use Rattle.std.proofs.Common.{◌≡◌, ℕ, zero, suc, ◌+◌, Bool, true, false, ◌==◌, List, [], ◌∷◌, ◌++◌, drop, slice_get}
 use Rattle.std.proofs.Common.{Option, Some, None, refl, sym, ap, subst, ◌∙◌}
 use Rattle.std.specs.Prelude.{not, ◌||◌, if◌then◌else◌}
@@ -22,7 +23,7 @@ use Rattle.kds_service.specs.Keyed.{is_listed_in, is_listed_of, listed_keys, liv
 use Rattle.kds_service.specs.Places.{index_by_number}
 use Rattle.kds_service.specs.Shown.{AreAt, AreShown, ServiceValue, ShowsAll, is_among, numbers_of, service}
 
--- ---- The stream of a number
+-- ---- The stream with a number
 
 here_or_later : (v : StreamValue) (vs : List StreamValue) (s : ℕ) (b : Bool) → (v.no == s) ≡ b
     → stream_at (v ∷ vs) s ≡ (if b then Some v else stream_at vs s)
@@ -37,6 +38,7 @@ found_from n (suc i) s (v ∷ vs) x is here =
     let rest = later_fails (λ m. m == s) n i v.no (numbers_of vs) is in
     here_or_later v vs s false rest.0 ∙ found_from (n + 1) i s vs x rest.1 here
 
+-- The stream at the index that the search for the number `s` finds is the one that `stream_at` finds.
 pub stream_found : (i s : ℕ) (vs : List StreamValue) (x : StreamValue) → Some i ≡ index_by_number vs s
     → slice_get vs i ≡ Some x → Some x ≡ stream_at vs s
 stream_found i s vs x found here = sym (found_from 0 i s vs x (sym found ∙ ap Some (from_zero i)) here)
@@ -48,10 +50,11 @@ none_from n s (v ∷ vs) none =
     let rest = none_passes (λ m. m == s) n v.no (numbers_of vs) none in
     here_or_later v vs s false rest.0 ∙ none_from (n + 1) s vs rest.1
 
+-- If the search for the number `s` finds no index, `stream_at` finds no stream.
 pub none_found : (s : ℕ) (vs : List StreamValue) → None ≡ index_by_number vs s → None ≡ stream_at vs s
 none_found s vs none = sym (none_from 0 s vs (sym none))
 
--- The stream `x` has the number `s`, stands at the clock `c`, and shows the journal `log`.
+-- The stream `x` has the number `s` and the clock `c`, and shows the journal `log`.
 pub record IsOf (log : Journal) (c s : ℕ) (x : StreamValue) : Type 0 where
   pub no : x.no ≡ s
   pub clock : x.clock ≡ c
@@ -64,6 +67,8 @@ of_here log c s v vs x true e at shown is rest =
     subst (IsOf log c s) (same_some v x is) (record { no = eqb-true v.no s e; clock = at; shown = shown })
 of_here log c s v vs x false e at shown is rest = rest is
 
+-- If all streams are at the clock `c` and show the journal, the stream that `stream_at` finds for the number `s` has
+-- this number, is at this clock, and shows the journal.
 pub is_of : (log : Journal) (c s : ℕ) (vs : List StreamValue) (x : StreamValue) → AreAt c vs → AreShown log vs
     → stream_at vs s ≡ Some x → IsOf log c s x
 is_of log c s [] x at shown is = absurd (none-some x is)
@@ -80,7 +85,7 @@ away : (s : ℕ) (vs : List StreamValue) → stream_at vs s ≡ None → is_amon
 away s [] is = refl
 away s (v ∷ vs) is = away_here v vs s (v.no == s) refl is (away s vs)
 
--- ---- A shard of it
+-- ---- A shard of this stream
 
 listed_by : (log : Journal) (c s floor : ℕ) (o : Option ShardState) → is_live log s ≡ true → trim_floor log c s ≡ floor
     → is_listed_at floor o ≡ is_listed_state log c s o
@@ -115,6 +120,8 @@ module _ (w : ServiceValue) (log : Journal) (all : ShowsAll w log) (key : ShardR
       ∙ ap (λ xs. is_listed_state log w.clock key.stream (slice_get xs key.shard))
       (sym (shards_by log w.clock key.stream x of))
 
+  -- The shard with the key `key` is listed in the service exactly if it is listed in the journal at the service's
+  -- clock.
   pub listed_is : is_listed_in w.streams key ≡ is_listed_key log w.clock key
   listed_is = listed_of (stream_at w.streams key.stream) refl
 
@@ -127,11 +134,12 @@ module _ (w : ServiceValue) (log : Journal) (all : ShowsAll w log) (key : ShardR
       sym (ap (λ b. if b then shard_at log key.stream key.shard else None) (live_by log w.clock key.stream x of)
       ∙ ap (λ xs. slice_get xs key.shard) (shards_by log w.clock key.stream x of))
 
+  -- The shard with the key `key` has the same state in the service as in the journal.
   pub state_is : state_in w.streams key ≡ live_shard log key
   state_is = state_by (stream_at w.streams key.stream) refl
 
--- What is true of the stream's own clock and number is true of the service's clock and of the number by which the
--- stream was found.
+-- Let `x` be the stream that is found for the number `s`. If `P` holds of the clock and the number of `x`, it holds of
+-- the service's clock `c` and of `s`.
 pub at_key : (P : ℕ → ℕ → Type 0) (log : Journal) (c b n s : ℕ) (vs : List StreamValue) (x : StreamValue)
     → ShowsAll (service c b n vs) log → Some x ≡ stream_at vs s → (Shows x log → P x.clock x.no) → P c s
 at_key P log c b n s vs x all found answered =
@@ -152,12 +160,14 @@ keys_by log c (v ∷ vs) at shown =
     ap (λ xs. refs_of v.no xs ++ listed_keys vs) (sym are)
     ∙ ap (λ ks. refs_of v.no (listed_shards log c v.no) ++ ks) (keys_by log c vs at.1 shown.1)
 
+-- The keys of all listed shards are the same, in the same order, in the service as in the journal.
 pub keys_are : (w : ServiceValue) (log : Journal) → ShowsAll w log
     → listed_keys w.streams ≡ listed_in log w.clock (live_streams log)
 keys_are w log all = keys_by log w.clock w.streams all.at all.shown
     ∙ ap (listed_in log w.clock) (sym (live_are w log all))
 
--- The keys of a further stream are added.
+-- Let the keys of the listed shards of the stream `x` at the index `i` be appended to `keys`. Then the keys so far,
+-- followed by those of the streams still to come, are the same list as before.
 pub keys_step : (vs : List StreamValue) (i : ℕ) (x : StreamValue) (keys new : List ShardRef) → slice_get vs i ≡ Some x
     → new ≡ keys ++ refs_of x.no (listed_among (floor_of x.cut) x.tree)
     → new ++ listed_keys (drop (i + 1) vs) ≡ keys ++ listed_keys (drop i vs)

@@ -1,4 +1,5 @@
--- A command to one stream, by what the stream decides.
+-- The service answers a command for one stream as this stream does, and the service with the changed stream shows the
+-- new journal.
 use Rattle.std.proofs.Common.{◌≡◌, ℕ, List, slice_get, slice_set, Some, sym, subst, ◌∙◌}
 use Rattle.std.specs.Prelude.{◌-◌, true, IfOk, Result, Ok, Err}
 use Rattle.kds_defs.specs.declared.command.Command.{Command}
@@ -19,19 +20,23 @@ use Rattle.kds_service.specs.Lines.{AreOf}
 use Rattle.kds_service.specs.Places.{open_beside, index_for}
 use Rattle.kds_service.specs.Shown.{AreAt, Leads, LeadsTo, ServiceValue, ShowsAll, service}
 
--- A refusal leaves all as it was.
+-- If the machine refuses a command after each journal that the service shows, the command leads from the service to the
+-- same service, with this refusal (`Leads`).
 pub refused_leads : (w : ServiceValue) (what : Command) (r : Refusal)
     → ((log : Journal) (by : ℕ) → ShowsAll w log → decide log w.clock by what ≡ Refused r) → Leads w w what (Err r)
 refused_leads w what r is =
     λ log by all. after_refused (decide log w.clock by what) r log (ShowsAll w) (is log by all) all
 
--- What `others` ensures of one stream that changes.
+-- A premise of the lemmas here, which the file `Lives` proves: if one stream is replaced by a stream that shows the
+-- journal with its own lines, the service with it shows this journal too.
 abbrev pub Changes : Type 0
 Changes = (c b n i : ℕ) (vs : List StreamValue) (x v : StreamValue) (log : Journal) (lines : List Line)
     → ShowsAll (service c b n vs) log → slice_get vs i ≡ Some x → v.no ≡ x.no → v.clock ≡ c → AreOf x.no c lines
     → Shows v (with_lines lines log) → ShowsAll (service c b n (slice_set vs i v)) (with_lines lines log)
 
--- The stream that the command is for is at a place. It becomes `v`, and answers what it decides.
+-- Let the command be for the stream `x` at the index `i`. If the call of this stream changes `x` to `v` and gives the
+-- answer that the machine gives (`Serves`), the command leads from the streams `vs` to `ws`, which have `v` in place of
+-- `x` (`LeadsTo`).
 pub stream_leads : {E : Type 0} (c i : ℕ) (vs ws : List StreamValue) (x v : StreamValue) (what : Command)
     (open_limit : ℕ)
     (r : Result (Result Reply Refusal) E)
@@ -53,7 +58,8 @@ stream_leads c i vs ws x v what open_limit (Ok gives) change at here found set o
           (change c b n i vs x v log lines all here no_is (clock_is ∙ now) of led.1),
     )
 
--- The same command leads from the whole service to the whole service.
+-- If the result `r` isn't an error, and the command leads from the streams `vs` to `ws`, it leads from the service with
+-- `vs` to the service with `ws`. The other fields of the services are the same.
 pub serve_leads : {E : Type 0} (r : Result (Result Reply Refusal) E) (c b n : ℕ) (vs ws : List StreamValue)
     (what what' : Command) → IfOk r (LeadsTo c vs ws what') → what ≡ what'
     → IfOk r (Leads (service c b n vs) (service c b n ws) what)

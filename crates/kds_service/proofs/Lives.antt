@@ -1,4 +1,5 @@
--- What the lines of one stream leave of the others, and that a command which is for one stream writes such lines.
+-- A service still shows its journals after one of its streams is changed, added or removed, and after a line of a
+-- lease. A command for one stream adds only lines of this stream.
 use Rattle.std.proofs.Common.{◌≡◌, ◌≢◌, ℕ, ◌+◌, ◌<◌, ◌≤◌, Bool, true, ◌==◌, List, [], ◌∷◌, ◌++◌, remove, slice_get}
 use Rattle.std.proofs.Common.{slice_set}
 use Rattle.std.proofs.Common.{Some, None, refl, sym, ap, subst, ◌∙◌, arith}
@@ -30,8 +31,10 @@ use Rattle.kds_service.proofs.Readings.{up_to}
 use Rattle.kds_service.specs.Lines.{AreOf, IsLineOf, is_within_life}
 use Rattle.kds_service.specs.Shown.{AreAt, AreShown, IsRising, ServiceValue, ShowsAll, is_among, numbers_of, service}
 
--- ---- The law of a stream, as `other_lines` ensures it
+-- ---- The law `other_lines` of the crate `kds_stream`
 
+-- A premise of the lemmas here: a stream that shows a journal also shows this journal with one more line, written at
+-- the stream's clock, about another stream or a lease.
 abbrev pub LinesOfOthers : Type 0
 LinesOfOthers = (v : StreamValue) (log : Journal) (line : Line) → Shows v log → line.clock ≡ v.clock
     → stream_of line.what ≢ Some v.no → Shows v (line ∷ log)
@@ -74,11 +77,12 @@ live_more s t c [] log of = refl
 live_more s t c (line ∷ lines) log of =
     live_more s t c lines (line ∷ log) of.1 ∙ live_same line.what t (is_live log t) of.0.2
 
--- A number above all others is none of theirs.
+-- Let `s` be at most `n`, and `t` above `n`. Then `t` isn't `s`.
 beyond : (n s t : ℕ) → s ≤ n → n < t → t ≡ s → ⊥
 beyond n s t a b e = absurd (omega arith)
 
--- A stream goes on to show the journal with its lines, and so does the service.
+-- Let `v` have the number of the stream `x` at the index `i`. If `v` shows the journal with its own lines added, the
+-- service with `v` in place of `x` shows this journal too.
 pub shows_after : (c b n i : ℕ) (vs : List StreamValue) (x v : StreamValue) (log : Journal) (lines : List Line)
     → LinesOfOthers
     → ShowsAll (service c b n vs) log → slice_get vs i ≡ Some x → v.no ≡ x.no → v.clock ≡ c → AreOf x.no c lines
@@ -103,6 +107,8 @@ shows_after c b n i vs x v log lines law all here numbered clock of shown =
 
 -- ---- A new stream
 
+-- If the new stream `v`, whose number is `n + 1`, shows the journal with the line that makes it, the service with this
+-- stream at the end shows this journal too.
 pub shows_added : (c b n by count : ℕ) (name : List ℕ) (vs : List StreamValue) (v : StreamValue) (log : Journal)
     → LinesOfOthers
     → ShowsAll (service c b n vs) log → v.no ≡ n + 1 → v.clock ≡ c
@@ -133,8 +139,10 @@ shows_added c b n by count name vs v log law all numbered clock shown =
     apart : (n s : ℕ) → n + 1 < s → n + 1 ≡ s → ⊥
     apart n s a e = absurd (omega arith)
 
--- ---- The end of a stream
+-- ---- A stream is deleted
 
+-- If the stream `x` at the index `i` is removed from the service, the service shows the journal with the line that
+-- deletes `x`.
 pub shows_removed : (c b n by i : ℕ) (vs : List StreamValue) (x : StreamValue) (log : Journal) → LinesOfOthers
     → ShowsAll (service c b n vs) log
     → slice_get vs i ≡ Some x → ShowsAll (service c b n (remove vs i)) (plain_line c by (entry.Gone x.no) ∷ log)
@@ -167,6 +175,8 @@ shown_along c (v ∷ vs) line log law at clock none shown = (
   shown_along c vs line log law at.1 clock none shown.1,
 )
 
+-- A service that shows a journal also shows this journal with a line about no stream, such as a line of a lease, at the
+-- service's clock.
 pub shows_lease : (w : ServiceValue) (line : Line) (log : Journal) → LinesOfOthers → ShowsAll w log
     → line.clock ≡ w.clock → stream_of line.what ≡ None
     → ShowsAll w (line ∷ log)
@@ -179,8 +189,9 @@ shows_lease w line log law all clock none = record {
   unmade = λ s later. fresh_other log line s (all.unmade s later) (of_no_stream line.what s none);
 }
 
--- ---- No stream
+-- ---- A service without streams
 
+-- A service in which no stream was ever made shows the empty journal.
 pub shows_none : (c b : ℕ) → ShowsAll (service c b 0 []) []
 shows_none c b = record {
   made = refl;
@@ -216,6 +227,8 @@ module _ (log : Journal) (c by s : ℕ) where
       (sym named ∙ here _ refl, refl, refl))
       (λ sh at n low high. (sym named ∙ here _ refl, refl, refl))
 
+  -- If the command `what` is for the one stream `s`, each line that it adds is about `s`, neither makes nor deletes a
+  -- stream, and is written at the clock `c`.
   pub own_lines : (what : Command) → is_of_stream what ≡ true
       → ((name : List ℕ) → name_of_command what ≡ Some name → stream_named log name ≡ Some s)
       → AreOf s c (lines_of (decide log c by what))

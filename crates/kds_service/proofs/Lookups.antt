@@ -1,4 +1,5 @@
--- Which stream a command is for: how it is refused if there is none, and what the stream is told if there is one.
+-- The service finds the stream that a command is for, refuses a command that is for none as the machine does, and tells
+-- the stream what it must know about the other streams.
 use Rattle.std.proofs.Common.{◌≡◌, ℕ, ◌+◌, Bool, true, false, List, slice_get, Option, Some, None, length, refl, sym}
 use Rattle.std.proofs.Common.{ap, ◌∙◌}
 use Rattle.std.specs.Prelude.{◌-◌, not, if◌then◌else◌}
@@ -28,7 +29,8 @@ use Rattle.kds_service.proofs.Readings.{open_are, own_and_beside}
 use Rattle.kds_service.specs.Places.{expiry, open_beside, index_by_number, index_by, index_for, index_by_name}
 use Rattle.kds_service.specs.Shown.{ServiceValue, ShowsAll, numbers_of}
 
--- A command of the service that makes no stream, deletes none and lists none is for one stream.
+-- A command of the service other than CreateStream, DeleteStream and ListStreams is for one existing stream
+-- (`is_of_stream`).
 pub rest_of : (what : Command) → is_service what ≡ true
     → ((name : List ℕ) (count : ℕ) → what ≡ command.Create name count → ⊥)
     → ((name : List ℕ) → what ≡ command.Delete name → ⊥)
@@ -39,7 +41,7 @@ rest_of (command.Delete name) own makes ends lists = absurd (ends name refl)
 rest_of (command.Streams after limit) own makes ends lists = absurd (lists after limit refl)
 rest_of _ own makes ends lists = own
 
--- ---- The index that is found
+-- ---- The index of the stream that a command is for
 
 pub token_place : (vs : List StreamValue) (what : Command) (s : ℕ) → token_of what ≡ Some s
     → index_for vs what ≡ index_by_number vs s
@@ -51,7 +53,7 @@ name_place vs (command.Records iter limit) name is = absurd cc
 name_place vs (command.More page limit) name is = absurd cc
 name_place vs _ name is = ap (index_by vs None) is
 
--- The stream at the index of a number has the number.
+-- The stream at the index that the search for the number `s` finds has this number.
 pub numbered : (i s : ℕ) (vs : List StreamValue) (x : StreamValue) → index_by_number vs s ≡ Some i
     → slice_get vs i ≡ Some x
     → s ≡ x.no
@@ -69,7 +71,7 @@ young_so : (r : Refusal) (b : Bool) → (if b then Some r else None) ≡ None �
 young_so r true is = absurd cc
 young_so r false is = refl
 
--- A command whose token is too old is refused.
+-- If the token of a command is too old (`expiry`), the machine refuses the command after every journal.
 pub expired_so : (log : Journal) (c by : ℕ) (what : Command) (r : Refusal) → expiry c what ≡ Some r
     → decide log c by what ≡ Refused r
 expired_so log c by (command.Records iter limit) r is = old_so refusal.Expired r (is_old c iter.issued) _ is
@@ -80,7 +82,8 @@ gone : (w : ServiceValue) (s : ℕ) (log : Journal) → index_by_number w.stream
     → not (is_live log s) ≡ true
 gone w s log none all = not_from_false (is_live log s) (all.others s (not_among 0 s (numbers_of w.streams) none))
 
--- A token of no live stream, and a name that no stream has, are refused. What isn't for one stream comes first.
+-- Let the command be for one stream, with a token that isn't too old, if it has one. If no stream of the service has
+-- the number in the token or the name in the command, the machine refuses the command with NoStream.
 pub gone_so : (w : ServiceValue) (log : Journal) (by : ℕ) (what : Command) → ShowsAll w log → is_of_stream what ≡ true
     → expiry w.clock what ≡ None
     → index_for w.streams what ≡ None → decide log w.clock by what ≡ Refused refusal.NoStream
@@ -105,8 +108,10 @@ gone_so w log by (command.More page limit) all own young none =
     ∙ refused_if _ _ _ (gone w page.stream log none all)
 gone_so w log by _ all own young none = with_none _ _ _ (none_named w log _ all none)
 
--- ---- What the stream at the place is told
+-- ---- What the stream at the index is told about the other streams
 
+-- Let `x` be the stream that the command is for. The command's name, if it has one, is that of `x`, and `open_limit` is
+-- how many shards may be open in `x`, given those of the other streams (`IsToldOf`).
 pub told_so : (w : ServiceValue) (log : Journal) (i : ℕ) (x : StreamValue) (what : Command) (open_limit : ℕ)
     → ShowsAll w log
     → slice_get w.streams i ≡ Some x

@@ -1,4 +1,4 @@
--- Names that are sorted are the names as the definition puts them in order.
+-- Names that the code has sorted are the names in the order of the definition (`names_in_order`).
 use Rattle.std.proofs.Common.{◌≡◌, ℕ, suc, ◌+◌, ◌<◌, ◌≤◌, Bool, true, false, List, [], ◌∷◌, ◌++◌, length, drop, map}
 use Rattle.std.proofs.Common.{get_or, slice_get, Some, Bor, refl, sym, ap, subst, ◌∙◌, arith}
 use Rattle.std.specs.Cmp.{IsStrictWeakOrder, tied_itself}
@@ -19,15 +19,17 @@ use Rattle.kds_service.specs.Shown.{names_of}
 
 -- ---- The order of two names
 
+-- The code and the definition agree on whether a comparison's result is "less".
 pub less : (o : Ordering) → is_lt o ≡ is_less o
 less Less = refl
 less Equal = refl
 less Greater = refl
 
--- The order of the names that references show.
+-- Whether the name that the reference `a` shows comes before the name that `b` shows.
 abbrev pub shown_before : Bor (List ℕ) → Bor (List ℕ) → Bool
 shown_before a b = name_before a.now b.now
 
+-- To come before by the names that the elements have (`name`) is a strict weak order.
 pub before_orders : {X : Type 0} (name : X → List ℕ) → IsStrictWeakOrder (λ x y. name_before (name x) (name y))
 before_orders name = subst (λ (test : Ordering → Bool).
     IsStrictWeakOrder (λ x y. test (slice_cmp nat_cmp (name x) (name y)))) (λ i o. less o i)
@@ -40,18 +42,18 @@ order = before_orders (λ name. name)
 not_itself : (name : List ℕ) → name_before name name ≡ false
 not_itself name = ap is_less (tied_itself nat_list_cmp_total name)
 
--- Names that the order doesn't tell apart are one name.
+-- If a comparison finds two names equal, they are the same name.
 one_name : (a b : List ℕ) → slice_cmp nat_cmp a b ≡ Equal → a ≡ b
 one_name a b tied = (bytes_decides a b).0 (texts_ties a b ∙ ap is_eq tied)
 
 -- ---- Names that rise
 
--- None of a list of names comes before `name`.
+-- None of the names in a list comes before `name`.
 abbrev NotBefore : List ℕ → List (List ℕ) → Type 0
 NotBefore name [] = Unit {0}
 NotBefore name (n ∷ ns) = (name_before n name ≡ false) × NotBefore name ns
 
--- No name of a list comes before an earlier one.
+-- The names of a list are sorted: no name comes before an earlier one of the list.
 abbrev AreRising : List (List ℕ) → Type 0
 AreRising [] = Unit {0}
 AreRising (n ∷ ns) = NotBefore n ns × AreRising ns
@@ -66,7 +68,8 @@ not_before_with low name (n ∷ ns) h rest = by (name_before name n) (not_before
     by true more = (h, rest)
     by false more = (rest.0, more)
 
--- Names that aren't before a name aren't before one that isn't after it.
+-- If no name in a list comes before `name`, and `name` doesn't come before `low`, no name in this list comes before
+-- `low`.
 not_before_lower : (low name : List ℕ) (ns : List (List ℕ)) → name_before name low ≡ false → NotBefore name ns
     → NotBefore low ns
 not_before_lower low name [] h rest = tt
@@ -87,7 +90,7 @@ in_order_rise : (ns : List (List ℕ)) → AreRising (names_in_order ns)
 in_order_rise [] = tt
 in_order_rise (n ∷ ns) = rising_with n (names_in_order ns) (in_order_rise ns)
 
--- ---- Sums over names
+-- ---- How many names come before a name
 
 sum_with : (f : List ℕ → ℕ) (name : List ℕ) (ns : List (List ℕ)) → sum_by f (with_name name ns) ≡ f name + sum_by f ns
 sum_with f name [] = sum_by-cons f name []
@@ -102,7 +105,7 @@ sum_in_order : (f : List ℕ → ℕ) (ns : List (List ℕ)) → sum_by f (names
 sum_in_order f [] = refl
 sum_in_order f (n ∷ ns) = omega (arith, sum_with f n (names_in_order ns), sum_in_order f ns, sum_by-cons f n ns)
 
--- The number 1 if the name `n` comes before `name`, or else 0.
+-- The number 1 if the name `n` comes before `name`, and otherwise 0.
 abbrev before : List ℕ → List ℕ → ℕ
 before name n = if name_before n name then 1 else 0
 
@@ -112,9 +115,10 @@ none_before name (n ∷ ns) rest =
     let here : before name n ≡ 0 = ap (λ b. if b then 1 else 0) rest.0 in
     omega (arith, sum_by-cons (before name) n ns, here, none_before name ns rest.1)
 
--- ---- Names that rise, with the same sums, are the same
+-- ---- Sorted lists are equal if as many of their names come before each name
 
--- The first name of a list isn't before the first one of the other.
+-- Let as many names of the list `x ∷ xs` come before `y` as of the list `y ∷ ys`, in which no name comes before its
+-- first name `y`. Then `x` doesn't come before `y`.
 first_not_before : (x y : List ℕ) (xs ys : List (List ℕ)) → NotBefore y ys
     → sum_by (before y) (x ∷ xs) ≡ sum_by (before y) (y ∷ ys) → name_before x y ≡ true → ⊥
 first_not_before x y xs ys rest same h =
@@ -145,7 +149,7 @@ same_names (x ∷ xs) (y ∷ ys) up up' same =
         (first_not_before y x ys xs up.0 (sym (same (before x)))
         (ap is_less (nat_list_cmp_total.antisymm y x ∙ ap ordering_reverse h)))
 
--- ---- Names that references show
+-- ---- References to names
 
 shown_not_before : (x : Bor (List ℕ)) (xs : List (Bor (List ℕ)))
     → ((k : ℕ) → k < length xs → shown_before (get_or xs k x) x ≡ false) → NotBefore x.now (map (λ n. n.now) xs)
@@ -161,7 +165,8 @@ shown_rise (x ∷ xs) h = (
   shown_rise xs (λ i j d up below. h (suc i) (suc j) d (omega arith) (omega arith)),
 )
 
--- What a sort leaves of references to names.
+-- If `ys` has the references of `xs`, sorted by their names, the names of `ys` are those of `xs` in the order of the
+-- definition.
 pub sorted_names : (xs ys : List (Bor (List ℕ))) → IsPermutation xs ys → IsSortedBy shown_before ys
     → map (λ n. n.now) ys ≡ names_in_order (map (λ n. n.now) xs)
 sorted_names xs ys moved sorted =
@@ -172,7 +177,8 @@ sorted_names xs ys moved sorted =
     (λ f. sum_by-IsPermutation f names (map (λ n. n.now) ys)
     (IsPermutation-map (λ (n : Bor (List ℕ)). n.now) xs ys moved) ∙ sym (sum_in_order f names))
 
--- The name of the stream at a place goes to the end of the names so far.
+-- If the name of the stream at the index `i` is appended to the names so far, these, followed by the names of the
+-- streams still to come, are the same list as before.
 pub names_step : (vs : List StreamValue) (i : ℕ) (x : StreamValue) (name : Bor (List ℕ))
     (so_far more : List (Bor (List ℕ))) → slice_get vs i ≡ Some x → name.now ≡ x.name → more ≡ so_far ++ name ∷ []
     → map (λ n. n.now) more ++ names_of (drop (i + 1) vs) ≡ map (λ n. n.now) so_far ++ names_of (drop i vs)
@@ -184,6 +190,7 @@ names_step vs i x name so_far more here named pushed =
     ∙ ap (λ n. map (λ n. n.now) so_far ++ n ∷ left) named
     ∙ ap (λ us. map (λ n. n.now) so_far ++ names_of us) (sym (drop_get vs i x here))
 
+-- If no stream is still to come at the index `i`, the names so far are those of all streams.
 pub names_done : (vs : List StreamValue) (i : ℕ) (names : List (Bor (List ℕ))) → length vs ≤ i
     → map (λ n. n.now) names ++ names_of (drop i vs) ≡ names_of vs → map (λ n. n.now) names ≡ names_of vs
 names_done vs i names past all =

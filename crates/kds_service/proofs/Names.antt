@@ -1,4 +1,4 @@
--- What ListStreams answers.
+-- ListStreams is answered with the names of the service's streams.
 use Rattle.std.proofs.Common.{◌≡◌, ℕ, Bool, List, [], ◌∷◌, filter, map, take, Option, refl, sym, ap, ◌∙◌}
 use Rattle.std.specs.Prelude.{Ok}
 use Rattle.kds_defs.specs.declared.command.Command.TheVariants as command
@@ -15,13 +15,16 @@ named log [] shown = refl
 named log (v ∷ vs) shown = ap (λ n. n ∷ map (name_of log) (numbers_of vs)) shown.0.stored.named
     ∙ ap (λ ns. v.name ∷ ns) (named log vs shown.1)
 
--- The names of the live streams are those of the service.
+-- The names after `after`, in order, are the same in the journal as in the service. If `after` is None, they are all
+-- names.
 after_are : (w : ServiceValue) (log : Journal) (after : Option (List ℕ)) → ShowsAll w log
     → names_after log after ≡ filter (is_after_name after) (names_in_order (names_of w.streams))
 after_are w log after all =
     ap (λ ns. filter (is_after_name after) (names_in_order ns)) (ap (map (name_of log)) (live_are w log all)
     ∙ named log w.streams all.shown)
 
+-- ListStreams is answered with the first `limit` names after `after`, in order, and with whether more names follow. The
+-- streams are unchanged.
 pub streams_listed : (c : ℕ) (vs : List StreamValue) (after : Option (List ℕ)) (limit : ℕ) (names : List (List ℕ))
     (more : Bool) → names ≡ take limit (filter (is_after_name after) (names_in_order (names_of vs)))
     → more ≡ are_more limit (filter (is_after_name after) (names_in_order (names_of vs)))

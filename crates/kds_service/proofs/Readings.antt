@@ -1,4 +1,4 @@
--- What the streams of a service say of the journal that they show.
+-- A service and each journal that it shows agree on the live streams, their names and their numbers of open shards.
 use Rattle.std.proofs.Common.{◌≡◌, ◌≢◌, ℕ, zero, suc, ◌+◌, ◌<◌, ◌≤◌, Bool, true, false, ◌==◌, cond, List, [], ◌∷◌}
 use Rattle.std.proofs.Common.{length, map, slice_get, Option, Some}
 use Rattle.std.proofs.Common.{None, refl, sym, ap, subst, ◌∙◌, arith}
@@ -26,7 +26,8 @@ not_chosen false x y h = refl
 
 -- ---- The live streams
 
--- No live stream has a number above that of the last stream that was made.
+-- Let the journal be new to each stream number above `n` (`IsFresh`). Then the number of each stream that shows the
+-- journal is at most `n`.
 pub up_to : (n : ℕ) (vs : List StreamValue) (log : Journal) → AreShown log vs → ((s : ℕ) → n < s → IsFresh log s)
     → AreUpTo n vs
 up_to n [] log shown unmade = tt
@@ -45,7 +46,7 @@ none_live log low (suc count) dead =
     (dead (low + 1) (omega arith))
     ∙ none_live log (low + 1) count (λ s above. dead s (omega arith))
 
--- Of the numbers above the lowest, those of these streams are live, and no others.
+-- Of the `count` numbers above `low`, those that are live in the journal are the numbers of the streams `vs`.
 live_above : (log : Journal) (low count : ℕ) (vs : List StreamValue) → IsRising low (numbers_of vs)
     → AreUpTo (low + count) vs → AreShown log vs
     → ((s : ℕ) → low < s → is_among (numbers_of vs) s ≡ false → is_live log s ≡ false)
@@ -84,10 +85,11 @@ live_above log low (suc count) (v ∷ vs) rising below shown others =
     later : (n low : ℕ) → (n == low + 1) ≡ false → low < n → low + 1 < n
     later n low e above = let differ : n ≢ low + 1 = eqb-false n (low + 1) e in omega (arith, above)
 
+-- A number is the sum of 0 and itself.
 pub from_zero : (n : ℕ) → n ≡ 0 + n
 from_zero n = omega arith
 
--- The live streams of the journal are those of the service.
+-- The live streams of the journal are those of the service, in the same order.
 pub live_are : (w : ServiceValue) (log : Journal) → ShowsAll w log → live_streams log ≡ numbers_of w.streams
 live_are w log all =
     ap (λ n. filter (is_live log) (numbers_from 1 n)) all.made
@@ -95,6 +97,7 @@ live_are w log all =
     (subst (λ n. AreUpTo n w.streams) (from_zero w.made) (up_to w.made w.streams log all.shown all.unmade)) all.shown
     (λ s above out. all.others s out)
 
+-- The journal has as many live streams as the service.
 pub live_count : (w : ServiceValue) (log : Journal) → ShowsAll w log → length (live_streams log) ≡ length w.streams
 live_count w log all = ap length (live_are w log all) ∙ length-map w.streams (λ v. v.no)
 
@@ -105,27 +108,30 @@ opens log [] shown = refl
 opens log (v ∷ vs) shown =
     omega (arith, ap (λ xs. length (filter is_open xs)) shown.0.stored.shards_are, opens log vs shown.1)
 
+-- The journal has as many open shards as all streams of the service together.
 pub open_are : (w : ServiceValue) (log : Journal) → ShowsAll w log → open_count log ≡ open_total w.streams
 open_are w log all = ap (open_in log) (live_are w log all) ∙ opens log w.streams all.shown
 
--- ---- The stream of a name
+-- ---- The stream with a name
 
--- If the first element passes, the search is over, and otherwise it goes on.
+-- If the first element passes the test `p`, a search that counts from `n` finds the index `n`.
 pub hit : {X : Type 0} (p : X → Bool) (n : ℕ) (x : X) (xs : List X) → p x ≡ true → position_from p n (x ∷ xs) ≡ Some n
 hit p n x xs e = ap (λ b. cond b (Some n) (position_from p (n + 1) xs)) e
 
+-- If the first element doesn't pass the test `p`, the search finds what a search among the other elements finds,
+-- counted from `n + 1`.
 pub missed : {X : Type 0} (p : X → Bool) (n : ℕ) (x : X) (xs : List X) → p x ≡ false
     → position_from p n (x ∷ xs) ≡ position_from p (n + 1) xs
 missed p n x xs e = ap (λ b. cond b (Some n) (position_from p (n + 1) xs)) e
 
--- A search from `n` on finds a place at or above `n`.
+-- A search that counts from `n` finds no index below `n`.
 from_on : {X : Type 0} (p : X → Bool) (n j : ℕ) (xs : List X) → position_from p n xs ≡ Some j → n ≤ j
 from_on p n j [] is = absurd (none-some j is)
 from_on p n j (x ∷ xs) is =
     either_way (p x) (λ e. let same : n ≡ j = same_some n j (sym (hit p n x xs e) ∙ is) in omega arith)
     (λ e. let rest = from_on p (n + 1) j xs (sym (missed p n x xs e) ∙ is) in omega arith)
 
--- The first index is found exactly if the first element passes.
+-- If the search that counts from `n` finds `n`, the first element passes the test `p`.
 pub first_passes : {X : Type 0} (p : X → Bool) (n : ℕ) (x : X) (xs : List X) → position_from p n (x ∷ xs) ≡ Some (n + 0)
     → p x ≡ true
 first_passes p n x xs is =
@@ -134,6 +140,8 @@ first_passes p n x xs is =
     short : (n : ℕ) → n + 1 ≤ n + 0 → ⊥
     short n h = absurd (omega arith)
 
+-- If the search that counts from `n` finds a later index, the first element doesn't pass the test `p`, and a search
+-- among the other elements finds this index.
 pub later_fails : {X : Type 0} (p : X → Bool) (n i : ℕ) (x : X) (xs : List X)
     → position_from p n (x ∷ xs) ≡ Some (n + suc i)
     → (p x ≡ false) × (position_from p (n + 1) xs ≡ Some (n + 1 + i))
@@ -145,7 +153,7 @@ later_fails p n i x xs is =
     past : (n i : ℕ) → n ≡ n + suc i → ⊥
     past n i h = absurd (omega arith)
 
--- What is found passes.
+-- If the search among the values of `f` finds an index, the value of the element at this index passes the test `p`.
 pub found_passes : {X Y : Type 0} (f : X → Y) (p : Y → Bool) (n i : ℕ) (xs : List X) (x : X)
     → position_from p n (map f xs) ≡ Some (n + i)
     → slice_get xs i ≡ Some x → p (f x) ≡ true
@@ -155,6 +163,8 @@ found_passes f p n zero (y ∷ ys) x is here =
 found_passes f p n (suc i) (y ∷ ys) x is here =
     found_passes f p (n + 1) i ys x (later_fails p n i (f y) (map f ys) is).1 here
 
+-- If the search finds no index, the first element doesn't pass the test `p`, and the search among the other elements
+-- finds none.
 pub none_passes : {X : Type 0} (p : X → Bool) (n : ℕ) (x : X) (xs : List X) → position_from p n (x ∷ xs) ≡ None
     → (p x ≡ false) × (position_from p (n + 1) xs ≡ None)
 none_passes p n x xs none =
@@ -191,6 +201,7 @@ module _ (log : Journal) (name : List ℕ) where
       let rest = none_passes (same_name name) n v.name (names_of vs) none in
       here_or_rest v vs false shown.0 rest.0 ∙ none_named_from (n + 1) vs shown.1 rest.1
 
+-- The stream at the index that the service finds for the name `name` is the live stream of this name in the journal.
 pub named_at : (w : ServiceValue) (log : Journal) (name : List ℕ) (i : ℕ) (x : StreamValue) → ShowsAll w log
     → index_by_name w.streams name ≡ Some i
     → slice_get w.streams i ≡ Some x → stream_named log name ≡ Some x.no
@@ -198,6 +209,7 @@ named_at w log name i x all is here =
     ap (find (λ s. same_name (name_of log s) name)) (live_are w log all)
     ∙ named_from log name 0 i w.streams x all.shown (is ∙ ap Some (from_zero i)) here
 
+-- If no stream of the service has the name `name`, no live stream in the journal has it.
 pub none_named : (w : ServiceValue) (log : Journal) (name : List ℕ) → ShowsAll w log
     → index_by_name w.streams name ≡ None
     → stream_named log name ≡ None
@@ -213,6 +225,7 @@ at_place n zero (v ∷ vs) name is = (v, refl)
 at_place n (suc i) (v ∷ vs) name is =
     at_place (n + 1) i vs name (later_fails (same_name name) n i v.name (names_of vs) is).1
 
+-- A live stream in the journal has the name `name` exactly if a stream of the service has it.
 pub some_named : (w : ServiceValue) (log : Journal) (name : List ℕ) → ShowsAll w log
     → is_some (stream_named log name) ≡ is_some (index_by_name w.streams name)
 some_named w log name all = by (index_by_name w.streams name) refl
@@ -224,13 +237,15 @@ some_named w log name all = by (index_by_name w.streams name) refl
         let x = at_place 0 i w.streams name (e ∙ ap Some (from_zero i)) in
         ap is_some (named_at w log name i x.0 all e x.1) ∙ ap is_some (sym e)
 
--- ---- The stream of a number
+-- ---- The stream with a number
 
+-- The stream at the index that a search for the number `s` finds has this number. The search counts from `n`.
 pub number_at : (n i s : ℕ) (vs : List StreamValue) (x : StreamValue)
     → position_from (λ m. m == s) n (numbers_of vs) ≡ Some (n + i) → slice_get vs i ≡ Some x
     → s ≡ x.no
 number_at n i s vs x is here = sym (eqb-true x.no s (found_passes (λ v. v.no) (λ m. m == s) n i vs x is here))
 
+-- If the search for the number `s` finds no index, `s` isn't among the numbers.
 pub not_among : (n s : ℕ) (ns : List ℕ) → position_from (λ m. m == s) n ns ≡ None → is_among ns s ≡ false
 not_among n s [] none = refl
 not_among n s (m ∷ ns) none =
@@ -251,12 +266,14 @@ beside log s (v ∷ vs) shown = by (v.no == s) (beside log s vs shown.1)
     by true rest = omega arith
     by false rest = omega (arith, ap (λ xs. length (filter is_open xs)) shown.0.stored.shards_are, rest)
 
+-- The streams other than `s` have as many open shards in the journal as in the service.
 pub beside_is : (w : ServiceValue) (log : Journal) (s : ℕ) → ShowsAll w log
     → open_elsewhere log s ≡ open_beside w.streams s
 beside_is w log s all = ap (λ ns. open_in log (filter (λ t. not (t == s)) ns)) (live_are w log all)
     ∙ beside log s w.streams all.shown
 
--- The shards open beside a stream and its own are all open shards.
+-- If the numbers of all streams are above `s`, the streams other than `s` are all streams, and so they have all open
+-- shards.
 all_beside : (s : ℕ) (vs : List StreamValue) → IsRising s (numbers_of vs) → open_beside vs s ≡ open_total vs
 all_beside s [] rising = refl
 all_beside s (v ∷ vs) rising =
@@ -264,6 +281,8 @@ all_beside s (v ∷ vs) rising =
     not_chosen (v.no == s) 0 _ (is_other v.no s (λ e. absurd (omega (arith, rising.0, e)))) in
     omega (arith, own, all_beside s vs (rising_from s v.no (numbers_of vs) (omega (arith, rising.0)) rising.1))
 
+-- Let the numbers of the streams rise. Then the open shards of all streams are as many as those of the stream `x` and
+-- those of the other streams together.
 pub own_and_beside : (i low : ℕ) (vs : List StreamValue) (x : StreamValue) → IsRising low (numbers_of vs)
     → slice_get vs i ≡ Some x
     → open_total vs ≡ open_beside vs x.no + length (filter is_open x.tree)
@@ -282,8 +301,9 @@ own_and_beside (suc i) low (v ∷ vs) x rising here =
     not_chosen (v.no == x.no) 0 _ (is_other v.no x.no (λ e. absurd (omega arith))) in
     omega (arith, all, own_and_beside i v.no vs x rising.1 here)
 
--- ---- The stream of a name has just this name
+-- ---- The stream found by a name has this name
 
+-- The stream at the index that the search for the name `name` finds has this name.
 pub has_name : (name : List ℕ) (i : ℕ) (vs : List StreamValue) (x : StreamValue) → index_by_name vs name ≡ Some i
     → slice_get vs i ≡ Some x → name ≡ x.name
 has_name name i vs x is here =

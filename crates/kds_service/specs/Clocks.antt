@@ -1,10 +1,12 @@
--- The streams of a service at a later clock, back at the earlier one, and without what is trimmed.
+-- Defines the streams of a service after its clock advances, after it retreats to the earlier clock, and after a
+-- settling, which removes trimmed records.
 use Rattle.std.specs.Prelude.{ℕ, zero, suc, nat_lt, if◌then◌else◌, List, [], ◌∷◌, length, map}
 use Rattle.kds_base.specs.Circle.{next_of}
 use Rattle.kds_stream.specs.Value.{StreamValue, cut_at, later_cut, settled}
 use Rattle.kds_service.specs.Shown.{AreAt, ServiceValue}
 
--- The stream `v` at the later clock `c`, which remembers the earlier clock.
+-- The stream `v` after its clock advances to `c`. Its cut (the trim horizon) becomes the later of its old cut and the
+-- cut that its retention gives at `c`. It remembers its old clock and its old cut.
 abbrev pub advanced : ℕ → StreamValue → StreamValue
 advanced c v = record v {
   clock = c;
@@ -13,22 +15,24 @@ advanced c v = record v {
   cut_before = v.cut;
 }
 
--- The stream `v` at the clock that it remembers.
+-- The stream `v` with the clock and the cut that it remembers, in place of its present ones.
 abbrev pub retreated : StreamValue → StreamValue
 retreated v = record v { clock = v.clock_before; cut = v.cut_before }
 
--- A list of streams in which the one at the index `n` is settled: one of its logs has lost its trimmed records.
+-- The streams of a list after the stream at the index `n` is settled: one of its logs loses its trimmed records
+-- (`settled`). If the list has no index `n`, nothing changes.
 abbrev pub settled_in : ℕ → List StreamValue → List StreamValue
 settled_in n [] = []
 settled_in zero (v ∷ vs) = settled v ∷ vs
 settled_in (suc n) (v ∷ vs) = v ∷ settled_in n vs
 
--- The service `w` at the clock that it remembers.
+-- The service `w` with the clock that it remembers, in place of its present one. Each of its streams goes back to the
+-- clock and the cut that the stream remembers (`retreated`).
 abbrev pub retreated_service : ServiceValue → ServiceValue
 retreated_service w = record w { clock = w.clock_before; streams = map retreated w.streams }
 
--- Every stream of the service `w` remembers the service's earlier clock. This is so after an advance, until something
--- is changed.
+-- The clock that each stream of the service `w` remembers is the one that `w` remembers. This is so after an advance,
+-- until a stream is changed or settled.
 abbrev pub CanRetreat : ServiceValue → Type 0
 CanRetreat w = AreAt w.clock_before (map retreated w.streams)
 

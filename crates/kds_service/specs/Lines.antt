@@ -1,4 +1,4 @@
--- The lines that a command for one stream may write.
+-- Defines the lines that a command for one existing stream may add to a journal.
 use Rattle.std.specs.Prelude.{ℕ, ◌≡◌, Bool, true, false, List, Some}
 use Rattle.std.specs.List.{AllByRecursion}
 use Rattle.kds_defs.specs.declared.entry.Entry.{Entry}
@@ -12,10 +12,10 @@ is_within_life (entry.Made s name count) = false
 is_within_life (entry.Gone s) = false
 is_within_life _ = true
 
--- The line `line` is about stream `s`, which lives before and after it, and is written at the clock `c`.
+-- The line `line` is about stream `s`, neither makes nor deletes a stream, and is written at the clock `c`.
 abbrev pub IsLineOf : ℕ → ℕ → Line → Type 0
 IsLineOf s c line = (stream_of line.what ≡ Some s) × (line.clock ≡ c) × (is_within_life line.what ≡ true)
 
--- Each of `lines` is about stream `s`, which lives before and after it, and is written at the clock `c`.
+-- Each of `lines` is about stream `s`, neither makes nor deletes a stream, and is written at the clock `c`.
 abbrev pub AreOf : ℕ → ℕ → List Line → Type 0
 AreOf s c lines = AllByRecursion (IsLineOf s c) lines

@@ -1,4 +1,5 @@
--- Which journals the streams of a service show.
+-- Defines which journals the streams of a service show (represent), and when a command leads from one service to
+-- another.
 use Rattle.std.specs.Prelude.{ℕ, ◌≡◌, ◌+◌, ◌==◌, ◌||◌, ◌<◌, ◌++◌, Bool, false, List, [], ◌∷◌, map, remove, slice_get}
 use Rattle.std.specs.Prelude.{slice_set, Result, Some}
 use Rattle.std.specs.List.{AllByRecursion}
@@ -14,8 +15,8 @@ use Rattle.kds_stream.specs.Showing.{Shows}
 use Rattle.kds_stream.specs.Value.{StreamValue}
 use Rattle.kds_service.specs.Lines.{AreOf}
 
--- What contracts see of a service: its clock, what the clock was before the last advance, how many streams were made,
--- the live streams in the order of their numbers, and the index of the stream that is settled next.
+-- What contracts see of a service: its clock, the earlier clock to which it may retreat, how many streams were ever
+-- made, the live streams in the order of their numbers, and the index of the stream that is settled next.
 pub record ServiceValue : Type 0 where
   pub clock : ℕ
   pub clock_before : ℕ
@@ -23,7 +24,8 @@ pub record ServiceValue : Type 0 where
   pub streams : List StreamValue
   pub next_to_settle : ℕ
 
--- The service with these fields, in which the first stream is settled next.
+-- The service at the clock `c`, whose earlier clock is `b`. In it `n` streams were ever made, the streams `vs` are
+-- live, and the first of them is settled next.
 abbrev pub service : ℕ → ℕ → ℕ → List StreamValue → ServiceValue
 service c b n vs = record { clock = c; clock_before = b; made = n; streams = vs; next_to_settle = 0 }
 
@@ -47,11 +49,13 @@ abbrev pub is_among : List ℕ → ℕ → Bool
 is_among [] s = false
 is_among (n ∷ ns) s = (n == s) || is_among ns s
 
--- Each of the streams `vs` shows the journal `log`.
+-- Each of the streams `vs` shows (represents) the journal `log`.
 abbrev pub AreShown : Journal → List StreamValue → Type 0
 AreShown log vs = AllByRecursion (λ v. Shows v log) vs
 
--- The live streams of the journal `log` are those of the service `w`, and as many streams were made in `log` as in `w`.
+-- The service `w` shows the journal `log`: as many streams were made in `log` as in `w`, and the streams of `w` are at
+-- its clock, in the rising order of their numbers, and each shows `log`. A stream that isn't in `w` isn't live in
+-- `log`, and `log` says nothing of a stream with a greater number than `w.made_count` (`IsFresh`).
 pub record ShowsStreams (w : ServiceValue) (log : Journal) : Type 0 where
   pub made : made_count log ≡ w.made
   pub at : AreAt w.clock w.streams
@@ -60,43 +64,50 @@ pub record ShowsStreams (w : ServiceValue) (log : Journal) : Type 0 where
   pub others : (s : ℕ) → is_among (numbers_of w.streams) s ≡ false → is_live log s ≡ false
   pub unmade : (s : ℕ) → w.made < s → IsFresh log s
 
--- The service `w` shows the journal `log`, whichever of its streams is settled next.
+-- The service `w` shows a journal (`ShowsStreams`). Which of its streams is settled next doesn't matter.
 abbrev pub ShowsAll : ServiceValue → Journal → Type 0
 ShowsAll w = ShowsStreams (record w { next_to_settle = 0 })
 
--- The statement `holds` is true at every clock, of every journal that the streams `vs` show at it.
+-- The statement `holds` is true of each journal that a service with the streams `vs` shows, together with this
+-- service's clock.
 abbrev pub InJournalsOf : List StreamValue → (Journal → ℕ → Type 0) → Type 0
 InJournalsOf vs holds = (c b n : ℕ) (log : Journal) → ShowsAll (service c b n vs) log → holds log c
 
--- ---- What the lines of one stream leave of the others
+-- ---- The service still shows the journal after a stream is changed, added or removed
 
+-- In this module, the service has the clock `c`, the earlier clock `b` and the streams `vs`, and `n` streams were ever
+-- made. The journal `log` is the one before the change.
 module _ (c b n : ℕ) (vs : List StreamValue) (log : Journal) where
-  -- The service shows the journal with the lines `lines` of the stream `x` at the place `i`, once the stream `v` at
-  -- this place shows them.
+  -- Let `lines` be about the stream `x` at the index `i`, and let `v` have the number of `x` and the clock `c`. If `v`
+  -- shows the journal with `lines` added, the service with `v` in place of `x` shows this journal too.
   abbrev pub StaysShown : ℕ → StreamValue → StreamValue → List Line → Type 0
   StaysShown i x v lines =
       slice_get vs i ≡ Some x → v.no ≡ x.no → v.clock ≡ c → AreOf x.no c lines → Shows v (with_lines lines log)
       → ShowsAll (service c b n (slice_set vs i v)) (with_lines lines log)
 
-  -- The service shows the journal with the line of the new stream `v`, once this stream stands last.
+  -- Let the new stream `v` have the number `n + 1` and the clock `c`. If `v` shows the journal with the line by which
+  -- the actor `by` makes it, the service with `v` added at the end shows this journal too. The line has the stream's
+  -- name and its number of shards, `count`.
   abbrev pub StaysShownWith : StreamValue → ℕ → List ℕ → ℕ → Type 0
   StaysShownWith v by name count =
       let made : Line = plain_line c by (entry.Made (n + 1) name count) in
       v.no ≡ n + 1 → v.clock ≡ c → Shows v (made ∷ log) → ShowsAll (service c b (n + 1) (vs ++ v ∷ [])) (made ∷ log)
 
-  -- The service shows the journal with the line that deletes the stream `x` at the place `i`, once this stream is
-  -- removed.
+  -- If the stream `x` at the index `i` is removed, the service shows the journal with the line by which the actor `by`
+  -- deletes `x`.
   abbrev pub StaysShownWithout : ℕ → StreamValue → ℕ → Type 0
   StaysShownWithout i x by = slice_get vs i ≡ Some x
       → ShowsAll (service c b n (remove vs i)) (plain_line c by (entry.Gone x.no) ∷ log)
 
--- The command `what`, at the service's clock, is answered with `gives` and leads from the service `old` to `new`.
+-- After each journal that the service `old` shows, the command `what` of any actor at the service's clock is answered
+-- with `gives`, and the service `new` shows this journal with the lines of the command.
 abbrev pub Leads : ServiceValue → ServiceValue → Command → Result Reply Refusal → Type 0
 Leads old new what gives = (log : Journal) (by : ℕ) → ShowsAll old log
     → (gives ≡ answer_of (decide log old.clock by what))
     × ShowsAll new (with_lines (lines_of (decide log old.clock by what)) log)
 
--- The command `what`, which makes no stream, is answered with `gives` and leads from the streams `vs` to `ws` at the
--- clock `c`.
+-- The command `what`, which makes no stream, leads from a service with the streams `vs` to the service with the streams
+-- `ws` and the answer `gives` (`Leads`). Both have the clock `c`, the same earlier clock, and the same number of
+-- streams ever made.
 abbrev pub LeadsTo : ℕ → List StreamValue → List StreamValue → Command → Result Reply Refusal → Type 0
 LeadsTo c vs ws what gives = (b n : ℕ) → Leads (service c b n vs) (service c b n ws) what gives

@@ -14,8 +14,8 @@ use kds_stream::Stream;
 use std::alloc::Global;
 
 /// Creates a stream with `shards` shards, and adds it after the other streams (Kinesis API Reference, CreateStream).
-/// `made` is the greatest stream number so far, including deleted streams. The new stream gets the next number, and
-/// `made` is raised to this number.
+/// `made_count` is the greatest stream number so far, including deleted streams. The new stream gets the next number,
+/// and `made_count` is raised to this number.
 pub fn create(
     alloc: Global,
     streams: &mut Streams,

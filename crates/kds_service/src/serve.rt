@@ -17,8 +17,8 @@ use kds_base::{Memory, Moment};
 use kds_defs::{Answer, Command, Refusal};
 use std::alloc::Global;
 
-/// Serves a command for the stream service at the time `clock`, which must be the clock of every stream. `made` is the
-/// number of streams that were ever created.
+/// Serves a command for the stream service at the time `clock`, which must be the clock of every stream. `made_count`
+/// is the number of streams that were ever created.
 pub fn serve(
     alloc: Global,
     streams: &mut Streams,

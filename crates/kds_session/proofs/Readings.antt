@@ -1,4 +1,4 @@
--- Bytes fall into messages in one way at most, and more bytes change no message that was read.
+-- The bytes of a connection fall into messages in one way at most, and further bytes change no message that was read.
 use Rattle.std.proofs.Common.{◌≡◌, ◌≢◌, ℕ, ◌+◌, ◌-◌, ◌<◌, ◌≤◌, Option, Some, None, List, [], ◌∷◌, ◌++◌, length, take}
 use Rattle.std.proofs.Common.{drop, sym, ap, ◌∙◌, subst, arith, refl, inl, inr, Bool, true, false}
 use Rattle.std.specs.Prelude.{MatchBool, ◌==◌, ◌||◌, nat_le}
@@ -17,18 +17,20 @@ use Rattle.kds_session.specs.declared.limits.TheConstants.{UNREAD_BYTES}
 use Rattle.kds_session.specs.Standing.{GoesOn, going, end_in}
 use Rattle.kds_session.specs.Steps.{IsKept}
 
--- What is decided of a head stays decided when more bytes come.
+-- If bytes begin with a whole head or with a head that is refused, they still do so when more bytes follow.
 abbrev pub HeadStays : Type 0
 HeadStays = (bytes more : List ℕ) (found : Found) → IsFound bytes found → found ≢ Need → IsFound (bytes ++ more) found
 
--- The laws of heads on which the readings rest.
+-- The laws of heads on which the lemmas of this file rest. Bytes have at most one finding: a whole head, a refused
+-- head, or that more bytes are needed. A head that was found stays when more bytes follow, and a finding is within the
+-- limits. If there are no bytes, more are needed.
 pub record HeadLaws : Type 0 where
   pub one : (bytes : List ℕ) (found other : Found) → IsFound bytes found → IsFound bytes other → found ≡ other
   pub stays : HeadStays
   pub limits : (bytes : List ℕ) (found : Found) → IsFound bytes found → IsWithinLimits bytes found
   pub none : IsFound [] Need
 
--- ---- One way
+-- ---- Bytes fall into messages in one way at most
 
 same_head : (h k : Head) → Whole h ≡ Whole k → h ≡ k
 same_head h k e = cc
@@ -45,6 +47,7 @@ need_whole h e = cc
 refused_whole : (s : ℕ) (h : Head) → Refused s ≡ Whole h → ⊥
 refused_whole s h e = cc
 
+-- Bytes begin with one whole message at most.
 pub same_message : HeadLaws → (bytes : List ℕ) (m n : Message) → Begins bytes m → Begins bytes n → m ≡ n
 same_message laws bytes m n a b =
     a.1 ∙ ap (λ (k : Head). message_at bytes k) (same_head _ _ (laws.one bytes _ _ a.0.found b.0.found)) ∙ sym b.1
@@ -52,7 +55,7 @@ same_message laws bytes m n a b =
 some_size : HeadLaws → (bytes : List ℕ) (m : Message) → Begins bytes m → 0 < size m.head
 some_size laws bytes m b = let within = laws.limits bytes (Whole m.head) b.0.found in omega (arith, within.some)
 
--- If no message is whole, none begins.
+-- Bytes that don't begin with a whole message yet (`IsUnfinished`) begin with no message.
 unfinished_begins : HeadLaws → (bytes : List ℕ) (m : Message) → IsUnfinished bytes → Begins bytes m → ⊥
 unfinished_begins laws bytes m (inl need) b = need_whole m.head (laws.one bytes _ _ need b.0.found)
 unfinished_begins laws bytes m (inr short) b =
@@ -60,6 +63,7 @@ unfinished_begins laws bytes m (inr short) b =
     let s : size short.0 ≡ size m.head = ap size h in
     absurd (omega (arith, s, short.1.short, b.0.whole))
 
+-- Bytes that end a connection, in any way but by a message that closes it, begin with no whole message.
 pub ends_begins : HeadLaws → (bytes : List ℕ) (e : Ending) (m : Message) → Ends bytes e → Begins bytes m → ⊥
 ends_begins laws bytes boundary m e b = let some = some_size laws bytes m b in
     absurd (omega (arith, some, b.0.whole, ap length e))
@@ -93,6 +97,7 @@ one_ending laws bytes closed f a b = absurd a
 cons_same : (m n : Message) (ms ns : List Message) → m ≡ n → ms ≡ ns → m ∷ ms ≡ n ∷ ns
 cons_same m n ms ns e f = cc
 
+-- Bytes that come after `before` messages of a connection fall into messages, and have an ending, in one way at most.
 pub one_way : HeadLaws → (before : ℕ) (bytes : List ℕ) (ms ns : List Message) (e f : Ending) → Falls before bytes ms e
     → Falls before bytes ns f → (ms ≡ ns) × (e ≡ f)
 one_way laws before bytes [] [] e f a b = (refl, one_ending laws bytes e f a b)
@@ -115,9 +120,9 @@ one_way laws before bytes (m ∷ ms) (n ∷ ns) e f a b =
     by_close true ms ns e f P Q go a b = (a.0 ∙ sym b.0, a.1 ∙ sym b.1)
     by_close false ms ns e f P Q go a b = go a b
 
--- ---- More bytes
+-- ---- More bytes follow
 
--- A whole message stands at the front.
+-- If bytes begin with the head `head` and its whole body, they begin with the message that these make.
 pub begins_at : (bytes : List ℕ) (head : Head) → IsWhole bytes head → Begins bytes (message_at bytes head)
 begins_at bytes head whole = (whole, refl)
 
@@ -129,6 +134,7 @@ body_more bytes more head whole =
     let room : head.body ≤ length (drop head.length bytes) = omega (arith, whole, length-drop head.length bytes) in
     sym (ap (λ z. take head.body z) first ∙ take-append-le head.body (drop head.length bytes) more room)
 
+-- Bytes that begin with the message `m` still do so when more bytes follow.
 pub begins_more : HeadLaws → (bytes more : List ℕ) (m : Message) → Begins bytes m → Begins (bytes ++ more) m
 begins_more laws bytes more m b = (
   record {
@@ -142,7 +148,8 @@ begins_more laws bytes more m b = (
 rest_more : (bytes more : List ℕ) (m : Message) → Begins bytes m → rest_of (bytes ++ more) m ≡ rest_of bytes m ++ more
 rest_more bytes more m b = drop-append-le (size m.head) bytes more b.0.whole
 
--- The test for the last message, as the code makes it.
+-- Let `done` requests be read and at least one be left of REQUESTS. The next request is the last one that is allowed
+-- exactly if at most one is left.
 pub last_is : (done left : ℕ) → done + left ≡ REQUESTS → 0 < left → (done + 1 == REQUESTS) ≡ nat_le left 1
 last_is done left e some = grind (arith, nat_tests)
 
@@ -156,9 +163,9 @@ of_false : (b : Bool) (P Q : Type 0) → b ≡ false → MatchBool b P Q → Q
 of_false true P Q e q = absurd (cc e)
 of_false false P Q e q = q
 
--- ---- A connection that goes on
+-- ---- A connection that goes on, and how it ends
 
--- More bytes are fed.
+-- A connection that goes on (`GoesOn`) still goes on after further bytes are fed.
 pub goes_fed : (fed : List ℕ) (done : List Message) (left : ℕ) (unread bytes : List ℕ) → GoesOn fed done left unread
     → GoesOn (fed ++ bytes) done left (unread ++ bytes)
 goes_fed fed done left unread bytes g = record {
@@ -178,7 +185,8 @@ not_last : (n left : ℕ) (close : Bool) → n + left ≡ REQUESTS → 0 < left 
 not_last n left true e some h = absurd (cc)
 not_last n left false e some h = grind (arith, nat_tests)
 
--- The unread bytes begin with a message that doesn't close the connection. So what they fall into begins with it.
+-- Let the unread bytes begin with the message `m`, which doesn't close the connection. Then the messages into which
+-- they and any bytes after them fall begin with `m`, and the bytes after `m` fall into the other messages.
 past : HeadLaws → (n : ℕ) (unread more : List ℕ) (m : Message) (ms : List Message) (e : Ending) → Begins unread m
     → closes_after (n + 1) m.head ≡ false
     → Falls n (unread ++ more) ms e → (rest : List Message) × (ms ≡ m ∷ rest)
@@ -196,7 +204,8 @@ past laws n unread more m (k ∷ ms) e b close f =
           (of_false (closes_after (n + 1) m.head) _ _ close after),
     )
 
--- A further message is done.
+-- A connection that goes on (`GoesOn`) still goes on after the message `m` is read, if `m` doesn't close it. One
+-- request fewer is then left.
 pub goes_past : HeadLaws → (fed : List ℕ) (done : List Message) (left : ℕ) (unread : List ℕ) (m : Message)
     → GoesOn fed done left unread → Begins unread m
     → closes_after (length done + 1) m.head ≡ false → GoesOn fed (done ++ m ∷ []) (left - 1) (rest_of unread m)
@@ -224,7 +233,8 @@ goes_past laws fed done left unread m g b more_come =
           );
     }
 
--- The last message is done.
+-- After a message that closes the connection was read, the bytes that were fed, with any bytes after them, fall into
+-- the messages up to this one.
 pub goes_last : HeadLaws → (fed : List ℕ) (done : List Message) (left : ℕ) (unread : List ℕ) (m : Message)
     → GoesOn fed done left unread → Begins unread m
     → closes_after (length done + 1) m.head ≡ true → (more : List ℕ) → Falls 0 (fed ++ more) (done ++ m ∷ []) closed
@@ -234,7 +244,8 @@ goes_last laws fed done left unread m g b close more =
       match_true (closes_after (length done + 1) m.head) _ _ close (refl, refl),
     )
 
--- The connection is refused.
+-- If the unread bytes begin with a head that is refused, the bytes that were fed, with any bytes after them, fall into
+-- the messages `done` and end with this refusal.
 pub goes_refused : HeadStays → (fed : List ℕ) (done : List Message) (left : ℕ) (unread : List ℕ) (s : ℕ)
     → GoesOn fed done left unread → IsFound unread (Refused s)
     → (more : List ℕ) → Falls 0 (fed ++ more) done (refused s)
@@ -249,18 +260,21 @@ at_end fed done left unread e g f =
     (subst (λ (z : List Message). Falls 0 (fed ++ []) z e) (append-nil done)
     (g.onward [] [] e (subst (λ (z : List ℕ). Ends z e) (sym (append-nil unread)) f)))
 
--- The bytes end here.
+-- If no whole message is unread, the bytes that were fed fall into the messages `done`. They end between two messages
+-- if nothing is unread, and otherwise inside a message.
 pub goes_ending : (fed : List ℕ) (done : List Message) (left : ℕ) (unread : List ℕ) → GoesOn fed done left unread
     → IsUnfinished unread → Falls 0 fed done (end_in going unread)
 goes_ending fed done left [] g u = at_end fed done left [] boundary g refl
 goes_ending fed done left (x ∷ xs) g u = at_end fed done left (x ∷ xs) inside g (omega arith, u)
 
--- ---- The test of a body
+-- ---- Whether the body is whole
 
+-- If bytes begin with the head `head` and are at least as many as the message, they begin with the whole message.
 pub whole_by : (bytes : List ℕ) (head : Head) → IsFound bytes (Whole head) → nat_le (size head) (length bytes) ≡ true
     → IsWhole bytes head
 whole_by bytes head f e = record { found = f; whole = le_so _ _ e }
 
+-- If bytes begin with the head `head` and are fewer than the message, they end before its body does.
 pub short_by : (bytes : List ℕ) (head : Head) → IsFound bytes (Whole head) → nat_le (size head) (length bytes) ≡ false
     → IsShort bytes head
 short_by bytes head f e = record { found = f; short = above_so _ _ e }
@@ -271,6 +285,7 @@ few_bytes : (n size length body : ℕ) → n < size → size ≡ length + body �
     → n < HEAD_BYTES + BODY_BYTES
 few_bytes n size length body h e a b = omega arith
 
+-- The unread bytes of an unfinished message are fewer than the greatest head and the greatest body together.
 pub unfinished_short : ((bytes : List ℕ) (found : Found) → IsFound bytes found → IsWithinLimits bytes found)
     → (bytes : List ℕ) → IsUnfinished bytes → length bytes < HEAD_BYTES + BODY_BYTES
 unfinished_short limits bytes (inl need) = let few = limits bytes Need need in omega arith
@@ -280,12 +295,15 @@ unfinished_short limits bytes (inr short) =
 
 -- ---- A head that is kept
 
+-- If bytes begin with the head `kept`, they still do so when more bytes follow. This also holds if no head is kept.
 pub kept_more : HeadStays → (bytes more new : List ℕ) (kept : Option Head) → new ≡ bytes ++ more → IsKept bytes kept
     → IsKept new kept
 kept_more stays bytes more new None e k = tt
 kept_more stays bytes more new (Some h) e k =
     subst (λ (z : List ℕ). IsFound z (Whole h)) (sym e) (stays bytes more (Whole h) k (λ e. need_whole h (sym e)))
 
+-- Let there be at most UNREAD_BYTES unread bytes. If no more bytes are fed than the rest of this limit, there are still
+-- at most UNREAD_BYTES.
 pub fed_fits : (bytes more new : List ℕ) → new ≡ bytes ++ more → length more ≤ UNREAD_BYTES - length bytes
     → length bytes ≤ UNREAD_BYTES → length new ≤ UNREAD_BYTES
 fed_fits bytes more new e room few = let n : length new ≡ length bytes + length more =

@@ -1,4 +1,5 @@
--- The responses to a further message.
+-- One more message adds its response behind the responses to the messages before it. Further messages and answers don't
+-- change the responses before.
 use Rattle.std.proofs.Common.{◌≡◌, ℕ, ◌+◌, List, [], ◌∷◌, ◌++◌, length, sym, ap, ◌∙◌, arith, refl, Bool, Result, Ok}
 use Rattle.std.proofs.Common.{Err}
 use Rattle.std.proofs.lemmas.List.{append_assoc, append-nil}
@@ -8,13 +9,15 @@ use Rattle.kds_reply.specs.Replies.{reply_of, fault_reply}
 use Rattle.kds_session.specs.Messages.{Message, closes_after}
 use Rattle.kds_session.specs.Text.{Answers, asked_by, command_of, commands, answered, respond, responses}
 
+-- One more message adds its command, if it asks for one, to the commands of the messages `done`.
 pub commands-push : (done : List Message) (m : Message)
     → commands (done ++ m ∷ []) ≡ commands done ++ command_of (asked_by m)
 commands-push [] m = append-nil (command_of (asked_by m))
 commands-push (d ∷ done) m = ap (λ z. command_of (asked_by d) ++ z) (commands-push done m)
     ∙ sym (append_assoc (command_of (asked_by d)) (commands done) (command_of (asked_by m)))
 
--- What a message adds to the text, if the answers `left` are left.
+-- What one message adds to the responses: to a command, the response with the first of the answers `left`, or nothing
+-- if no answer is left, and to a fault, the fault's own response.
 abbrev pub adds : Result Command Fault → Bool → Answers → List ℕ
 adds r close left = respond r close left (λ answers. [])
 
@@ -31,6 +34,8 @@ respond_push (Ok what) close (a ∷ told) left rest later more end go len =
     ap (λ z. answered (reply_of a) close ++ z) (go told (omega arith))
     ∙ sym (append_assoc (answered (reply_of a) close) (later told) end)
 
+-- The responses to `done` and one more message are those to `done`, followed by the response to this message. The
+-- answers `told` are those to the commands of `done`, and `left` are the answers after them.
 pub responses-push : (before : ℕ) (done : List Message) (m : Message) (told left : Answers)
     → length told ≡ length (commands done)
     → responses before (done ++ m ∷ []) (told ++ left) ≡ responses before done told
@@ -46,7 +51,7 @@ responses-push before (d ∷ done) m told left len =
     ∙ ap (λ n. responses (before + 1) done answers ++ adds (asked_by m) (closes_after (n + 1) m.head) left)
     (let e2 : before + 1 + length done ≡ before + length (d ∷ done) = omega arith in e2)) len
 
--- ---- More messages and more answers
+-- ---- More messages and more answers follow
 
 respond_front : (r : Result Command Fault) (close : Bool) (told later : Answers) (some all : Answers → List ℕ)
     → ((answers : Answers) → (rest : List ℕ) × (all (answers ++ later) ≡ some answers ++ rest))
@@ -65,7 +70,8 @@ respond_front (Ok what) close (a ∷ told) later some all go =
           ∙ sym (append_assoc (answered (reply_of a) close) (some told) g.0),
     )
 
--- What is written is a prefix of what is written later.
+-- The responses to some messages, with the answers `told`, are a prefix of the responses to these and further messages,
+-- with `told` and further answers.
 pub responses-front : (before : ℕ) (done ms : List Message) (told later : Answers) → (rest : List ℕ)
     × (responses before (done ++ ms) (told ++ later) ≡ responses before done told ++ rest)
 responses-front before [] ms told later = (responses before ms (told ++ later), refl)
@@ -82,7 +88,7 @@ respond_enough (Ok what) close [] later rest some go len = absurd (omega arith)
 respond_enough (Ok what) close (a ∷ told) later rest some go len =
     ap (λ z. answered (reply_of a) close ++ z) (go told (omega arith))
 
--- If each command has its answer, further answers change nothing.
+-- If there are as many answers as commands, further answers change no response.
 pub responses-enough : (before : ℕ) (done : List Message) (told later : Answers) → length told ≡ length (commands done)
     → responses before done (told ++ later) ≡ responses before done told
 responses-enough before [] told later len = refl
@@ -91,6 +97,7 @@ responses-enough before (d ∷ done) told later len =
     (responses (before + 1) done)
     (λ answers e. responses-enough (before + 1) done answers later e) len
 
+-- The commands of `done` and `ms` together are those of `done`, followed by those of `ms`.
 pub commands-append : (done ms : List Message) → commands (done ++ ms) ≡ commands done ++ commands ms
 commands-append [] ms = refl
 commands-append (d ∷ done) ms = ap (λ z. command_of (asked_by d) ++ z) (commands-append done ms)

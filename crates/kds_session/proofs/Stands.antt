@@ -1,4 +1,6 @@
--- What a session stands for, one step later.
+-- If a session stands for a traffic, then after bytes are fed, a message is read or an answer is told, it stands for
+-- the traffic with this in addition. A reading (`Progress`) is what one call of `next` has consumed and answered so
+-- far. The session adopts it at the end.
 use Rattle.std.proofs.Common.{◌≡◌, ◌≢◌, ℕ, ◌+◌, ◌-◌, ◌<◌, ◌≤◌, List, [], ◌∷◌, ◌++◌, length, drop, sym, ap, ◌∙◌, subst}
 use Rattle.std.proofs.Common.{arith, refl, Bool, true, false, Ok, Err, Result, Option, Some, None, drop-drop, inl, inr}
 use Rattle.std.specs.Prelude.{◌||◌, nat_le}
@@ -34,8 +36,11 @@ use Rattle.kds_session.proofs.Readings.{HeadLaws, HeadStays, begins_at, last_is,
 use Rattle.kds_session.proofs.Readings.{goes_refused, unfinished_short}
 use Rattle.kds_session.proofs.Responses.{commands-push, responses-push, adds}
 
--- ---- A session that is live, and of which no command waits
+-- ---- A live session that waits for no answer
 
+-- The session `s`, through which the traffic `past` has passed, goes on and waits for no answer. The messages `done`
+-- were read, their commands are the ones given, all of these have answers, and only the responses to `done` were
+-- written.
 pub record Runs (s : SessionState) (past : Traffic) : Type 0 where
   pub done : List Message
   pub given_is : past.given ≡ commands done
@@ -64,6 +69,8 @@ leads_fed going fed done left unread bytes g = goes_fed fed done left unread byt
 leads_fed (over ending) fed done left unread bytes g =
     λ more. subst (λ (z : List ℕ). Falls 0 z done ending) (sym (append_assoc fed bytes more)) (g (bytes ++ more))
 
+-- If the session `s` stands for a traffic, the session with `bytes` added to the unread bytes stands for the traffic
+-- with `bytes` fed in addition.
 pub feeds : (s : SessionState) (past : Traffic) (bytes : List ℕ) → StandsFor s past
     → (new : SessionState) → new ≡ record s { unread = s.unread ++ bytes } → StandsFor new (fed_more bytes past)
 feeds s past bytes st new e = subst (λ (n : SessionState). StandsFor n (fed_more bytes past)) (sym e) (record {
@@ -77,6 +84,8 @@ feeds s past bytes st new e = subst (λ (n : SessionState). StandsFor n (fed_mor
 
 -- ---- The connection is refused
 
+-- Let the unread bytes of a live session begin with a head that is refused. The session that has the refusal's response
+-- in its output and is refused stands for the same traffic, and is quiet (`IsQuiet`).
 pub refused_now : HeadStays → (s : SessionState) (status : ℕ) (past : Traffic) → StandsFor s past → IsFree s
     → IsFound s.unread (RefusedHead status) → (new : SessionState)
     → new ≡ record s { output = s.output ++ response_text status [] false true; standing = Refused status }
@@ -96,14 +105,17 @@ refused_now stays s status past st free found new e =
       (λ h. absurd (cc h), free.free),
     )
 
--- ---- One more message
+-- ---- One more message is read
 
--- What the code tests is what the definition says.
+-- Let at least one of REQUESTS requests be left. The code's test whether the connection closes after the next message
+-- gives what `closes_after` gives.
 close_is : (close : Bool) (done left : ℕ) (head : Head) → done + left ≡ REQUESTS → 0 < left
     → close ≡ (head.close || nat_le left 1) → closes_after (done + 1) head ≡ close
 close_is close done left head e some c = ap (λ b. head.close || b) (last_is done left e some) ∙ sym c
 
--- A further message, and what it adds.
+-- The unread bytes of a session that goes on begin with a message with the head `head`, and `close` says whether the
+-- connection closes after it. The commands given and the bytes written so far, with what this message adds to them, are
+-- the commands and the responses of the messages up to this one.
 record OneMore (s : SessionState) (past : Traffic) (head : Head) (close : Bool) : Type 0 where
   pub was : Runs s past
   pub close_is : closes_after (length was.done + 1) head ≡ close
@@ -129,7 +141,7 @@ one_more s past head close st free c =
           ∙ ap (λ t. t ++ adds (asked_by m) close left) (sym f.written);
     }
 
--- ---- A request that has a fault is answered
+-- ---- A faulty request is answered
 
 fault_text_is : (s : SessionState) (past : Traffic) (head : Head) (close : Bool) (f : Fault)
     → (o : OneMore s past head close)
@@ -148,7 +160,8 @@ fault_commands : (s : SessionState) (past : Traffic) (head : Head) (close : Bool
 fault_commands s past head close f o asks =
     sym (append-nil past.given) ∙ ap (λ r. past.given ++ command_of r) (sym asks) ∙ o.commands_are
 
--- A fault is answered, and the connection goes on.
+-- Let the first unread message of a live session have a fault and not close the connection. The session that has read
+-- this message, with the fault's response in its output, stands for the same traffic.
 pub fault_goes : HeadLaws → (s : SessionState) (past : Traffic) (head : Head) (close : Bool) (f : Fault)
     → StandsFor s past → IsFree s
     → close ≡ (head.close || nat_le s.left 1) → close ≡ false → IsWhole s.unread head
@@ -178,7 +191,9 @@ fault_goes laws s past head close f st free c goes_on whole asks new e =
           ∙ ap (λ z. responses 0 done past.told ++ stage_text z) (sym stage);
     })
 
--- A fault is answered, and the connection closes.
+-- Let the first unread message of a live session have a fault and close the connection. The session that has read this
+-- message, with the fault's response in its output, and is closed stands for the same traffic, and is quiet
+-- (`IsQuiet`).
 pub fault_closes : HeadLaws → (s : SessionState) (past : Traffic) (head : Head) (close : Bool) (f : Fault)
     → StandsFor s past → IsFree s
     → close ≡ (head.close || nat_le s.left 1) → close ≡ true → IsWhole s.unread head
@@ -233,10 +248,13 @@ command_parts s past head close what o asks = (
   },
 )
 
+-- A session that gave a command waits for an answer.
 pub waits_for : (close : Bool) → waiting_for close ≢ Nothing
 waits_for true e = cc
 waits_for false e = cc
 
+-- Let the first unread message of a live session ask for the command `what`. The session that has read this message and
+-- waits for an answer stands for the traffic with `what` given in addition.
 pub command_given : HeadLaws → (s : SessionState) (past : Traffic) (head : Head) (close : Bool) (what : Command)
     → StandsFor s past → IsFree s
     → close ≡ (head.close || nat_le s.left 1) → IsWhole s.unread head → asked_by (message_at s.unread head) ≡ Ok what
@@ -287,7 +305,7 @@ command_given laws s past head close what st free c whole asks new e =
           ∙ ap (λ a. responses 0 (o.was.done ++ m ∷ []) past.told ++ stage_text (stage_of a Answer)) (sym free.live);
     }
 
--- ---- A reading is begun, goes on and is taken over
+-- ---- The session adopts a reading of its unread bytes
 
 -- The reading has gone past a message of `n` bytes.
 pub past_state : (bytes : List ℕ) (r new : Reading) (n : ℕ) → new.read ≡ r.read + n
@@ -361,7 +379,8 @@ pub refused_state : (bytes : List ℕ) (r p : Reading) (status : ℕ)
     }
 refused_state bytes r p status e = ap (λ (x : Reading). read_state bytes x) e
 
--- What the session had written before counts as sent.
+-- A reading that has consumed nothing yet makes a session that stands for the traffic of `s`, with the output of `s`
+-- counted as sent.
 pub reading_begins : (s : SessionState) (past : Traffic) → StandsFor s past → IsFree s
     → (start : Reading) → start ≡ record { read = 0; left = s.left; answers = []; standing = Live; waiting = Nothing }
     → StandsFor (read_state s.unread start) (sent_more s.output past)
@@ -418,6 +437,8 @@ next_by s v bytes start r o ev eb es free go new e past st =
 
 -- ---- An answer is told
 
+-- The answer `a` to the one command that waits adds its response to the responses so far. Then each command has its
+-- answer.
 pub awaited_text : (close : Bool) (done : List Message) (told : Answers) (a : Result Reply Refusal)
     → IsAwaited close done told
     → (responses 0 done (told ++ a ∷ []) ≡ responses 0 done told ++ answered (reply_of a) close)
@@ -444,6 +465,8 @@ awaited_text close done told a w =
           ∙ sym (length-append (commands w.before) (w.what ∷ [])) ∙ sym (ap length all),
     )
 
+-- If the session `s` waits for an answer, the session that has the answer's response in its output stands for the
+-- traffic with the answer told in addition.
 pub answer_told : (s : SessionState) (past : Traffic) (a : Result Reply Refusal) → StandsFor s past
     → s.waiting ≢ Nothing
     → (new : SessionState) → new ≡ record s {
@@ -488,7 +511,7 @@ answer_told s past a st waits new e =
     by_waiting Answer _ n v w l t = absurd (cc v)
     by_waiting LastAnswer _ n v w l t = absurd (cc v)
 
--- The session is written to at the end.
+-- The session that the code makes after an answer is the one that `answer_told` describes.
 pub told_state : (s : SessionState) (out : List ℕ) (close : Bool) (d : Standing) (r : ℕ × List ℕ)
     → out ≡ s.output ++ answered r close → close ≡ is_last s.waiting → d ≡ standing_after close s.standing
     → (let new : SessionState = record s { output = out; waiting = Nothing; standing = d } in new)
@@ -506,16 +529,17 @@ told_state s out close d r eo ec ed =
       standing = z;
     } in y) (ed ∙ ap (λ b. standing_after b s.standing) ec)
 
--- ---- Less is to come
+-- ---- How much may still come
 
--- A session that goes on has its requests and its end before it.
+-- On a live session that waits for no answer, the requests that are still allowed and the end may come (`to_come`).
 all_to_come : (s : SessionState) → IsFree s → to_come s ≡ s.left + 1
 all_to_come s free = ap (λ (z : Stage). still z s.left) (stage_live s.standing s.waiting free.live free.free)
 
+-- A connection that was refused isn't live.
 pub refused_not_live : (status : ℕ) → Refused status ≡ Live → ⊥
 refused_not_live status e = cc
 
--- Less is to come if the connection has ended.
+-- If a live session becomes one to which nothing more may come, its `to_come` falls.
 pub less_ended : (s new : SessionState) → IsFree s → to_come new ≡ 0 → to_come new < to_come s
 less_ended s new free e = let all = all_to_come s free in omega arith
 
@@ -523,7 +547,7 @@ some_left_by : (h close : Bool) (left : ℕ) → close ≡ (h || nat_le left 1) 
 some_left_by true close left e f = absurd (cc (sym e ∙ f))
 some_left_by false close left e f = let g : nat_le left 1 ≡ false = sym e ∙ f in grind (arith, nat_tests)
 
--- Less is to come if a command was read.
+-- If a live session reads a request and then waits for its answer, its `to_come` falls.
 pub less_asked : (s : SessionState) (head : Head) (close : Bool) (unread : List ℕ) → IsFree s
     → close ≡ (head.close || nat_le s.left 1)
     → (new : SessionState) → new ≡ record s { unread = unread; left = s.left - 1; waiting = waiting_for close }
@@ -538,17 +562,19 @@ less_asked s head close unread free c new e =
     by_close true some = omega arith
     by_close false some = let h = some refl in omega arith
 
+-- If `IsNearer` holds from `a` to `b` and from `b` to `c`, it holds from `a` to `c`.
 pub nearer_then : (a b c : SessionState) → IsNearer a b → IsNearer b c → IsNearer a c
 nearer_then a b c (inl h) (inl k) = inl (omega arith)
 nearer_then a b c (inl h) (inr k) = inl (omega (arith, h, k.1))
 nearer_then a b c (inr h) (inl k) = inl (omega (arith, h.1, k))
 nearer_then a b c (inr h) (inr k) = inr (k.0 ∙ h.0, k.1 ∙ h.1)
 
+-- If `IsNearer` holds from `a` to `b`, and `to_come` falls from `b` to `c`, it falls from `a` to `c`.
 pub nearer_less : (a b c : SessionState) → IsNearer a b → to_come c < to_come b → to_come c < to_come a
 nearer_less a b c (inl h) k = omega arith
 nearer_less a b c (inr h) k = omega (arith, h.1, k)
 
--- If the answer to a command is told, as much is still to come as before.
+-- An answer that is told doesn't change how much may still come.
 pub told_still : (left : ℕ) (d new : Standing) (w : Waiting) (close : Bool) → close ≡ is_last w → w ≢ Nothing
     → new ≡ standing_after close d → still (stage_of new Nothing) left ≡ still (stage_of d w) left
 told_still left d new w close c waits e =
@@ -562,8 +588,9 @@ told_still left d new w close c waits e =
     by_waiting LastAnswer Live n = refl
     by_waiting LastAnswer _ n = refl
 
--- ---- What the reading comes to, of the session
+-- ---- What a reading means for the session that adopts it
 
+-- The finding in any bytes is within the limits for a head and a body.
 abbrev pub Limits : Type 0
 Limits = (bytes : List ℕ) (found : Found) → IsFound bytes found → IsWithinLimits bytes found
 
@@ -599,6 +626,7 @@ fewer_by o s v new bytes start r ev eb es free h e =
 few_then_room : (n : ℕ) → n < HEAD_BYTES + BODY_BYTES → PIECE_BYTES ≤ UNREAD_BYTES - n
 few_then_room n h = omega arith
 
+-- If no command is given and no whole message is unread, a live session may be fed a whole piece (`CanBeFed`).
 pub read_out_fed : (o : Option Command) (new : SessionState) → IsReadOut o new → CanBeFed o new
 read_out_fed (Some what) new r = tt
 read_out_fed None new r = λ live. few_then_room (length new.unread) (r.1 live)

@@ -1,4 +1,5 @@
--- What a session has given and written, and the commands and the text of all bytes.
+-- The commands that a session gave and the bytes that it wrote are those of all bytes of the connection, or the first
+-- of them.
 use Rattle.std.proofs.Common.{◌≡◌, ◌≢◌, ℕ, List, [], ◌∷◌, ◌++◌, length, sym, ap, ◌∙◌, subst, arith, refl, Option, Some}
 use Rattle.std.proofs.Common.{None}
 use Rattle.std.specs.Prelude.{slice_get}
@@ -19,9 +20,10 @@ use Rattle.kds_session.specs.Next.{IsNext}
 use Rattle.kds_session.proofs.Readings.{goes_ending}
 use Rattle.kds_session.proofs.Responses.{responses-front, responses-enough, commands-append}
 
--- ---- All that was fed, where the session is quiet
+-- ---- All bytes that were fed, if the session is quiet
 
--- How the bytes that were fed end.
+-- If no whole message is unread while the stage is `going`, the bytes `fed` fall into the messages `done` with the
+-- ending that the stage and the unread bytes determine (`end_in`), and `stage_text` is the text of this ending.
 ending_of : (stage : Stage) (fed : List ℕ) (done : List Message) (left : ℕ) (unread : List ℕ)
     → Leads stage fed done left unread → (stage ≡ going → IsUnfinished unread)
     → (stage_text stage ≡ end_text (end_in stage unread)) × Falls 0 fed done (end_in stage unread)
@@ -35,6 +37,8 @@ live_by Live w e = refl
 live_by Closed w e = absurd (cc e)
 live_by (Refused status) w e = absurd (cc e)
 
+-- If the session is quiet (`IsQuiet`), the commands that it gave and the bytes that it wrote are those of all bytes
+-- that it was fed. These bytes end as the session's state determines (`end_of`).
 pub quiet_text : (s : SessionState) (past : Traffic) → StandsFor s past → IsQuiet s
     → (http : IsHttp past.fed past.given past.told (past.sent ++ s.output)) × (http.ending ≡ end_of s)
 quiet_text s past st quiet =
@@ -51,7 +55,7 @@ quiet_text s past st quiet =
       refl,
     )
 
--- ---- Bytes that follow the end
+-- ---- Bytes that follow the end of a connection
 
 over_more : (stage : Stage) (fed : List ℕ) (done : List Message) (left : ℕ) (unread more : List ℕ) → (stage ≡ going → ⊥)
     → Leads stage fed done left unread → Leads stage (fed ++ more) done left unread
@@ -59,6 +63,7 @@ over_more going fed done left unread more ends g = absurd (ends refl)
 over_more (over ending) fed done left unread more ends g =
     λ rest. subst (λ (z : List ℕ). Falls 0 z done ending) (sym (append_assoc fed more rest)) (g (more ++ rest))
 
+-- If the session isn't live, it stands for the same traffic with any bytes `more` fed in addition.
 pub nothing_more : (s : SessionState) (past : Traffic) → StandsFor s past → s.standing ≢ Live → (more : List ℕ)
     → StandsFor s (fed_more more past)
 nothing_more s past st ended more = record {
@@ -71,7 +76,7 @@ nothing_more s past st ended more = record {
   written = st.written;
 }
 
--- ---- All that is fed, at any moment
+-- ---- All bytes that are fed, at any moment
 
 -- The messages that are done are the first of all messages.
 done_first : OneReading
@@ -91,7 +96,8 @@ first_commands one s past st more all ending f =
     f in
     (commands d.0, ap commands d.1 ∙ commands-append st.done d.0 ∙ ap (λ z. z ++ commands d.0) (sym st.given_is))
 
--- The responses so far are a prefix of the text of all messages.
+-- The responses to the messages that were read are a prefix of the responses to all messages, whatever messages and
+-- answers follow.
 front_more : (done ms all : List Message) (ending : Ending) (told later : Answers) → all ≡ done ++ ms
     → (rest : List ℕ) × (responses 0 all (told ++ later) ++ end_text ending ≡ (responses 0 done told ++ []) ++ rest)
 front_more done ms all ending told later e =

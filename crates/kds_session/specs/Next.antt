@@ -1,4 +1,4 @@
--- What `next` gives, and what the session stands for then.
+-- Defines what `next` gives, what the session stands for afterwards, and how many bytes it may then be fed.
 use Rattle.std.specs.Prelude.{◌≡◌, ◌≢◌, ◌⊎◌, ◌<◌, ◌≤◌, ◌+◌, ◌-◌, ℕ, List, length, slice_get, Option, Some, None}
 use Rattle.kds_defs.specs.declared.command.Command.{Command}
 use Rattle.kds_head.specs.declared.numbers.TheConstants.{HEAD_BYTES, BODY_BYTES}
@@ -11,51 +11,56 @@ use Rattle.kds_session.specs.States.{SessionState}
 use Rattle.kds_session.specs.Messages.{Message, Ending, Falls}
 use Rattle.kds_session.specs.Standing.{Traffic, given_one, StandsFor, IsQuiet, to_come}
 
--- The session `new` after the next command was given, or after no command was given because no whole request with a
--- command is left.
+-- The session `new` is right after a call of `next`, before which the traffic `past` had passed. If the call gave a
+-- command, `new` stands for the traffic with it and waits for its answer. Otherwise `new` stands for `past`, waits for
+-- no answer, and has no whole message unread (`IsQuiet`).
 abbrev pub IsNext : Option Command → SessionState → Traffic → Type 0
 IsNext None new past = StandsFor new past × IsQuiet new
 IsNext (Some what) new past = StandsFor new (given_one what past) × (new.waiting ≢ Nothing)
 
--- Whatever had passed through the session `old`, `next` is the next command, and `new` is the session after it.
+-- Whatever traffic had passed through the session `old`, the session `new` is right after a call of `next` that gave
+-- `next` (`IsNext`).
 abbrev pub GivesNext : SessionState → SessionState → Option Command → Type 0
 GivesNext old new next = (past : Traffic) → StandsFor old past → IsNext next new past
 
--- The command `next` is the one that follows the given ones among the commands of all bytes that were fed, or `None` if
--- there is no such command.
+-- Among the commands of all bytes that the session `old` was fed, `next` is the one that follows those already given.
+-- It is None if there is no further command.
 abbrev pub FollowsThose : SessionState → Option Command → Type 0
 FollowsThose old next = (past : Traffic) → StandsFor old past → (ms : List Message) (ending : Ending)
     → Falls 0 past.fed ms ending
     → next ≡ slice_get (commands ms) (length past.given)
 
--- A command waits exactly if a command was given.
+-- The session waits for an answer, as its field `new` says, exactly if `next` is a command.
 abbrev pub IsWaiting : Waiting → Option Command → Type 0
 IsWaiting new None = new ≡ Nothing
 IsWaiting new (Some what) = new ≢ Nothing
 
--- Less is to come in the session `new` than in `old`, or nothing was read.
+-- Less may still come (`to_come`) in the session `new` than in `old`. Or as much may still come, and the unread bytes
+-- are the same.
 abbrev pub IsNearer : SessionState → SessionState → Type 0
 IsNearer old new = (to_come new < to_come old) ⊎ ((new.unread ≡ old.unread) × (to_come new ≡ to_come old))
 
--- Less is to come in `new` than in `old` if a command was given, and otherwise `IsNearer` holds.
+-- If a command was given, less may still come (`to_come`) in the session `new` than in `old`. Otherwise less may still
+-- come, or both that and the unread bytes are the same (`IsNearer`).
 abbrev pub IsFewer : Option Command → SessionState → SessionState → Type 0
 IsFewer None old new = IsNearer old new
 IsFewer (Some what) old new = to_come new < to_come old
 
--- The unread bytes of a live session are fewer than a head and a body may have together.
+-- If the session `s` is live, its unread bytes are fewer than the greatest head and the greatest body together.
 abbrev pub IsShort : SessionState → Type 0
 IsShort s = s.standing ≡ Live → length s.unread < HEAD_BYTES + BODY_BYTES
 
--- If no command is given, nothing is left to read.
+-- If no command is given, the session `new` waits for no answer and has no whole message unread (`IsQuiet`). If it is
+-- live, its unread bytes are fewer than the greatest head and the greatest body together (`IsShort`).
 abbrev pub IsReadOut : Option Command → SessionState → Type 0
 IsReadOut None new = IsQuiet new × IsShort new
 IsReadOut (Some what) new = Unit {0}
 
--- The number of bytes that the session `s` may be fed now.
+-- The number of bytes that the session `s` may be fed now: UNREAD_BYTES without its unread bytes.
 abbrev pub feed_limit_of : SessionState → ℕ
 feed_limit_of s = UNREAD_BYTES - length s.unread
 
--- If no command is given on a live session, a whole piece may be fed.
+-- If no command is given and the session `new` is live, it may be fed a whole piece (PIECE_BYTES bytes).
 abbrev pub CanBeFed : Option Command → SessionState → Type 0
 CanBeFed None new = new.standing ≡ Live → PIECE_BYTES ≤ feed_limit_of new
 CanBeFed (Some what) new = Unit {0}

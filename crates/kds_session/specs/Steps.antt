@@ -1,4 +1,4 @@
--- The steps on the way to the next command.
+-- Defines the steps by which `next` reads messages until one asks for a command.
 use Rattle.std.specs.Prelude.{◌≡◌, ◌≢◌, ℕ, ◌<◌, List, ◌++◌, drop, true, Option, IfSome}
 use Rattle.kds_head.specs.declared.found.Head.{Head}
 use Rattle.kds_head.specs.declared.found.Found.TheVariants.{Refused as RefusedHead, Whole as WholeHead}
@@ -17,19 +17,22 @@ use Rattle.kds_session.specs.States.{SessionState}
 use Rattle.kds_session.specs.Standing.{Traffic, given_one, StandsFor, IsQuiet, to_come}
 use Rattle.kds_session.specs.Next.{IsNearer}
 
--- ---- What stands at the front of the unread bytes
+-- ---- What the unread bytes begin with
 
--- The head `kept`, if one was kept, is the head of the unread bytes `bytes`.
+-- If a head `kept` was kept, the bytes `bytes` begin with it.
 abbrev pub IsKept : List ℕ → Option Head → Type 0
 IsKept bytes kept = IfSome kept (λ head. IsFound bytes (WholeHead head))
 
+-- What the bytes `bytes` begin with: a message whose head isn't whole (`Unfinished`), a whole head whose body isn't
+-- whole (`Begun`), a head that is refused with a status, or a whole message. An unfinished message may be called
+-- `Unfinished` too if its head is whole.
 abbrev pub IsFront : List ℕ → Front → Type 0
 IsFront bytes front.Unfinished = IsUnfinished bytes
 IsFront bytes (front.Begun head) = IsShort bytes head
 IsFront bytes (front.Refused status) = IsFound bytes (RefusedHead status)
 IsFront bytes (front.Whole head) = IsWhole bytes head
 
--- A refusal at the front has a status that refuses a connection.
+-- If the bytes begin with a head that is refused, its status is one with which connections are refused.
 abbrev pub IsKnown : Front → Type 0
 IsKnown front.Unfinished = Unit {0}
 IsKnown (front.Begun head) = Unit {0}
@@ -58,7 +61,7 @@ with_reading s r = record {
   waiting = r.waiting;
 }
 
--- The session `s` is live, and no command waits.
+-- The session `s` is live, and waits for no answer.
 pub record IsFree (s : SessionState) : Type 0 where
   pub live : s.standing ≡ Live
   pub free : s.waiting ≡ Nothing
@@ -69,12 +72,13 @@ IsAfter step.Stop new past = StandsFor new past × IsQuiet new
 IsAfter step.Answered new past = StandsFor new past
 IsAfter (step.Command what) new past = StandsFor new (given_one what past) × (new.waiting ≢ Nothing)
 
--- Whatever had passed through the session `old`, the session `new` is one step later.
+-- For each traffic that the session `old` stands for, the session `new` is right after the step `step` (`IsStepped`).
 abbrev pub Steps : SessionState → SessionState → Step → Type 0
 Steps old new step = (past : Traffic) → StandsFor old past → IsAfter step new past
 
--- What is known without the bytes that were fed: after an answered fault, the session is free and fewer requests may
--- still come. A command is one that may be asked for, and it waits.
+-- What a step leads to, whatever was fed before. After Stop, the session `new` is quiet, and less may still come or
+-- nothing was read (`IsNearer`). After Answered, it is live, waits for no answer, and may read fewer requests. After
+-- Command, it waits for the answer to a command of the stream service, and less may still come.
 abbrev pub IsPlainly : Step → (old new : SessionState) → Type 0
 IsPlainly step.Stop old new = IsQuiet new × IsNearer old new
 IsPlainly step.Answered old new = IsFree new × (new.left < old.left)

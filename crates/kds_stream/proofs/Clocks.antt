@@ -1,4 +1,6 @@
--- What a later clock, and the trim of the logs, leave a stream to show.
+-- A stream still shows its journal and keeps its invariant (`IsStream`) after its clock has moved on, and after one of
+-- its logs has lost its trimmed records (the log is settled). A retreat sets a stream's clock and cut back to the
+-- values that the stream keeps for it.
 use Rattle.std.proofs.Common.{◌≡◌, ℕ, zero, suc, ◌+◌, ◌≤◌, Bool, true, false, List, [], ◌∷◌, length, Option, refl, sym}
 use Rattle.std.proofs.Common.{ap, ◌∙◌, arith}
 use Rattle.std.specs.Prelude.{cond, not, nat_le, nat_lt, ◌&&◌}
@@ -15,8 +17,10 @@ use Rattle.kds_stream.proofs.LogLemmas.{all-settled, arrived_later, length-settl
 use Rattle.kds_stream_logs.specs.Logs.{HasArrived, IsBelow, settled_at}
 use Rattle.kds_stream.specs.Value.{IsStream, StreamValue, cut_at, later_cut}
 
--- ---- What is kept at a floor is kept at a higher one
+-- ---- Logs and a higher trim floor
 
+-- If logs keep a journal's records except for some that arrived below `floor` (`AreKept`), they also keep them except
+-- for some that arrived below a higher floor.
 pub kept_higher : (floor higher : ℕ) (log : Journal) (s n : ℕ) (ls : List LogValue) → floor ≤ higher
     → AreKept floor log s n ls → AreKept higher log s n ls
 kept_higher floor higher log s n [] le h = tt
@@ -25,6 +29,8 @@ kept_higher floor higher log s n (l ∷ ls) le h = (
   kept_higher floor higher log s (n + 1) ls le h.1,
 )
 
+-- A stream still shows its journal after its clock has moved on to `clock` and its cut (the trim horizon) has moved
+-- with it.
 pub shows_advanced : (v : StreamValue) (log : Journal) (clock : ℕ) (cut : Option ℕ)
     → cut ≡ later_cut v.cut (cut_at clock v.hours) → v.clock ≤ clock → Shows v log
     → Shows (record v { clock = clock; cut = cut; clock_before = v.clock; cut_before = v.cut }) log
@@ -48,6 +54,8 @@ shows_advanced v log clock cut is later shown =
       rates = shown.rates;
     }
 
+-- A stream keeps its invariant (`IsStream`) after its clock has moved on to `clock` and its cut (the trim horizon) has
+-- moved with it.
 pub stream_advanced : (v : StreamValue) (clock : ℕ) (cut : Option ℕ) → cut ≡ later_cut v.cut (cut_at clock v.hours)
     → v.clock ≤ clock → IsStream v
     → IsStream (record v { clock = clock; cut = cut; clock_before = v.clock; cut_before = v.cut })
@@ -66,7 +74,7 @@ stream_advanced v clock cut later_is later is = record {
   fits = is.fits;
 }
 
--- ---- What is left of what is left
+-- ---- Records are trimmed twice
 
 left_twice_by : (b c : Bool) (r : Logged) (rs : List Logged) (f p g : ℕ) → is_left g 0 r ≡ b → is_left f p r ≡ c → g ≤ f
     → left_among f p (left_among g 0 rs) ≡ left_among f p rs
@@ -82,7 +90,8 @@ left_twice_by false true r rs f p g isb isc le h = absurd (late r.arrival r.seq 
     late arrival seq f p g isb isc le = grind (arith, nat_tests)
 left_twice_by false false r rs f p g isb isc le h = h
 
--- Records that are trimmed at a lower floor first are trimmed as at the higher floor alone.
+-- Trimming records at the floor `g` and then at the floor `f`, which isn't lower, leaves the same records as trimming
+-- them at `f` alone. In both cases, only records from the position `p` on are left.
 pub left_twice : (f p g : ℕ) (rs : List Logged) → g ≤ f → left_among f p (left_among g 0 rs) ≡ left_among f p rs
 left_twice f p g [] le = refl
 left_twice f p g (r ∷ rs) le =
@@ -109,6 +118,7 @@ settled_place v i clock cut next =
       next_to_settle = next;
     }
 
+-- A stream still shows its journal after the log at the index `i` has lost its trimmed records.
 pub shows_settled : (v : StreamValue) (i clock : ℕ) (cut : Option ℕ) (next : ℕ) (log : Journal) → Shows v log
     → Shows (settled_place v i clock cut next) log
 shows_settled v i clock cut next log shown = record {

@@ -1,4 +1,5 @@
--- The limits on throughput are turned on or off: what the stream shows after it.
+-- LocalEnforceLimits turns the limits on throughput on or off: the answer of the decision, and what the stream shows
+-- after it.
 use Rattle.std.proofs.Common.{◌≡◌, ℕ, Bool, ◌∷◌, refl}
 use Rattle.std.specs.Prelude.{◌==◌, Ok}
 use Rattle.kds_defs.specs.declared.entry.Entry.TheVariants as entry
@@ -14,10 +15,12 @@ use Rattle.kds_stream.proofs.Others.{kept_along}
 use Rattle.kds_stream.specs.Showing.{Shows}
 use Rattle.kds_stream.specs.Value.{StreamValue}
 
--- The line of a change of the limits.
+-- The line by which the actor `by` turns the limits of the stream `v` on, if `on` is true, or off.
 abbrev pub limits_line : StreamValue → ℕ → Bool → Line
 limits_line v by on = plain_line v.clock by (entry.Enforced v.no on)
 
+-- The decision that turns the limits on or off answers `Done`. With the new setting `on`, the stream shows the journal
+-- with the decision's line.
 pub enforce_done : (v : StreamValue) (log : Journal) (by : ℕ) (on : Bool) → Shows v log
     → (Ok reply.Done ≡ answer_of (enforce log v.clock by v.no on))
     × Shows (record v { enforced = on; clock_before = v.clock; cut_before = v.cut })

@@ -1,4 +1,4 @@
--- Which shards are listed, and what iterators and reads of them are answered.
+-- Which shards are listed, and that the code answers GetShardIterator and GetRecords as the decisions on them do.
 use Rattle.std.proofs.Common.{◌≡◌, ℕ, ◌<◌, Bool, true, false, List, [], length, get_or, map, Option, Some, None, refl}
 use Rattle.std.proofs.Common.{sym, ap, ◌∙◌, arith}
 use Rattle.std.specs.Prelude.{slice_get, is_none, is_some, not, ◌&&◌, ◌||◌, if◌then◌else◌, Result, Ok, Err}
@@ -31,14 +31,16 @@ use Rattle.kds_stream_logs.specs.Reading.{batch_among, behind_by, position_from}
 use Rattle.kds_stream.specs.Showing.{Shows}
 use Rattle.kds_stream.specs.Value.{IsStream, StreamValue, is_listed_at, listed_at}
 
--- ---- An answer, of one of two equal values
+-- ---- An answer at a stream is also an answer at an equal one
 
+-- If `a` is the answer of the decision at the stream `u`, it is the answer of the decision at an equal stream `w`.
 pub answer_along : (decided : StreamValue → Decision) (u w : StreamValue) (a : Result Reply Refusal) → u ≡ w
     → a ≡ answer_of (decided u) → a ≡ answer_of (decided w)
 answer_along decided u w a is h = h ∙ ap (λ x. answer_of (decided x)) is
 
 -- ---- Listed shards
 
+-- If the code finds no listed shard (`listed_at`), there is no listed shard (`is_listed_at`).
 pub unlisted : (floor : ℕ) (o : Option ShardState) → None ≡ option_map shown (listed_at floor o)
     → is_listed_at floor o ≡ false
 unlisted floor None h = refl
@@ -49,13 +51,15 @@ unlisted floor (Some x) h = by (is_closed_below floor x) refl h
     by true e h = ap not e
     by false e h = absurd cc
 
--- The shard is there, and `y` is this shard as replies show it.
+-- The option `o` has a shard that is listed at the trim floor `floor`, and `y` is this shard as replies show it.
 pub record HasState (floor : ℕ) (o : Option ShardState) (y : Shard) : Type 0 where
   pub state : ShardState
   pub at : o ≡ Some state
   pub is_shown : y ≡ shown state
   pub listed : is_listed_at floor o ≡ true
 
+-- If the code finds a listed shard, shown as `y`, the option `o` has a listed shard that replies show as `y`
+-- (`HasState`).
 pub has_state : (floor : ℕ) (o : Option ShardState) (y : Shard) → Some y ≡ option_map shown (listed_at floor o)
     → HasState floor o y
 has_state floor None y h = absurd cc
@@ -66,6 +70,7 @@ has_state floor (Some x) y h = by (is_closed_below floor x) refl h
     by true e h = absurd cc
     by false e h = record { state = x; at = refl; is_shown = same_some y (shown x) h; listed = ap not e }
 
+-- The code finds a listed shard (`listed_at`) if and only if there is one (`is_listed_at`).
 pub is_listed_some : (floor : ℕ) (o : Option ShardState) → is_some (option_map shown (listed_at floor o))
     ≡ is_listed_at floor o
 is_listed_some floor None = refl
@@ -75,7 +80,7 @@ is_listed_some floor (Some x) = by (is_closed_below floor x)
     by true = refl
     by false = refl
 
--- A listed shard has a log.
+-- If shard `sh` is listed by the test `is_listed_at`, the stream has a log for it.
 pub made_within : (v : StreamValue) (sh : ℕ) → IsStream v → is_listed_at (floor_of v.cut) (slice_get v.tree sh) ≡ true
     → sh < length v.logs
 made_within v sh is h = by (slice_get v.tree sh) refl h
@@ -84,16 +89,18 @@ made_within v sh is h = by (slice_get v.tree sh) refl h
     by None e h = absurd cc
     by (Some x) e h = omega (arith, slice_get_within v.tree sh x e, is.as_many)
 
+-- If the code finds the listed shard `sh`, shown as `y`, the stream has a log for it.
 pub listed_within : (v : StreamValue) (sh : ℕ) (y : Shard) → IsStream v
     → Some y ≡ option_map shown (listed_at (floor_of v.cut) (slice_get v.tree sh)) → sh < length v.logs
 listed_within v sh y is h = made_within v sh is (has_state (floor_of v.cut) (slice_get v.tree sh) y h).listed
 
--- A test that an option isn't `None` is the opposite of a test that it is.
+-- If `is_some o` is the opposite of the Boolean `r`, then `r` is `is_none o`.
 pub none_of : {A : Type 0} (o : Option A) (r : Bool) → is_some o ≡ not r → r ≡ is_none o
 none_of o true h = sym (ap not h)
 none_of o false h = sym (ap not h)
 
 module _ (v : StreamValue) (log : Journal) (show : Shows v log) where
+  -- Shard `sh` by the journal is the shard at the index `sh` among the stream's shards.
   pub shard_is : (sh : ℕ) → shard_at log v.no sh ≡ slice_get v.tree sh
   shard_is sh = ap (λ xs. slice_get xs sh) show.stored.shards_are
 
@@ -103,17 +110,21 @@ module _ (v : StreamValue) (log : Journal) (show : Shows v log) where
       ap (λ b. not (not b || is_closed_below (trim_floor log v.clock v.no) x)) show.stored.live
       ∙ ap (λ f. not (is_closed_below f x)) show.stored.floor_is
 
+  -- Shard `sh` is listed by the journal if and only if it is listed at the stream's trim floor.
   pub listed_is : (sh : ℕ) → is_listed log v.clock v.no sh ≡ is_listed_at (floor_of v.cut) (slice_get v.tree sh)
   listed_is sh = ap (is_listed_state log v.clock v.no) (shard_is sh) ∙ listed_by (slice_get v.tree sh)
 
   -- ---- Iterators
 
+  -- If the code finds no listed shard `sh`, GetShardIterator is refused with `NoShard`.
   pub iterator_unlisted : (sh : ℕ) (from : Start)
       → None ≡ option_map shown (listed_at (floor_of v.cut) (slice_get v.tree sh))
       → Err refusal.NoShard ≡ answer_of (get_iterator log v.clock v.no sh from)
   iterator_unlisted sh from h =
       sym (ap answer_of (refused_if _ _ _ (ap not (listed_is sh ∙ unlisted (floor_of v.cut) (slice_get v.tree sh) h))))
 
+  -- The position at which an iterator with the start `from` begins is the same by the journal as by the shard's log
+  -- `l`.
   pub position_is : (sh : ℕ) (from : Start) (l : LogValue) → sh < length v.logs → l ≡ get_or v.logs sh l
       → position_of log v.clock v.no sh from ≡ position_from v.next (left_among (floor_of v.cut) 0 l.kept) from
   position_is sh (start.At q) l below is = refl
@@ -151,6 +162,8 @@ module _ (v : StreamValue) (log : Journal) (show : Shows v log) where
   chosen_none true n h = absurd cc
   chosen_none false n h = refl
 
+  -- If the code finds the listed shard `sh`, the start `from` is allowed, and `p` is the position that the shard's log
+  -- gives, GetShardIterator answers with an iterator at the position `p`.
   pub iterator_done : (sh : ℕ) (from : Start) (y : Shard) (l : LogValue) (p : ℕ) → sh < length v.logs
       → l ≡ get_or v.logs sh l → Some y ≡ option_map shown (listed_at (floor_of v.cut) (slice_get v.tree sh))
       → ((x : ShardState) → y ≡ shown x
@@ -164,6 +177,8 @@ module _ (v : StreamValue) (log : Journal) (show : Shows v log) where
       sym (iterator_by sh from y l below at true has begun.0
       ∙ ap (λ n. Ok (reply.Iterator (iterator_at v.clock v.no sh n))) (sym begun.1))
 
+  -- If the code finds the listed shard `sh`, but the start `from` isn't allowed, GetShardIterator is refused with
+  -- `BadNumber`.
   pub iterator_bad : (sh : ℕ) (from : Start) (y : Shard) (l : LogValue) → sh < length v.logs → l ≡ get_or v.logs sh l
       → Some y ≡ option_map shown (listed_at (floor_of v.cut) (slice_get v.tree sh))
       → ((x : ShardState) → y ≡ shown x
@@ -203,6 +218,8 @@ module _ (v : StreamValue) (log : Journal) (show : Shows v log) where
     place_is = ap (λ rs. place_after position (numbers_of rs)) (batch_is v log show sh l below at position limit)
         ∙ sym after
 
+    -- A read of the shard that is shown as `y` ends the shard if and only if the shard has an ending sequence number
+    -- and no untrimmed record comes after the batch (`left` is `None`).
     pub read_end : (y : Shard) (end : Bool) → Some y ≡ option_map shown (slice_get v.tree sh)
         → end ≡ (is_some y.end && is_none left)
         → end ≡ ends_at log v.clock v.no sh
@@ -216,6 +233,7 @@ module _ (v : StreamValue) (log : Journal) (show : Shows v log) where
         by (Some x) e h = ended ∙ sym (ends_is sh place y x l left e (same_some y (shown x) h) below at first)
             ∙ ap (ends_at log v.clock v.no sh) (sym place_is)
 
+    -- A read of a shard that doesn't exist ends no shard: the result is false.
     pub read_no_end : (end : Bool) → None ≡ option_map shown (slice_get v.tree sh) → end ≡ false
         → end ≡ ends_at log v.clock v.no sh
         (place_after position (numbers_of (batch log v.clock v.no sh position limit)))
@@ -305,6 +323,7 @@ module _ (v : StreamValue) (log : Journal) (show : Shows v log) where
         ∙ behind_first v.clock (left_among (floor_of v.cut) place l.kept) ∙ ap (behind_by v.clock) (sym first)
         ∙ sym since
 
+    -- If the read ends the shard, GetRecords answers with the batch and the shard's children, and without an iterator.
     pub records_end : (after_it : List Shard) → true ≡ (is_some y.end && is_none left)
         → after_it ≡ map shown (children_among iter.shard v.tree)
         → Ok (reply.Records items None ago after_it) ≡ answer_of (get_records log v.clock iter limit)
@@ -318,6 +337,7 @@ module _ (v : StreamValue) (log : Journal) (show : Shows v log) where
         ∙ ap (λ xs. Ok (reply.Records items None ago (map shown (children_among iter.shard xs)))) show.stored.shards_are
         ∙ ap (λ xs. Ok (reply.Records items None ago xs)) (sym are))
 
+    -- If the read doesn't end the shard, GetRecords answers with the batch and the next iterator, and without children.
     pub records_more : (none : List Shard) → false ≡ (is_some y.end && is_none left) → none ≡ []
         → Ok (reply.Records items (Some (iterator_at v.clock v.no iter.shard place)) ago none)
         ≡ answer_of (get_records log v.clock iter limit)

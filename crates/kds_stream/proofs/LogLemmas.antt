@@ -1,4 +1,4 @@
--- The logs of a stream: a record is appended, and records are trimmed.
+-- The logs of a stream's shards: a record is added to a log, logs are added, and a log loses its trimmed records.
 use Rattle.std.proofs.Common.{◌≡◌, ℕ, zero, suc, ◌≤◌, List, [], ◌∷◌, ◌++◌, length, get_or, map, take, drop, Option}
 use Rattle.std.proofs.Common.{Some, None, refl, ap, ◌∙◌, arith}
 use Rattle.std.specs.List.{AllByRecursion}
@@ -8,9 +8,9 @@ use Rattle.kds_defs.specs.Records.{Logged}
 use Rattle.kds_log.specs.Log.{LogValue, LogWithReserve, log_of}
 use Rattle.kds_stream_logs.specs.Logs.{HasArrived, IsBelow, IsUnder, empty_log, settled_at, settled_log, with_appended}
 
--- ---- Facts of each
+-- ---- Facts about each log
 
--- What arrived at or before a moment arrived at or before a later one.
+-- If all records of the logs arrived at or before `moment`, they arrived at or before a later time `later`.
 pub arrived_later : (moment later : ℕ) (ls : List LogValue) → moment ≤ later → AllByRecursion (HasArrived moment) ls
     → AllByRecursion (HasArrived later) ls
 arrived_later moment later ls le h =
@@ -18,7 +18,7 @@ arrived_later moment later ls le h =
     (λ l a. all_weaker (λ (r : Logged). r.arrival ≤ moment) (λ (r : Logged). r.arrival ≤ later)
     (λ r early. omega arith) l.kept a) ls h
 
--- Numbers below a number are below a greater one.
+-- If all sequence numbers that were ever in the logs are below `next`, they are below a greater number `higher`.
 pub below_higher : (next higher : ℕ) (ls : List LogValue) → next ≤ higher → AllByRecursion (IsBelow next) ls
     → AllByRecursion (IsBelow higher) ls
 below_higher next higher ls le h = all_weaker (IsBelow next) (IsBelow higher) (λ l a. under l.last a) ls h
@@ -27,27 +27,30 @@ below_higher next higher ls le h = all_weaker (IsBelow next) (IsBelow higher) (�
     under None a = tt
     under (Some n) a = omega arith
 
--- A list that is written over the whole of another is itself.
+-- If the `n` elements of `new` are written over the first elements of the list `old`, the first `n` elements of the
+-- result are those of `new`.
 pub written_back : {A : Type 0} (n : ℕ) (new old : List A) → length new ≡ n
     → take n (new ++ drop (length new) old) ≡ new
 written_back n new old h = take_at new (drop (length new) old) n h
 
--- ---- One record more in the log at a place
+-- ---- A record is added to the log of its shard
 
--- The log at a place is the one at this place among the logs without their reserved memory.
+-- If `l` is the log at the index `i` of `ls`, then `l` without its reserved memory is the log at the index `i` of `ls`
+-- without theirs (`log_of`).
 pub log_at : (ls : List LogWithReserve) (i : ℕ) (l : LogWithReserve) → l ≡ get_or ls i l
     → log_of l ≡ get_or (map log_of ls) i (log_of l)
 log_at [] i l is = refl
 log_at (x ∷ ls) zero l is = ap log_of is
 log_at (x ∷ ls) (suc i) l is = log_at ls i l is
 
+-- If a record is added to one of the logs, there are as many logs as before.
 pub length-appended : (i : ℕ) (r : Logged) (ls : List LogValue) → length (with_appended i r ls) ≡ length ls
 length-appended i r [] = refl
 length-appended zero r (l ∷ ls) = refl
 length-appended (suc i) r (l ∷ ls) = ap suc (length-appended i r ls)
 
--- The logs with a record added to the one at a place, and without what is trimmed there, if they were lent to the call
--- that puts the record there.
+-- The logs that a put writes back are the logs that were lent to it, with two changes in the log at the index `sh`: the
+-- record `r` was added, and the records that arrived below `floor` were removed.
 pub put_back : (n sh i floor : ℕ) (r : Logged) (new items lent : List LogWithReserve) → length new ≡ n
     → map log_of new ≡ settled_at floor i (with_appended i r (map log_of lent)) → lent ≡ items → i ≡ sh
     → map log_of (take n (new ++ drop (length new) items)) ≡ settled_at floor sh (with_appended sh r (map log_of items))
@@ -57,8 +60,10 @@ put_back n sh i floor r new items lent len is same at =
     ∙ ap (λ (ls : List LogWithReserve). settled_at floor i (with_appended i r (map log_of ls))) same
     ∙ ap (λ j. settled_at floor j (with_appended j r (map log_of items))) at
 
--- ---- Further logs, in memory that was reserved
+-- ---- Logs are added in memory that was reserved
 
+-- If reserving memory leaves the logs as they were (`before`), and an empty log is then added, the logs are `before`
+-- followed by an empty log.
 pub one_more_log : (new reserved : List LogWithReserve) (before : List LogValue) (l : LogWithReserve)
     → new ≡ reserved ++ l ∷ [] → map log_of reserved ≡ before → log_of l ≡ empty_log
     → map log_of new ≡ before ++ (empty_log ∷ [])
@@ -66,6 +71,8 @@ one_more_log new reserved before l pushed same is =
     ap (map log_of) pushed ∙ map-append log_of reserved (l ∷ []) ∙ ap (λ (ls : List LogValue). ls ++ log_of l ∷ []) same
     ∙ ap (λ (x : LogValue). before ++ x ∷ []) is
 
+-- If reserving memory leaves the logs as they were (`before`), and two empty logs are then added, the logs are `before`
+-- followed by two empty logs.
 pub two_more : (new one reserved : List LogWithReserve) (before : List LogValue) (l m : LogWithReserve)
     → new ≡ one ++ m ∷ []
     → one ≡ reserved ++ l ∷ [] → map log_of reserved ≡ before → log_of l ≡ empty_log → log_of m ≡ empty_log
@@ -74,7 +81,8 @@ two_more new one reserved before l m second first same is other =
     one_more_log new one (before ++ (empty_log ∷ [])) m second (one_more_log one reserved before l first same is) other
     ∙ append_assoc before (empty_log ∷ []) (empty_log ∷ [])
 
--- What is true of each log is true after a record is added, if it is true of the log that has this record.
+-- Suppose that `P` is true of each log, and that `Q` follows from `P`, for the log itself and for the log with the
+-- record `r` added. Then `Q` is true of each log after `r` is added to the log at the index `i`.
 pub all-appended : (P Q : LogValue → Type 0) (i : ℕ) (r : Logged) → ((l : LogValue) → P l → Q l)
     → ((l : LogValue) → P l → Q (record { kept = l.kept ++ r ∷ []; last = Some r.seq })) → (ls : List LogValue)
     → AllByRecursion P ls → AllByRecursion Q (with_appended i r ls)
@@ -82,14 +90,16 @@ all-appended P Q i r others here [] h = tt
 all-appended P Q zero r others here (l ∷ ls) h = (here l h.0, all_weaker P Q others ls h.1)
 all-appended P Q (suc i) r others here (l ∷ ls) h = (others l h.0, all-appended P Q i r others here ls h.1)
 
--- ---- The trim
+-- ---- A log loses its trimmed records
 
+-- If one of the logs loses its trimmed records, there are as many logs as before.
 pub length-settled : (floor n : ℕ) (ls : List LogValue) → length (settled_at floor n ls) ≡ length ls
 length-settled floor n [] = refl
 length-settled floor zero (l ∷ ls) = refl
 length-settled floor (suc n) (l ∷ ls) = ap suc (length-settled floor n ls)
 
--- What is true of each log, whatever is trimmed, is true after a log is settled.
+-- Let `P` be true of each log, and stay true of a log that loses the records that arrived below `floor`. Then `P` is
+-- true of each log after the log at the index `n` has lost these records.
 pub all-settled : (P : LogValue → Type 0) (floor n : ℕ) → ((l : LogValue) → P l → P (settled_log floor l))
     → (ls : List LogValue) → AllByRecursion P ls → AllByRecursion P (settled_at floor n ls)
 all-settled P floor n f [] h = tt

@@ -1,4 +1,4 @@
--- A new stream: it is one, and what it shows.
+-- A new stream meets the invariant (`IsStream`), and shows the journal with the line that makes it.
 use Rattle.std.proofs.Common.{◌≡◌, ℕ, zero, suc, ◌+◌, ◌*◌, ◌/◌, ◌^◌, ◌≤◌, false, List, [], ◌∷◌, length, Option, refl}
 use Rattle.std.proofs.Common.{sym, ap, subst, ◌∙◌, arith}
 use Rattle.std.specs.Prelude.{◌==◌, replicate}
@@ -26,7 +26,7 @@ use Rattle.kds_stream.specs.Showing.{AreKept, Shows}
 use Rattle.kds_stream_logs.specs.Logs.{HasArrived, IsBelow, empty_log}
 use Rattle.kds_stream.specs.Value.{EndsUnder, IsStream, StreamValue, cut_at}
 
--- ---- So many shards, and so many logs
+-- ---- The shards and the logs of a new stream
 
 length-made : (count start : ℕ) → length (made_shards count start) ≡ count
 length-made count start = length_first 0 start (uniform count) ∙ length_uniform (2 ^ 128 / count) 0 count
@@ -35,6 +35,7 @@ all_first : (next n start : ℕ) (ranges : List Span) → AllByRecursion (EndsUn
 all_first next n start [] = tt
 all_first next n start (r ∷ rs) = (tt, all_first next (n + 1) start rs)
 
+-- If `P` is true of `x`, it is true of each element of a list that has `x` several times.
 pub all_replicate : {A : Type 0} (P : A → Type 0) (n : ℕ) (x : A) → P x → AllByRecursion P (replicate n x)
 all_replicate P zero x h = tt
 all_replicate P (suc n) x h = (h, all_replicate P n x h)
@@ -47,7 +48,7 @@ kept_none floor log s n (suc count) none = (
   kept_none floor log s (n + 1) count none,
 )
 
--- ---- The stream
+-- ---- The new stream
 
 trims_new : (made : ℕ) (cut : Option ℕ) → cut ≡ cut_at made FIRST_HOURS → floor_of cut ≤ made
 trims_new made cut is = omega (arith, ap floor_of is, trims_at made FIRST_HOURS (omega arith, omega arith))
@@ -59,7 +60,8 @@ open_first n start (r ∷ rs) = ap suc (open_first (n + 1) start rs)
 few_made : (count : ℕ) → IsShardCount count → length (filter is_open (made_shards count 1)) ≤ OPEN_SHARDS
 few_made count h = omega (arith, h.1, open_first 0 1 (uniform count), length_uniform (2 ^ 128 / count) 0 count)
 
--- A stream as it is made.
+-- The value of a stream that was just made at the time `made`, with the number `s` and the name `name`. Its retention
+-- is the first one, its limits are off, and its next sequence number is 1.
 abbrev pub new_value : ℕ → ℕ → List ℕ → List ShardState → List LogValue → List WindowValue → Option ℕ → Option ℕ
     → StreamValue
 new_value s made name tree logs windows cut cut_before = record {
@@ -79,6 +81,8 @@ new_value s made name tree logs windows cut cut_before = record {
   next_to_settle = 0;
 }
 
+-- A stream that was just made, with `count` shards, as many empty logs and as many unused windows, meets the invariant
+-- (`IsStream`).
 pub new_stream : (s : ℕ) (name : List ℕ) (made count : ℕ) (tree : List ShardState) (logs : List LogValue)
     (windows : List WindowValue)
     → (cut cut_before : Option ℕ) → IsShardCount count → tree ≡ made_shards count 1 → logs ≡ replicate count empty_log
@@ -120,6 +124,8 @@ module _ (log : Journal) (by s : ℕ) (name : List ℕ) (made count : ℕ) (fres
       ∙ sym (cut_floor made FIRST_HOURS)
       ∙ ap floor_of (sym is)
 
+  -- If stream `s` is new to the journal `log` (`IsFresh`), the stream that was just made shows `log` with the line that
+  -- makes it.
   pub shows_new : (tree : List ShardState) (logs : List LogValue) (windows : List WindowValue)
       (cut cut_before : Option ℕ) → tree ≡ made_shards count 1
       → logs ≡ replicate count empty_log → AllByRecursion IsUnused windows → cut ≡ cut_at made FIRST_HOURS

@@ -1,4 +1,5 @@
--- How many shards a split and a merge leave open.
+-- After a split or a merge that isn't refused, at most `OPEN_SHARDS` shards are open, provided that fewer were open
+-- before the split, or no more before the merge.
 use Rattle.std.proofs.Common.{◌≡◌, ℕ, zero, suc, ◌+◌, ◌<◌, ◌≤◌, Bool, true, false, List, [], ◌∷◌, ◌++◌, length, Option}
 use Rattle.std.proofs.Common.{Some, None, refl, sym, ap, ◌∙◌, arith, length-append}
 use Rattle.std.specs.Prelude.{cond, not, slice_get, if◌then◌else◌}
@@ -13,11 +14,11 @@ use Rattle.kds_defs.specs.Shards.{with_closed}
 use Rattle.kds_defs.specs.StreamCommands.{is_open_at}
 use Rattle.kds_tree.specs.Tree.{merge_refusal, split_refusal}
 
--- How many of the shards `xs` are open.
+-- The number of open shards among `xs`.
 abbrev pub open_among : List ShardState → ℕ
 open_among xs = length (filter is_open xs)
 
--- There is one more open shard if the added one is open.
+-- If an open shard (`b`) is put in front of a list, the list has one more element.
 one_more : (b : Bool) (x : ShardState) (xs : List ShardState) → b ≡ true → length (cond b (x ∷ xs) xs) ≡ suc (length xs)
 one_more true x xs h = refl
 one_more false x xs h = absurd cc
@@ -31,7 +32,7 @@ no_less : (b : Bool) (x : ShardState) (xs : List ShardState) → length xs ≤ l
 no_less true x xs = omega arith
 no_less false x xs = omega arith
 
--- Closing a shard leaves no more shards open.
+-- After the shard at the index `sh` is closed, no more shards are open than before.
 open_closed : (sh : ℕ) (closing : Closing) (xs : List ShardState)
     → open_among (with_closed sh closing xs) ≤ open_among xs
 open_closed sh closing [] = omega arith
@@ -44,7 +45,7 @@ both_more : (b : Bool) (x : ShardState) (xs ys : List ShardState) → suc (lengt
 both_more true x xs ys h = ap suc h
 both_more false x xs ys h = h
 
--- Closing an open shard leaves one shard less open.
+-- After an open shard at the index `sh` is closed, one shard less is open than before.
 open_fewer : (sh : ℕ) (closing : Closing) (xs : List ShardState) → is_open_at (slice_get xs sh) ≡ true
     → suc (open_among (with_closed sh closing xs)) ≡ open_among xs
 open_fewer sh closing [] h = absurd cc
@@ -56,7 +57,7 @@ open_fewer (suc sh) closing (x ∷ xs) h =
 open-append : (xs ys : List ShardState) → open_among (xs ++ ys) ≡ open_among xs + open_among ys
 open-append xs ys = ap length (filter-append is_open xs ys) ∙ length-append (filter is_open xs) (filter is_open ys)
 
--- ---- What no refusal says
+-- ---- What is known of a split or a merge that isn't refused
 
 passed : (b : Bool) (r : Refusal) (o : Option Refusal) → (if not b then Some r else o) ≡ None → (b ≡ true) × (o ≡ None)
 passed true r o h = (refl, h)
@@ -71,6 +72,8 @@ merges_open xs sh other passes = both_left _ _ (passed _ _ _ (passed _ _ _ passe
 
 -- ---- The limit
 
+-- If fewer than `OPEN_SHARDS` shards are open before a split that isn't refused, at most `OPEN_SHARDS` are open after
+-- it.
 pub few_split : (xs : List ShardState) (sh at start : ℕ) (closing : Closing) → open_among xs < OPEN_SHARDS
     → split_refusal xs sh at ≡ None → open_among (split_shards sh at closing start xs) ≤ OPEN_SHARDS
 few_split xs sh at start closing few passes =
@@ -82,6 +85,7 @@ few_split xs sh at start closing few passes =
       open_fewer sh closing xs (splits_open xs sh at passes),
     )
 
+-- If at most `OPEN_SHARDS` shards are open before a merge that isn't refused, at most `OPEN_SHARDS` are open after it.
 pub few_merged : (xs : List ShardState) (sh other start : ℕ) (closing : Closing) → open_among xs ≤ OPEN_SHARDS
     → merge_refusal xs sh other ≡ None → open_among (merged_shards sh other closing start xs) ≤ OPEN_SHARDS
 few_merged xs sh other start closing few passes =

@@ -1,4 +1,4 @@
--- A line of another stream or of a lease leaves what a stream shows.
+-- A line about another stream or about a lease doesn't change what a stream shows.
 use Rattle.std.proofs.Common.{◌≡◌, ◌≢◌, ℕ, ◌+◌, List, [], ◌∷◌, Some, sym, subst, ◌∙◌, arith}
 use Rattle.kds_defs.proofs.Elsewhere.{floor_same, same_stream}
 use Rattle.kds_defs.specs.Journal.{Line, Journal}
@@ -11,8 +11,10 @@ use Rattle.kds_stream_logs.proofs.Rates.{stand_along}
 use Rattle.kds_stream.specs.Showing.{AreKept, IsKept, Shows}
 use Rattle.kds_stream.specs.Value.{StreamValue}
 
--- ---- Logs that keep the records of one journal keep those of another with the same records
+-- ---- Journals with the same records
 
+-- If logs keep the records of stream `s` in the journal `log` (`AreKept`), they keep those in another journal `log'`
+-- that has the same records of `s`.
 pub kept_along : (floor : ℕ) (log log' : Journal) (s n : ℕ) (ls : List LogValue)
     → ((sh : ℕ) → records log' s sh ≡ records log s sh)
     → AreKept floor log s n ls → AreKept floor log' s n ls
@@ -20,6 +22,8 @@ kept_along floor log log' s n [] same h = tt
 kept_along floor log log' s n (l ∷ ls) same h =
     (subst (λ rs. IsKept floor rs l.kept) (sym (same n)) h.0, kept_along floor log log' s (n + 1) ls same h.1)
 
+-- If a stream shows a journal, it also shows the journal with a further line about another stream or about a lease,
+-- provided that the line's clock is the stream's.
 pub shows_other : (v : StreamValue) (log : Journal) (line : Line) → Shows v log → line.clock ≡ v.clock
     → stream_of line.what ≢ Some v.no → Shows v (line ∷ log)
 shows_other v log line shown at other =

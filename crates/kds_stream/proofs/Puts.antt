@@ -1,4 +1,5 @@
--- A put: its decision, what the stream shows after it, and that it is a stream still.
+-- PutRecord: the call answers as the decision `put` does, the stream shows the journal with the decision's lines, and
+-- the stream keeps its invariant (`IsStream`).
 use Rattle.std.proofs.Common.{◌≡◌, ◌≢◌, ℕ, zero, suc, ◌+◌, ◌^◌, ◌<◌, ◌≤◌, Bool, true, false, List, [], ◌∷◌, ◌++◌}
 use Rattle.std.proofs.Common.{length, Option, Some, None, refl, sym, ap, subst, ◌∙◌, arith}
 use Rattle.std.specs.Prelude.{◌==◌, ◌&&◌, not, nat_le, nat_lt, if◌then◌else◌, Result, Ok, Err}
@@ -34,14 +35,18 @@ use Rattle.kds_stream.specs.Showing.{AreKept, IsKept, Shows, ShowsStored}
 use Rattle.kds_stream_logs.specs.Logs.{HasArrived, IsBelow, IsUnder, with_appended}
 use Rattle.kds_stream.specs.Value.{EndsUnder, IsClosedUnder, IsStream, StreamValue}
 
--- ---- The next number after a line that draws one
+-- ---- The next sequence number after a line that takes one
 
+-- The next sequence number after a line that takes one is `m + 1`, if it was `m` before. `b` says that the line is
+-- about the stream.
 pub one_more : (b : Bool) (n m : ℕ) → b ≡ true → n ≡ m → (if b then 1 else 0) + n ≡ m + 1
 one_more true n m h e = omega arith
 one_more false n m h e = absurd cc
 
--- ---- What a call owes, of one of two equal values
+-- ---- What holds at a stream also holds at an equal one
 
+-- If the answer `a` and the stream `w` after a call fit the decision at the stream `u`, they fit the decision at an
+-- equal stream `u'`.
 pub led_along : (decided : StreamValue → Decision) (u u' w : StreamValue) (log : Journal) (a : Result Reply Refusal)
     → u ≡ u' → (a ≡ answer_of (decided u)) × Shows w (with_lines (lines_of (decided u)) log)
     → (a ≡ answer_of (decided u')) × Shows w (with_lines (lines_of (decided u')) log)
@@ -50,6 +55,8 @@ led_along decided u u' w log a is h =
 
 -- ---- The record that a put stores
 
+-- The record that a put of `item` stores in the stream `v`. Its sequence number is the stream's next one, and its time
+-- of arrival is the stream's clock.
 abbrev pub put_record : StreamValue → NewItem → Logged
 put_record v item = record {
   seq = v.next;
@@ -59,7 +66,8 @@ put_record v item = record {
   payload = item.payload;
 }
 
--- A record that arrived at the floor or later is kept with the others.
+-- If the record `r` arrived at or above `from`, it stays at the end of a list from which the records that arrived below
+-- `from` are removed.
 left_one : (from : ℕ) (rs : List Logged) (r : Logged) → from ≤ r.arrival
     → left_among from 0 (rs ++ r ∷ []) ≡ left_among from 0 rs ++ r ∷ []
 left_one from rs r le =
@@ -69,7 +77,8 @@ left_one from rs r le =
     late : (from arrival seq : ℕ) → from ≤ arrival → (not (nat_lt arrival from) && nat_le 0 seq) ≡ true
     late from arrival seq h = grind (arith, nat_tests)
 
--- The logs with the record keep the records of a journal that has the record too.
+-- Suppose that the journal `log'` has the records of `log`, and also the record `r` at the end of shard `at`. If logs
+-- keep the records of `log` (`AreKept`), then these logs with `r` added to the log of this shard keep those of `log'`.
 kept_put : (floor : ℕ) (log log' : Journal) (s n i at : ℕ) (r : Logged) (ls : List LogValue) → floor ≤ r.arrival
     → at ≡ n + i → records log' s at ≡ records log s at ++ r ∷ []
     → ((sh : ℕ) → at ≢ sh → records log' s sh ≡ records log s sh)
@@ -104,15 +113,18 @@ kept_put floor log log' s n (suc i) at r (l ∷ ls) late is here others h = (
 
 -- ---- The throughput
 
--- A put of the item `item`, as its shard counts it.
+-- A put of `item` into the stream `v`, as the window of its shard counts it.
 abbrev pub put_of : StreamValue → NewItem → SizedPut
 put_of v item = record { clock = v.clock; bytes = item_bytes item }
 
 module _ (v : StreamValue) (log : Journal) (by n : ℕ) (item : NewItem) (same : shards log v.no ≡ v.tree) where
+  -- If the journal's shards are those of the stream `v`, the home of the item by the journal is its home among the open
+  -- shards of `v`.
   pub home_so : home log v.no item.hash ≡ home_among (filter is_open v.tree) item.hash
   home_so = ap (λ xs. home_among (filter is_open xs) item.hash) same
 
-  -- The puts of a shard after the line of a put.
+  -- The puts of shard `sh` by the journal with the line of the put: those before, and the new put if the shard is the
+  -- item's home.
   pub puts_more : (sh : ℕ) → puts (put_line log v.clock by v.no n item ∷ log) v.no sh
       ≡ with_put (home_among (filter is_open v.tree) item.hash) (put_of v item) (puts log v.no) sh
   puts_more sh =
@@ -120,6 +132,8 @@ module _ (v : StreamValue) (log : Journal) (by n : ℕ) (item : NewItem) (same :
       (is_itself v.no)
       ∙ ap (λ h. if h == sh then put_of v item ∷ puts log v.no sh else puts log v.no sh) home_so
 
+  -- If the windows `windows` stand for the puts including the new one, they fit the journal with the put's line
+  -- (`ShowsRates`).
   pub rates_put : (windows : List WindowValue) → home_among (filter is_open v.tree) item.hash < length v.tree
       → ShowsRates log v.no v.enforced (length v.tree) v.windows
       → StandFor (with_put (home_among (filter is_open v.tree) item.hash) (put_of v item) (puts log v.no)) 0 windows
@@ -135,7 +149,9 @@ module _ (v : StreamValue) (log : Journal) (by n : ℕ) (item : NewItem) (same :
         ∙ rates.none_beyond sh beyond;
   }
 
--- The test of the decision, if the limits and the puts of the item's home are known.
+-- The decision throttles an item (`is_held_back`) if and only if the limits are on (`on`) and the puts `ps` of the
+-- item's home `sh` leave no room for its `bytes` bytes. The shards `xs`, the setting `on` and the puts `ps` are those
+-- of the journal.
 pub held_is : (log : Journal) (c s : ℕ) (xs : List ShardState) (item : NewItem) (on : Bool) (sh bytes : ℕ)
     (ps : List SizedPut) → shards log s ≡ xs → is_enforced log s ≡ on → sh ≡ home_among (filter is_open xs) item.hash
     → bytes ≡ item_bytes item → ps ≡ puts log s sh
@@ -150,6 +166,8 @@ held_is log c s xs item on sh bytes ps same enforces at counted are =
 -- ---- The decision
 
 module _ (v : StreamValue) (log : Journal) (by : ℕ) (item : NewItem) (shown : Shows v log) where
+  -- If the item is throttled (`is_held_back`), PutRecord is refused with `Throttled` and the item's home `sh`, and the
+  -- stream shows the journal with the decision's lines, of which there are none.
   pub put_throttled : (sh : ℕ) → sh ≡ home_among (filter is_open v.tree) item.hash
       → is_held_back log v.clock v.no item ≡ true
       → (Err (refusal.Throttled sh) ≡ answer_of (put log v.clock by v.no item))
@@ -161,6 +179,8 @@ module _ (v : StreamValue) (log : Journal) (by : ℕ) (item : NewItem) (shown : 
         both.1,
       )
 
+  -- If the item isn't throttled but no sequence number is left, PutRecord is refused with `Spent`, and the stream shows
+  -- the journal with the decision's lines, of which there are none.
   pub put_spent : is_held_back log v.clock v.no item ≡ false → v.next ≡ last_number
       → (Err refusal.Spent ≡ answer_of (put log v.clock by v.no item))
       × Shows v (with_lines (lines_of (put log v.clock by v.no item)) log)
@@ -187,7 +207,8 @@ module _ (v : StreamValue) (log : Journal) (by : ℕ) (item : NewItem) (shown : 
     payload = item.payload;
   } in r) shown.next_is
 
-  -- The records of a shard after the line of a put.
+  -- The records of shard `sh` by the journal with the line of the put. They are those before, and the new record if the
+  -- line is about this stream (`a`) and the shard is the item's home (`b`).
   records_by : (a b : Bool) (sh : ℕ) → (v.no == v.no) ≡ a → (home log v.no item.hash == sh) ≡ b
       → records (put_line log v.clock by v.no (next_number log v.no) item ∷ log) v.no sh
       ≡ (if a && b then records log v.no sh ++ record {
@@ -226,6 +247,8 @@ module _ (v : StreamValue) (log : Journal) (by : ℕ) (item : NewItem) (shown : 
       → records (put_line log v.clock by v.no (next_number log v.no) item ∷ log) v.no sh ≡ records log v.no sh
   elsewhere sh differ = records_by true false sh (is_itself v.no) (is_other (home log v.no item.hash) sh differ)
 
+  -- Let the record be added to the log of its home `sh`, and let the next sequence number rise by one. Then the stream
+  -- shows the journal with the line of the put, without regard to throughput (`ShowsStored`).
   pub shows_put : (sh : ℕ) → sh ≡ home_among (filter is_open v.tree) item.hash → sh < length v.tree
       → floor_of v.cut ≤ v.clock
       → ShowsStored (record v {
@@ -306,6 +329,9 @@ module _ (v : StreamValue) (log : Journal) (by : ℕ) (item : NewItem) (shown : 
         cut_before = v.cut;
       }) after) (sym are) full)
 
+  -- If the item isn't throttled and a sequence number is left, PutRecord answers with the record's shard and sequence
+  -- number. Suppose that `logs`, `windows` and `next` are those of `v` with the record stored and counted in its home
+  -- `sh`. Then the stream with them shows the journal with the decision's lines.
   pub put_done : (sh next : ℕ) (logs : List LogValue) (windows : List WindowValue)
       → is_held_back log v.clock v.no item ≡ false → next ≡ v.next + 1 → v.next ≢ last_number
       → sh ≡ home_among (filter is_open v.tree) item.hash → sh < length v.tree → floor_of v.cut ≤ v.clock
@@ -325,8 +351,10 @@ module _ (v : StreamValue) (log : Journal) (by : ℕ) (item : NewItem) (shown : 
       (put_shows sh next logs windows drawn at within trims are rates stand) in
       (ap (λ (p : Place). Ok (reply.Put p)) (place_is sh at) ∙ both.0, both.1)
 
--- ---- A stream still
+-- ---- The invariant of the stream
 
+-- If the ending sequence numbers of all closed shards in `xs` are below `next`, they are below each greater number
+-- `higher`.
 pub ends_later : (next higher : ℕ) (xs : List ShardState) → next ≤ higher → AllByRecursion (EndsUnder next) xs
     → AllByRecursion (EndsUnder higher) xs
 ends_later next higher xs le h = all_weaker (EndsUnder next) (EndsUnder higher) (λ x a. under x.closing a) xs h
@@ -339,9 +367,13 @@ under_more : (last : Option ℕ) (next higher : ℕ) → next + 1 ≤ higher →
 under_more None next higher more h = tt
 under_more (Some n) next higher more h = omega arith
 
+-- If `n` is below 2^64 and isn't the greatest such number, `n + 1` is below 2^64.
 pub one_free : (n m : ℕ) → m ≡ n + 1 → n ≢ last_number → n < 2 ^ 64 → m < 2 ^ 64
 one_free n m is free fits = omega arith
 
+-- Suppose that a record with the stream's next sequence number and clock is added to one of its logs, that the next
+-- sequence number rises by one, and that the new windows fit (`AreRated`). Then the stream keeps its invariant
+-- (`IsStream`).
 pub stream_put : (v : StreamValue) (sh next : ℕ) (r : Logged) (logs : List LogValue) (windows : List WindowValue)
     → next ≡ v.next + 1 → v.next ≢ last_number → r.seq ≡ v.next → r.arrival ≡ v.clock → logs ≡ with_appended sh r v.logs
     → AreRated v.clock (length v.tree) windows → IsStream v

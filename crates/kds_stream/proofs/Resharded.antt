@@ -1,4 +1,4 @@
--- What a stream shows after a split or a merge, and that it is a stream still.
+-- After a split or a merge, the stream shows the journal with the new line, and keeps its invariant (`IsStream`).
 use Rattle.std.proofs.Common.{◌≡◌, ◌≢◌, ℕ, zero, suc, ◌+◌, ◌^◌, ◌<◌, ◌≤◌, Bool, List, [], ◌∷◌, ◌++◌, length, None}
 use Rattle.std.proofs.Common.{refl, sym, ap, subst, ◌∙◌, arith, length-append}
 use Rattle.std.specs.Prelude.{◌==◌, Ok}
@@ -32,7 +32,7 @@ use Rattle.kds_stream_logs.specs.Logs.{HasArrived, IsBelow, empty_log}
 use Rattle.kds_stream.specs.Value.{EndsUnder, IsStream, StreamValue}
 use Rattle.kds_tree.specs.Tree.{merge_refusal, split_refusal}
 
--- ---- The shards after it
+-- ---- The shards after a split or a merge
 
 ends_closed : (next sh : ℕ) (closing : Closing) (xs : List ShardState) → closing.number < next
     → AllByRecursion (EndsUnder next) xs → AllByRecursion (EndsUnder next) (with_closed sh closing xs)
@@ -40,11 +40,15 @@ ends_closed next sh closing [] below h = tt
 ends_closed next zero closing (x ∷ xs) below h = (below, h.1)
 ends_closed next (suc sh) closing (x ∷ xs) below h = (h.0, ends_closed next sh closing xs below h.1)
 
+-- If all ending sequence numbers are below `next`, and a split takes a number below `next`, all ending sequence numbers
+-- after the split are below `next`.
 pub ends_split : (next sh at start : ℕ) (closing : Closing) (xs : List ShardState) → closing.number < next
     → AllByRecursion (EndsUnder next) xs → AllByRecursion (EndsUnder next) (split_shards sh at closing start xs)
 ends_split next sh at start closing xs below h =
     all_append (EndsUnder next) (with_closed sh closing xs) _ (ends_closed next sh closing xs below h) (tt, (tt, tt))
 
+-- If all ending sequence numbers are below `next`, and a merge takes a number below `next`, all ending sequence numbers
+-- after the merge are below `next`.
 pub ends_merged : (next sh other start : ℕ) (closing : Closing) (xs : List ShardState) → closing.number < next
     → AllByRecursion (EndsUnder next) xs → AllByRecursion (EndsUnder next) (merged_shards sh other closing start xs)
 ends_merged next sh other start closing xs below h =
@@ -54,7 +58,7 @@ ends_merged next sh other start closing xs below h =
       tt,
     )
 
--- ---- The logs after it
+-- ---- The logs after a split or a merge
 
 kept_empty : (floor : ℕ) (log : Journal) (s n : ℕ) (new : List LogValue) → AllByRecursion (λ l. l ≡ empty_log) new
     → ((sh : ℕ) → n ≤ sh → records log s sh ≡ []) → AreKept floor log s n new
@@ -80,8 +84,11 @@ all_empty : (P : LogValue → Type 0) (new : List LogValue) → P empty_log → 
     → AllByRecursion P new
 all_empty P new p h = all_weaker (λ l. l ≡ empty_log) P (λ l is. subst P (sym is) p) new h
 
--- ---- The stream after it
+-- ---- The stream after a split or a merge
 
+-- A stream keeps its invariant (`IsStream`) if it gets the shards `tree`, and an empty log and an unused window for
+-- each new one of them. At most `OPEN_SHARDS` of the shards are open, and all their ending sequence numbers are below
+-- the new next number.
 pub stream_grown : (v : StreamValue) (tree : List ShardState) (new : List LogValue) (ws : List WindowValue) (next : ℕ)
     → v.next ≤ next → next < 2 ^ 64
     → AllByRecursion (λ l. l ≡ empty_log) new → AllByRecursion IsUnused ws → length ws ≡ length new
@@ -113,7 +120,9 @@ stream_grown v tree new ws next more within empty unused beside grown few ends i
   fits = within;
 }
 
--- The stream shows a journal with a further line, which adds no record.
+-- Suppose that a line at the stream's clock changes only what the journal says of the stream's shards and next sequence
+-- number. Then the stream with these, and with an empty log and an unused window for each new shard, shows the journal
+-- with the line.
 shows_grown : (v : StreamValue) (log : Journal) (line : Line) (tree : List ShardState) (new : List LogValue)
     (ws : List WindowValue) (next : ℕ) → line.clock ≡ v.clock → is_live (line ∷ log) v.no ≡ is_live log v.no
     → was_made (line ∷ log) v.no ≡ was_made log v.no → name_of (line ∷ log) v.no ≡ name_of log v.no
@@ -162,6 +171,8 @@ shows_grown v log line tree new ws next at live was named made lasts enforces sa
 
 module _ (v : StreamValue) (log : Journal) (by : ℕ) (show : Shows v log) (as_many : length v.logs ≡ length v.tree)
     (as_wide : length v.windows ≡ length v.tree) where
+  -- Let the stream get the shards and the next sequence number after a split, two empty logs, and the unused windows
+  -- `ws`, and let it remember its present clock and cut. Then it shows the journal with the split's line.
   pub shows_split : (sh at next : ℕ) (tree : List ShardState) (logs : List LogValue) (windows ws : List WindowValue)
       → next ≡ v.next + 1 → tree ≡ split_shards sh at (record { number = v.next; clock = v.clock }) (v.next + 1) v.tree
       → logs ≡ v.logs ++ (empty_log ∷ empty_log ∷ []) → windows ≡ v.windows ++ ws → AllByRecursion IsUnused ws
@@ -207,6 +218,8 @@ module _ (v : StreamValue) (log : Journal) (by : ℕ) (show : Shows v log) (as_m
       (ap length tree_is ∙ length_split sh at (v.next + 1) (record { number = v.next; clock = v.clock }) v.tree)
       as_many as_wide show))
 
+  -- Let the stream get the shards and the next sequence number after a merge, and an empty log and an unused window for
+  -- the child. Then it shows the journal with the merge's line.
   pub shows_merged : (sh other next : ℕ) (tree : List ShardState) (logs : List LogValue) (windows ws : List WindowValue)
       → next ≡ v.next + 1 → tree ≡ merged_shards sh other (record { number = v.next; clock = v.clock }) (v.next + 1)
       v.tree → logs ≡ v.logs ++ (empty_log ∷ []) → windows ≡ v.windows ++ ws → AllByRecursion IsUnused ws
@@ -252,6 +265,8 @@ module _ (v : StreamValue) (log : Journal) (by : ℕ) (show : Shows v log) (as_m
       (ap length tree_is ∙ length_merged sh other (v.next + 1) (record { number = v.next; clock = v.clock }) v.tree)
       as_many as_wide show))
 
+-- A stream in which fewer than `OPEN_SHARDS` shards are open keeps its invariant (`IsStream`) after a split that isn't
+-- refused.
 pub stream_split : (v : StreamValue) (sh at next : ℕ) (tree : List ShardState) (logs : List LogValue)
     (windows ws : List WindowValue) → next ≡ v.next + 1 → v.next ≢ last_number
     → length (filter is_open v.tree) < OPEN_SHARDS → split_refusal v.tree sh at ≡ None
@@ -295,6 +310,7 @@ stream_split v sh at next tree logs windows ws drawn free few passes tree_is log
     (ends_split next sh at (v.next + 1) how v.tree (omega arith)
     (ends_later v.next next v.tree (omega arith) is.endings))) is))
 
+-- A stream keeps its invariant (`IsStream`) after a merge that isn't refused.
 pub stream_merged : (v : StreamValue) (sh other next : ℕ) (tree : List ShardState) (logs : List LogValue)
     (windows ws : List WindowValue) → next ≡ v.next + 1 → v.next ≢ last_number → merge_refusal v.tree sh other ≡ None
     → tree ≡ merged_shards sh other (record { number = v.next; clock = v.clock }) (v.next + 1) v.tree
@@ -337,8 +353,10 @@ stream_merged v sh other next tree logs windows ws drawn free passes tree_is log
     (ends_merged next sh other (v.next + 1) how v.tree (omega arith)
     (ends_later v.next next v.tree (omega arith) is.endings))) is))
 
--- ---- What the calls owe
+-- ---- The answers to an accepted SplitShard and MergeShards
 
+-- Let the streams `u` and `v` be equal, and let the split be accepted at `u`. Then the decision answers `Done`. A
+-- stream `w` that shows the journal with the split's line at `v` shows the journal with the decision's lines.
 pub split_done : (u v w : StreamValue) (full : Bool) (log : Journal) (by sh at : ℕ) → v ≡ u
     → split_where full log u.clock by u.no sh at ≡ Accepted (split_line log u.clock by u.no sh at ∷ []) reply.Done
     → Shows w (split_line log v.clock by v.no sh at ∷ log)
@@ -349,6 +367,8 @@ split_done u v w full log by sh at same is shows =
     reply.Done log (λ l. Shows w l) is
     (subst (λ (x : StreamValue). Shows w (split_line log x.clock by x.no sh at ∷ log)) same shows)
 
+-- Let the streams `u` and `v` be equal, and let the merge be accepted at `u`. Then the decision answers `Done`. A
+-- stream `w` that shows the journal with the merge's line at `v` shows the journal with the decision's lines.
 pub merge_done : (u v w : StreamValue) (log : Journal) (by sh other : ℕ) → v ≡ u
     → merge log u.clock by u.no sh other ≡ Accepted (merge_line log u.clock by u.no sh other ∷ []) reply.Done
     → Shows w (merge_line log v.clock by v.no sh other ∷ log)

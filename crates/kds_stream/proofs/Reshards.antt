@@ -1,4 +1,6 @@
--- Splits and merges: their decisions, and what the stream shows after them.
+-- What the decisions on SplitShard and MergeShards are, if the results of the code's tests are known. The shard tree
+-- holds the stream's shards, and tests whether shards exist, are open, and may be split or merged (`split_refusal` and
+-- `merge_refusal`).
 use Rattle.std.proofs.Common.{◌≡◌, ◌≢◌, ℕ, ◌+◌, ◌^◌, ◌<◌, Bool, true, false, List, [], ◌∷◌, length, Option, Some, None}
 use Rattle.std.proofs.Common.{refl, sym, ap, subst, ◌∙◌, arith}
 use Rattle.std.specs.Prelude.{◌==◌, ◌&&◌, ◌||◌, not, nat_lt, is_some, slice_get, if◌then◌else◌}
@@ -21,8 +23,10 @@ use Rattle.kds_stream.specs.Showing.{Shows, merge_line, split_line}
 use Rattle.kds_stream.specs.Value.{StreamValue, is_listed_at}
 use Rattle.kds_tree.specs.Tree.{merge_refusal, split_refusal}
 
--- ---- The tests of the tree
+-- ---- The tests of the shard tree and those of the decision
 
+-- If the shard exists (`s`) and the shard tree refuses its split with `r`, the decision refuses the split with `r` too.
+-- `a` says that the shard is open, and `b` that the key lies inside its range.
 split_tests : (s a b : Bool) (r : Refusal) (rest : Decision) → s ≡ true
     → Some r ≡ (if not s then Some refusal.NoShard else if not a then Some refusal.ShardClosed else if not b then Some
     refusal.BadSplit else None)
@@ -33,6 +37,8 @@ split_tests true false b r rest made h = ap Refused (sym (same_some r refusal.Sh
 split_tests true true false r rest made h = ap Refused (sym (same_some r refusal.BadSplit h))
 split_tests true true true r rest made h = absurd cc
 
+-- If the shard tree doesn't refuse the split of a shard, the decision's tests don't either, and the decision is `rest`.
+-- `s` says that the shard exists, `a` that it is open, and `b` that the key lies inside its range.
 split_passes : (s a b : Bool) (rest : Decision)
     → None ≡ (if not s then Some refusal.NoShard else if not a then Some refusal.ShardClosed else if not b then Some
     refusal.BadSplit else None)
@@ -43,6 +49,8 @@ split_passes true false b rest h = absurd cc
 split_passes true true false rest h = absurd cc
 split_passes true true true rest h = refl
 
+-- If the two shards exist (`s`) and the shard tree refuses their merge with `r`, the decision refuses the merge with
+-- `r` too. `a` says that the two shards are open, and `b` that they are adjacent.
 merge_tests : (s a b : Bool) (r : Refusal) (rest : Decision) → s ≡ true
     → Some r ≡ (if not s then Some refusal.NoShard else if not a then Some refusal.ShardClosed else if not b then Some
     refusal.NotAdjacent else None)
@@ -53,6 +61,8 @@ merge_tests true false b r rest made h = ap Refused (sym (same_some r refusal.Sh
 merge_tests true true false r rest made h = ap Refused (sym (same_some r refusal.NotAdjacent h))
 merge_tests true true true r rest made h = absurd cc
 
+-- If the shard tree doesn't refuse the merge of two shards, the decision's tests don't either, and the decision is
+-- `rest`. `s` says that the two shards exist, `a` that they are open, and `b` that they are adjacent.
 merge_passes : (s a b : Bool) (rest : Decision)
     → None ≡ (if not s then Some refusal.NoShard else if not a then Some refusal.ShardClosed else if not b then Some
     refusal.NotAdjacent else None)
@@ -67,7 +77,7 @@ there : (floor : ℕ) (o : Option ShardState) → is_listed_at floor o ≡ true 
 there floor None h = absurd cc
 there floor (Some x) h = refl
 
--- A list that is short enough has a number left.
+-- If there are fewer than 2^63 shards, the numbers of two more shards fit in a `u64`.
 few : (n : ℕ) → n < 2 ^ 63 → nat_lt last_number (n + 1) ≡ false
 few n h = grind (arith, nat_tests)
 
@@ -90,7 +100,8 @@ module _ (v : StreamValue) (log : Journal) (by : ℕ) (show : Shows v log) where
   few_shards h = subst (λ (xs : List ShardState). length xs < 2 ^ 63) (sym show.stored.shards_are) h
 
   module _ (full : Bool) (sh at : ℕ) where
-    -- What is decided of a split once the shard is listed.
+    -- What the decision on SplitShard still tests after the tests of the shard tree: the limit on open shards (`full`),
+    -- and whether numbers are left.
     split_rest : Decision
     split_rest =
         refuse refusal.Full if full else
@@ -98,6 +109,7 @@ module _ (v : StreamValue) (log : Journal) (by : ℕ) (show : Shows v log) where
         == last_number else
         Accepted (split_line log v.clock by v.no sh at ∷ []) reply.Done
 
+    -- If the shard isn't listed, SplitShard is refused with `NoShard`.
     pub split_unlisted : is_listed_at (floor_of v.cut) (slice_get v.tree sh) ≡ false
         → split_where full log v.clock by v.no sh at ≡ Refused refusal.NoShard
     split_unlisted h = refused_if _ _ _ (ap not (listed_is v log show sh ∙ h))
@@ -112,18 +124,23 @@ module _ (v : StreamValue) (log : Journal) (by : ℕ) (show : Shows v log) where
         ∙ ap (λ o. refuse refusal.ShardClosed if not (is_open_at o) else refuse refusal.BadSplit if not
         (is_inside (range_of o) at) else split_rest) (shard_is v log show sh)
 
+    -- If the shard is listed, and the shard tree refuses its split with `r`, SplitShard is refused with `r`.
     pub split_refused : (r : Refusal) → is_listed_at (floor_of v.cut) (slice_get v.tree sh) ≡ true
         → Some r ≡ split_refusal v.tree sh at → split_where full log v.clock by v.no sh at ≡ Refused r
     split_refused r listed h =
         split_listed listed ∙ split_tests (is_some (slice_get v.tree sh)) _ _ r split_rest
         (there (floor_of v.cut) (slice_get v.tree sh) listed) h
 
+    -- If the shard is listed and the shard tree doesn't refuse its split, but no further shard may be open (`full`),
+    -- SplitShard is refused with `Full`.
     pub split_full : is_listed_at (floor_of v.cut) (slice_get v.tree sh) ≡ true → None ≡ split_refusal v.tree sh at
         → full ≡ true → split_where full log v.clock by v.no sh at ≡ Refused refusal.Full
     unfolding split_rest
     split_full listed h is =
         split_listed listed ∙ split_passes (is_some (slice_get v.tree sh)) _ _ split_rest h ∙ refused_if _ _ _ is
 
+    -- If the shard is listed, the shard tree doesn't refuse its split and a further shard may be open, but no sequence
+    -- number is left, SplitShard is refused with `Spent`.
     pub split_spent : is_listed_at (floor_of v.cut) (slice_get v.tree sh) ≡ true → None ≡ split_refusal v.tree sh at
         → full ≡ false → v.next ≡ last_number → split_where full log v.clock by v.no sh at ≡ Refused refusal.Spent
     unfolding split_rest
@@ -132,6 +149,8 @@ module _ (v : StreamValue) (log : Journal) (by : ℕ) (show : Shows v log) where
         ∙ passed_if _ _ _ room
         ∙ refused_if _ _ _ (spent_next (nat_lt last_number (length (shards log v.no) + 1)) spent)
 
+    -- If the shard is listed, the shard tree doesn't refuse its split, a further shard may be open, a sequence number
+    -- is left, and there are fewer than 2^63 shards, SplitShard is accepted.
     pub split_accepted : is_listed_at (floor_of v.cut) (slice_get v.tree sh) ≡ true → None ≡ split_refusal v.tree sh at
         → full ≡ false → v.next ≢ last_number → length v.tree < 2 ^ 63
         → split_where full log v.clock by v.no sh at ≡ Accepted (split_line log v.clock by v.no sh at ∷ []) reply.Done
@@ -156,6 +175,7 @@ module _ (v : StreamValue) (log : Journal) (by : ℕ) (show : Shows v log) where
         ap (λ b. b && is_listed log v.clock v.no other) (listed_is v log show sh)
         ∙ ap (λ b. is_listed_at (floor_of v.cut) (slice_get v.tree sh) && b) (listed_is v log show other)
 
+    -- If one of the two shards isn't listed, MergeShards is refused with `NoShard`.
     pub merge_unlisted : (is_listed_at (floor_of v.cut) (slice_get v.tree sh)
         && is_listed_at (floor_of v.cut) (slice_get v.tree other)) ≡ false
         → merge log v.clock by v.no sh other ≡ Refused refusal.NoShard
@@ -183,6 +203,7 @@ module _ (v : StreamValue) (log : Journal) (by : ℕ) (show : Shows v log) where
     made_both h g = and_from _ _ (there (floor_of v.cut) (slice_get v.tree sh) h)
         (there (floor_of v.cut) (slice_get v.tree other) g)
 
+    -- If the two shards are listed, and the shard tree refuses their merge with `r`, MergeShards is refused with `r`.
     pub merge_refused : (r : Refusal) → is_listed_at (floor_of v.cut) (slice_get v.tree sh) ≡ true
         → is_listed_at (floor_of v.cut) (slice_get v.tree other) ≡ true → Some r ≡ merge_refusal v.tree sh other
         → merge log v.clock by v.no sh other ≡ Refused r
@@ -190,6 +211,8 @@ module _ (v : StreamValue) (log : Journal) (by : ℕ) (show : Shows v log) where
         merge_listed h g ∙ merge_tests (is_some (slice_get v.tree sh) && is_some (slice_get v.tree other))
         _ _ r merge_rest (made_both h g) is
 
+    -- If the two shards are listed and the shard tree doesn't refuse their merge, but no sequence number is left,
+    -- MergeShards is refused with `Spent`.
     pub merge_spent : is_listed_at (floor_of v.cut) (slice_get v.tree sh) ≡ true
         → is_listed_at (floor_of v.cut) (slice_get v.tree other) ≡ true → None ≡ merge_refusal v.tree sh other
         → v.next ≡ last_number → merge log v.clock by v.no sh other ≡ Refused refusal.Spent
@@ -199,6 +222,8 @@ module _ (v : StreamValue) (log : Journal) (by : ℕ) (show : Shows v log) where
         _ _ merge_rest is
         ∙ refused_if _ _ _ (spent_next (nat_lt last_number (length (shards log v.no))) spent)
 
+    -- If the two shards are listed, the shard tree doesn't refuse their merge, a sequence number is left, and there are
+    -- fewer than 2^63 shards, MergeShards is accepted.
     pub merge_accepted : is_listed_at (floor_of v.cut) (slice_get v.tree sh) ≡ true
         → is_listed_at (floor_of v.cut) (slice_get v.tree other) ≡ true → None ≡ merge_refusal v.tree sh other
         → v.next ≢ last_number → length v.tree < 2 ^ 63

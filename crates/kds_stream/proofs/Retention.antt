@@ -1,4 +1,5 @@
--- A change of the retention: its decision, what the stream shows after it, and that it is a stream still.
+-- IncreaseStreamRetentionPeriod and DecreaseStreamRetentionPeriod: the call answers as the decision `keep` does, the
+-- stream shows the journal with the decision's lines, and the stream keeps its invariant (`IsStream`).
 use Rattle.std.proofs.Common.{◌≡◌, ℕ, ◌*◌, max, ◌≤◌, Bool, true, false, [], ◌∷◌, length, Option, refl, sym, ap, ◌∙◌}
 use Rattle.std.proofs.Common.{arith}
 use Rattle.std.specs.Prelude.{◌==◌, nat_lt, if◌then◌else◌, Ok, Err}
@@ -21,16 +22,19 @@ use Rattle.kds_stream.proofs.Rates.{rated_later}
 use Rattle.kds_stream.specs.Showing.{Shows}
 use Rattle.kds_stream.specs.Value.{IsStream, StreamValue, cut_at, later_cut}
 
--- The line of a change of the retention.
+-- The line by which the actor `by` changes the retention of the stream `v` to `wanted` hours.
 abbrev pub kept_line : StreamValue → ℕ → ℕ → Line
 kept_line v by wanted = plain_line v.clock by (entry.Kept v.no wanted)
 
 module _ (v : StreamValue) (log : Journal) (by wanted : ℕ) (raise : Bool) (shown : Shows v log) where
-  -- The test of the decision, as the code makes it.
+  -- The decision's test on the retention by the journal has the same result `b` as the code's test on the stream's
+  -- retention.
   tested : (b : Bool) → b ≡ (if raise then nat_lt wanted v.hours else nat_lt v.hours wanted)
       → (if raise then nat_lt wanted (hours log v.no) else nat_lt (hours log v.no) wanted) ≡ b
   tested b is = ap (λ n. if raise then nat_lt wanted n else nat_lt n wanted) shown.stored.hours_are ∙ sym is
 
+  -- If the retention is to be raised but would fall, or is to be lowered but would rise, the change is refused with
+  -- `BadRetention`. The stream shows the journal with the decision's lines, of which there are none.
   pub keep_refused : true ≡ (if raise then nat_lt wanted v.hours else nat_lt v.hours wanted)
       → (Err refusal.BadRetention ≡ answer_of (keep log v.clock by v.no wanted raise))
       × Shows v (with_lines (lines_of (keep log v.clock by v.no wanted raise)) log)
@@ -76,6 +80,8 @@ module _ (v : StreamValue) (log : Journal) (by wanted : ℕ) (raise : Bool) (sho
         };
       }
 
+  -- If the retention may be changed, the decision answers `Done`. With the new retention, and with the later one of its
+  -- cut and the cut by the new retention, the stream shows the journal with the decision's line.
   pub keep_done : (cut : Option ℕ) → cut ≡ later_cut v.cut (cut_at v.clock wanted)
       → false ≡ (if raise then nat_lt wanted v.hours else nat_lt v.hours wanted)
       → (Ok reply.Done ≡ answer_of (keep log v.clock by v.no wanted raise))
@@ -86,6 +92,8 @@ module _ (v : StreamValue) (log : Journal) (by wanted : ℕ) (raise : Bool) (sho
       (λ l. Shows (record v { hours = wanted; cut = cut; clock_before = v.clock; cut_before = cut }) l)
       (passed_if _ _ _ (tested false is)) (shows_kept cut later)
 
+-- A stream keeps its invariant (`IsStream`) after its retention is changed to `wanted` hours, with the later one of its
+-- cut and the cut by the new retention.
 pub stream_kept : (v : StreamValue) (wanted : ℕ) (cut : Option ℕ) → cut ≡ later_cut v.cut (cut_at v.clock wanted)
     → IsRetention wanted → IsStream v
     → IsStream (record v { hours = wanted; cut = cut; clock_before = v.clock; cut_before = cut })

@@ -1,4 +1,7 @@
--- Records that are stored together: what the stream shows after them.
+-- PutRecords: the call answers as the decision `put_many` does, the stream shows the journal with the decision's lines,
+-- and the stream keeps its invariant (`IsStream`). An item is held back if it is throttled, and taken otherwise. The
+-- puts of the shards are given by a function `f` from the number of a shard to its puts. A retreat sets a stream's
+-- clock and cut back to `clock_before` and `cut_before`.
 use Rattle.std.proofs.Common.{◌≡◌, ◌≢◌, ℕ, suc, ◌+◌, ◌^◌, ◌<◌, ◌≤◌, Bool, true, false, List, [], ◌∷◌, length, refl, sym}
 use Rattle.std.proofs.Common.{ap, subst, ◌∙◌, arith}
 use Rattle.std.specs.Prelude.{◌==◌, nat_lt, if◌then◌else◌, Ok, Err}
@@ -40,9 +43,10 @@ use Rattle.kds_stream_logs.specs.Logs.{IsBelow, settled_at, with_appended}
 use Rattle.kds_stream.specs.Value.{EndsUnder, IsStream, StreamValue}
 use Rattle.kds_stream_logs.proofs.Routings.{IsFrom, all_from, apart, turns}
 
--- ---- The records of items
+-- ---- The records of the items that are taken
 
--- What is made of a further item, by whether it is held back.
+-- Which items are taken of a list whose first item is `item`. `b` says whether this item is held back. The other items
+-- are judged after it.
 taken_at : (xs : List ShardState) (c : ℕ) (on : Bool) (f : ℕ → List SizedPut) (item : NewItem) (items : List NewItem)
     (b : Bool) → is_held xs c on f item ≡ b
     → taken xs c on f (item ∷ items)
@@ -64,7 +68,8 @@ outcomes_at : (xs : List ShardState) (c : ℕ) (on : Bool) (f : ℕ → List Siz
 outcomes_at xs c on f n item items b is =
     ap (λ d. outcome_of xs n item d ∷ outcomes xs c on (after_item xs c f item d) (after_number n d) items) is
 
--- The logs of a stream can take the records, and the records are in turn.
+-- The logs of a stream can take the records of items that are routed to the stream's shards: their sequence numbers and
+-- times of arrival aren't lower than those in the logs (`CanTake`).
 pub can_take : (v : StreamValue) (items : List NewItem) (rs : List Routed) → IsStream v
     → rs ≡ routed_items v.tree v.clock v.next items → AllByRecursion (IsWithin (length v.tree)) rs
     → AllByRecursion (CanTake v.logs) rs
@@ -82,9 +87,10 @@ pub in_turn : (v : StreamValue) (items : List NewItem) (rs : List Routed)
     → rs ≡ routed_items v.tree v.clock v.next items → AreInTurn rs
 in_turn v items rs are = subst AreInTurn (sym are) (turns v.tree v.clock v.next items)
 
--- ---- What the stream shows after them
+-- ---- What the stream shows after the puts
 
--- The stream `v` with these logs and windows and this next number. It remembers no earlier clock.
+-- The stream `v` with the logs `ls`, the windows `ws` and the next sequence number `next`. A retreat goes back to the
+-- present clock and cut.
 abbrev pub with_logs : StreamValue → List LogValue → List WindowValue → ℕ → StreamValue
 with_logs v ls ws next = record v { logs = ls; windows = ws; next = next; clock_before = v.clock; cut_before = v.cut }
 
@@ -93,7 +99,7 @@ shows_none : (v : StreamValue) (next : ℕ) (log : Journal) → next ≡ v.next 
 shows_none v next log is shown =
     subst (λ n. ShowsStored (record v { next = n; clock_before = v.clock; cut_before = v.cut }) log) (sym is) shown
 
--- What one put makes of the stream `v`, its windows aside.
+-- The stream `v` after a put of `item`, but still with the windows before the put.
 after_one : StreamValue → NewItem → StreamValue
 after_one v item = record v {
   logs = with_appended (home_among (filter is_open v.tree) item.hash) (put_record v item)
@@ -103,7 +109,8 @@ after_one v item = record v {
   cut_before = v.cut;
 }
 
--- The lines of a put of several items, by whether the first is held back.
+-- The lines of a PutRecords for a list whose first item is `item`. `b` says whether this item is held back, so that it
+-- has no line.
 lines_at : (log : Journal) (c by s : ℕ) (item : NewItem) (items : List NewItem) (b : Bool)
     → is_held_back log c s item ≡ b
     → put_lines log c by s (item ∷ items)
@@ -124,7 +131,8 @@ told_at log c by s item items b is =
     ∷ put_outcomes log c by s items else outcome.Stored (put_place log s (next_number log s) item)
     ∷ put_outcomes (put_line log c by s (next_number log s) item ∷ log) c by s items) is
 
--- The puts are those of the journal, and stay so.
+-- If `f` gives the puts of the shards by the journal `log`, then `after_item` gives the puts by the journal with the
+-- line of `item`. The item isn't held back.
 puts_stay : (v : StreamValue) (log : Journal) (by : ℕ) (item : NewItem) (f : ℕ → List SizedPut)
     → shards log v.no ≡ v.tree → ((n : ℕ) → f n ≡ puts log v.no n)
     → (n : ℕ) → after_item v.tree v.clock f item false n
@@ -141,12 +149,15 @@ judged v log item f shards_are enforces same =
     (f (home_among (filter is_open v.tree) item.hash)) shards_are enforces refl refl
     (same (home_among (filter is_open v.tree) item.hash))
 
--- There is a line for each item that is taken, and the outcomes are those of the lines.
+-- By the journal, a PutRecords for `items` adds as many lines as the stream takes items. Its outcomes are those that
+-- the stream computes from the puts `f` and the next sequence number `n` (`outcomes`).
 pub record Told (v : StreamValue) (log : Journal) (by n : ℕ) (f : ℕ → List SizedPut) (items : List NewItem) :
     Type 0 where
   pub many : length (put_lines log v.clock by v.no items) ≡ length (taken v.tree v.clock v.enforced f items)
   pub so : put_outcomes log v.clock by v.no items ≡ outcomes v.tree v.clock v.enforced f n items
 
+-- If the stream's shards and limits, the number `n` and the puts `f` are those of the journal, a PutRecords for `items`
+-- adds the right number of lines and has the computed outcomes (`Told`).
 pub puts_told : (items : List NewItem) (v : StreamValue) (log : Journal) (by n : ℕ) (f : ℕ → List SizedPut)
     → shards log v.no ≡ v.tree → is_enforced log v.no ≡ v.enforced → next_number log v.no ≡ n
     → ((m : ℕ) → f m ≡ puts log v.no m) → Told v log by n f items
@@ -192,7 +203,9 @@ puts_told (item ∷ items) v log by n f shards_are enforces number same =
               ∙ sym (outcomes_at v.tree v.clock v.enforced f n item items false is);
         }
 
--- What the stream shows after all of the items.
+-- What the stream shows after a PutRecords for `items`, if the puts before them are `f`. With the taken records in the
+-- logs, it shows the journal with the lines of the items, without regard to throughput (`ShowsStored`). Windows that
+-- stand for the puts after the items fit this journal (`ShowsRates`).
 pub record Stores (v : StreamValue) (log : Journal) (by : ℕ) (f : ℕ → List SizedPut) (items : List NewItem) :
     Type 0 where
   pub stored : (next : ℕ) → next ≡ v.next + length (taken v.tree v.clock v.enforced f items)
@@ -207,6 +220,9 @@ pub record Stores (v : StreamValue) (log : Journal) (by : ℕ) (f : ℕ → List
   pub rates : (ws : List WindowValue) → StandFor (after_items v.tree v.clock v.enforced f items) 0 ws
       → ShowsRates (with_lines (put_lines log v.clock by v.no items) log) v.no v.enforced (length v.tree) ws
 
+-- Suppose that the stream shows the journal without regard to throughput, and that its limits and the puts `f` are
+-- those of the journal. Then the stream with the taken records shows the journal with the lines of the items
+-- (`Stores`).
 pub shows_puts : (items : List NewItem) (v : StreamValue) (log : Journal) (by : ℕ) (f : ℕ → List SizedPut)
     → is_enforced log v.no ≡ v.enforced → ((n : ℕ) → f n ≡ puts log v.no n)
     → ((sh : ℕ) → length v.tree ≤ sh → f sh ≡ [])
@@ -313,9 +329,10 @@ shows_puts (item ∷ items) v log by f enforces same none within trims shown =
               (λ sh any. after_at v.tree v.clock v.enforced f item items false sh is) stand));
         }
 
--- ---- A stream still
+-- ---- The invariant of the stream
 
--- A stream with other windows, and the same next number, is a stream still.
+-- A stream keeps its invariant (`IsStream`) if its windows are replaced by others that fit its shards and its clock
+-- (`AreRated`).
 pub stream_same : (v : StreamValue) (windows : List WindowValue) (next : ℕ) → next ≡ v.next
     → AreRated v.clock (length v.tree) windows → IsStream v
     → IsStream (record v { windows = windows; next = next; clock_before = v.clock; cut_before = v.cut })
@@ -337,6 +354,8 @@ stream_same v windows next same rated is = record {
 number_free : (n m k : ℕ) → m ≡ n + suc k → m < 2 ^ 64 → n ≢ last_number
 number_free n m k is fits e = absurd (omega arith)
 
+-- A stream keeps its invariant (`IsStream`) if the records of `items` are added to the logs of their homes and the next
+-- sequence number rises by the number of the items.
 pub stream_puts : (items : List NewItem) (v : StreamValue) (next : ℕ) → next ≡ v.next + length items → next < 2 ^ 64
     → IsStream v
     → IsStream (record v {
@@ -368,6 +387,8 @@ module _ (v : StreamValue) (log : Journal) (by : ℕ) (items : List NewItem) (sh
   told = puts_told items v log by v.next (puts log v.no) shown.stored.shards_are shown.rates.enforced_is
       shown.stored.next_is (λ m. refl)
 
+  -- If there aren't enough sequence numbers for the items that are taken, PutRecords is refused with `Spent`, and the
+  -- stream shows the journal with the decision's lines, of which there are none.
   pub puts_spent : 2 ^ 64 ≤ v.next + length (taken v.tree v.clock v.enforced (puts log v.no) items)
       → (Err refusal.Spent ≡ answer_of (put_many log v.clock by v.no items))
       × Shows v (with_lines (lines_of (put_many log v.clock by v.no items)) log)
@@ -378,6 +399,9 @@ module _ (v : StreamValue) (log : Journal) (by : ℕ) (items : List NewItem) (sh
       ∙ ap (λ n. nat_lt last_number (v.next + n)) told.many
       ∙ is_past (v.next + length (taken v.tree v.clock v.enforced (puts log v.no) items)) spent)) shown
 
+  -- Suppose that there are enough sequence numbers for the items that are taken, and that `r` has the records and
+  -- outcomes of the items (`AreRouted`). Then PutRecords answers with these outcomes. The stream with these records in
+  -- its logs and with `windows` shows the journal with the decision's lines.
   pub puts_done : (r : Routes) (logs : List LogValue) (windows : List WindowValue) → r.next < 2 ^ 64
       → floor_of v.cut ≤ v.clock → AreRouted v.tree v.clock v.enforced (puts log v.no) v.next items r windows
       → AllByRecursion (IsWithin (length v.tree)) r.routed.items → logs ≡ with_each r.routed.items v.logs
@@ -407,8 +431,10 @@ module _ (v : StreamValue) (log : Journal) (by : ℕ) (items : List NewItem) (sh
       ∙ is_not_past (v.next + length ts) (omega (arith, made.next_is, fits)))) shows in
       (ap (λ (os : List Outcome). Ok (reply.PutMany os)) (made.outcomes_are ∙ sym told.so) ∙ both.0, both.1)
 
--- ---- What is trimmed at their places is dropped
+-- ---- The logs that got records lose their trimmed records
 
+-- A stream keeps its invariant (`IsStream`) after the logs of the shards in the places `ps` have lost their trimmed
+-- records.
 pub stream_each : (v : StreamValue) (ws : List WindowValue) (next : ℕ) (ps : List Place) (ls : List LogValue)
     → IsStream (with_logs v ls ws next) → IsStream (with_logs v (settled_each (floor_of v.cut) ps ls) ws next)
 stream_each v ws next [] ls is = is
@@ -416,6 +442,7 @@ stream_each v ws next (p ∷ ps) ls is =
     stream_each v ws next ps (settled_at (floor_of v.cut) p.shard ls)
     (settled_stream (with_logs v ls ws next) p.shard v.next_to_settle is)
 
+-- A stream still shows its journal after the logs of the shards in the places `ps` have lost their trimmed records.
 pub shows_each : (v : StreamValue) (ws : List WindowValue) (next : ℕ) (log : Journal) (ps : List Place)
     (ls : List LogValue) → Shows (with_logs v ls ws next) log
     → Shows (with_logs v (settled_each (floor_of v.cut) ps ls) ws next) log

@@ -1,4 +1,5 @@
--- What a stream shows after a scaling, and that it is a stream still.
+-- UpdateShardCount: the call answers as the decision does, the stream shows the journal with the lines of all steps,
+-- and the stream keeps its invariant (`IsStream`).
 use Rattle.std.proofs.Common.{◌≡◌, ℕ, zero, suc, ◌+◌, ◌-◌, ◌/◌, ◌^◌, ◌<◌, ◌≤◌, Bool, true, false, List, [], ◌∷◌, ◌++◌}
 use Rattle.std.proofs.Common.{length, map, refl, sym, ap, subst, ◌∙◌, arith, length-append}
 use Rattle.std.specs.Prelude.{cond, nat_lt, not, ◌||◌, if◌then◌else◌, replicate, Ok, Err}
@@ -37,6 +38,7 @@ use Rattle.kds_stream.specs.Value.{EndsUnder, IsStream, StreamValue}
 
 -- ---- The shards after the steps
 
+-- After the steps of a scaling, there are as many more shards as the steps make.
 pub length_scaled : (steps : List ScaleStep) (n c : ℕ) (xs : List ShardState)
     → length (scaled steps n c xs) ≡ length xs + made_by steps
 length_scaled [] n c xs = omega arith
@@ -64,8 +66,11 @@ ends_scaled (Cut b ∷ steps) n c next xs le h =
     ends_scaled steps (n + 1) c next (stepped (Cut b) n c xs) (omega arith)
     (ends_split next (home_in xs b) b (n + 1) (record { number = n; clock = c }) xs (omega arith) h)
 
--- ---- The stream after them
+-- ---- The stream's invariant after the steps
 
+-- Let a stream get the shards after the steps of a scaling, of which at most `OPEN_SHARDS` are open, and an empty log
+-- and an unused window for each new shard. Let the next sequence number rise by one for each step. Then the stream
+-- keeps its invariant (`IsStream`).
 pub stream_scaled : (v : StreamValue) (steps : List ScaleStep) (tree : List ShardState) (logs : List LogValue)
     (windows ws : List WindowValue) (next : ℕ) → tree ≡ scaled steps v.next v.clock v.tree
     → length (filter is_open tree) ≤ OPEN_SHARDS → next ≡ v.next + length steps → next < 2 ^ 64
@@ -110,8 +115,11 @@ stream_scaled v steps tree logs windows ws next tree_is few drawn fits logs_are 
     (all_replicate (λ l. l ≡ empty_log) (made_by steps) empty_log refl) unused (many ∙ sym as_long)
     (omega arith) few (subst (AllByRecursion (EndsUnder next)) (sym tree_is) ends) is))
 
--- ---- What it shows
+-- ---- What the stream shows after the steps
 
+-- Let the stream get the shards and the next sequence number after the steps, and an empty log and an unused window for
+-- each new shard. Then it shows the journal with the lines of the steps. The entries in these lines are those that the
+-- stream computes from its own shards.
 pub record ScalesSo (v : StreamValue) (log : Journal) (by : ℕ) (steps : List ScaleStep) (ws : List WindowValue) :
     Type 0 where
   pub shows : (next : ℕ) → next ≡ v.next + length steps
@@ -145,6 +153,8 @@ shows_unscaled v log logs windows next logs_are windows_are drawn show =
     (sym logs_are)
     (record { stored = show.stored; rates = show.rates })))
 
+-- Suppose that the stream `v` shows the journal, and that `ws` are unused windows, one for each shard that the steps
+-- make. Then the stream after the steps shows the journal with the lines of the steps (`ScalesSo`).
 pub scales_so : (steps : List ScaleStep) (v : StreamValue) (log : Journal) (by : ℕ) (ws : List WindowValue)
     → AllByRecursion IsUnused ws → length ws ≡ made_by steps → length v.logs ≡ length v.tree
     → length v.windows ≡ length v.tree → Shows v log → ScalesSo v log by steps ws
@@ -295,6 +305,8 @@ scales_so (Cut b ∷ steps) v log by (w ∷ u ∷ ws) unused many as_many as_wid
 -- ---- The decision
 
 module _ (v : StreamValue) (log : Journal) (by target : ℕ) (show : Shows v log) where
+  -- If more shards would be open than may be (`full`), UpdateShardCount is refused with `Full`, and the stream shows
+  -- the journal with the decision's lines, of which there are none.
   pub scale_full : (full : Bool) → full ≡ true
       → (Err refusal.Full ≡ answer_of (scale_where full log v.clock by v.name v.no target))
       × Shows v (with_lines (lines_of (scale_where full log v.clock by v.name v.no target)) log)
@@ -311,6 +323,8 @@ module _ (v : StreamValue) (log : Journal) (by target : ℕ) (show : Shows v log
       ∙ ap (λ (xs : List ShardState). are_spent v.next (length xs) (steps_to log v.no target)) show.stored.shards_are
       ∙ ap (λ ts. are_spent v.next (length v.tree) ts) (steps_are ∙ sym are)
 
+  -- If the sequence numbers or the shard numbers don't suffice for the steps, UpdateShardCount is refused with `Spent`,
+  -- and the stream shows the journal with the decision's lines, of which there are none.
   pub scale_spent : (full : Bool) (steps : List ScaleStep) → full ≡ false → steps ≡ scale (starts_in v.tree) target
       → are_spent v.next (length v.tree) steps ≡ true
       → (Err refusal.Spent ≡ answer_of (scale_where full log v.clock by v.name v.no target))
@@ -319,6 +333,9 @@ module _ (v : StreamValue) (log : Journal) (by target : ℕ) (show : Shows v log
       after_refused _ refusal.Spent log (λ l. Shows v l) (passed_if _ _ _ free
       ∙ refused_if _ _ _ (spent_is steps are ∙ spent)) show
 
+  -- If the shards aren't too many and the numbers suffice, UpdateShardCount is accepted, and its reply has `name`,
+  -- `before`, `target` and `entries`. The stream with the shards, logs and windows after the steps shows the journal
+  -- with the decision's lines.
   pub scale_done : (full : Bool) (steps : List ScaleStep) (ws : List WindowValue) (tree : List ShardState)
       (logs : List LogValue) (windows : List WindowValue) (next before : ℕ) (name : List ℕ) (entries : List Entry)
       → full ≡ false → steps ≡ scale (starts_in v.tree) target → are_spent v.next (length v.tree) steps ≡ false
@@ -393,15 +410,18 @@ module _ (v : StreamValue) (log : Journal) (by target : ℕ) (show : Shows v log
       ∙ sym so.entries_are ∙ ap (map (λ line. line.what)) (sym lines_are)) in
       (ap Ok answer ∙ both.0, both.1)
 
--- ---- What the calls owe
+-- ---- What the code's tests mean
 
+-- If `a` is below `b`, the test `nat_lt a b` is true.
 pub is_less : (a b : ℕ) → a < b → nat_lt a b ≡ true
 is_less a b h = grind (arith, nat_tests)
 
+-- If `a` isn't below `b`, the test `nat_lt a b` is false.
 pub is_not_less : (a b : ℕ) → b ≤ a → nat_lt a b ≡ false
 is_not_less a b h = grind (arith, nat_tests)
 
--- There is one more start after a start is added.
+-- After a start is inserted in front of `x`, or behind it, the list has one more element. `lt` says whether it is
+-- inserted in front.
 more_starts : (lt : Bool) (b x : ℕ) (xs ys : List ℕ) → length ys ≡ suc (length xs)
     → length (if lt then b ∷ x ∷ xs else x ∷ ys) ≡ suc (suc (length xs))
 more_starts true b x xs ys h = refl
@@ -415,6 +435,7 @@ length-starts : (xs : List ShardState) → length (starts_among xs) ≡ length x
 length-starts [] = refl
 length-starts (x ∷ xs) = length-with_start x.range.start (starts_among xs) ∙ ap suc (length-starts xs)
 
+-- A list of shards has as many starts (first keys of open shards) as open shards.
 pub starts_many : (xs : List ShardState) → length (starts_in xs) ≡ length (filter is_open xs)
 starts_many xs = length-starts (filter is_open xs)
 
@@ -423,6 +444,7 @@ length-uniform width start zero = refl
 length-uniform width start (suc zero) = refl
 length-uniform width start (suc (suc n)) = ap suc (length-uniform width (start + width) (suc n))
 
+-- There are `n` starts of `n` uniform ranges.
 pub uniform_many : (n : ℕ) → length (uniform_starts n) ≡ n
 uniform_many n = length-uniform (2 ^ 128 / n) 0 n
 
@@ -434,11 +456,12 @@ fewer : (p : ℕ → Bool) (xs : List ℕ) → length (filter p xs) ≤ length x
 fewer p [] = omega arith
 fewer p (x ∷ xs) = fewer_by (p x) x (filter p xs) xs (fewer p xs)
 
--- A plan has no more steps than there are starts in both lists.
+-- The number of starts that are in exactly one of two lists is at most the number of starts in both lists together.
 pub few_apart : (starts wanted : List ℕ) → apart starts wanted ≤ length starts + length wanted
 few_apart starts wanted =
     omega (arith, fewer (λ b. not (is_start wanted b)) starts, fewer (λ b. not (is_start starts b)) wanted)
 
+-- A scaling of at most `OPEN_SHARDS` open shards to at most 500 shards has at most 2^30 steps.
 pub few_steps : (xs : List ShardState) (target : ℕ) (starts : List ℕ) (steps : List ScaleStep) → starts ≡ starts_in xs
     → length (filter is_open xs) ≤ OPEN_SHARDS → target ≤ 500 → length steps ≡ apart starts (uniform_starts target)
     → length steps ≤ 2 ^ 30
@@ -454,12 +477,14 @@ few_steps xs target starts steps are few most count =
       most,
     )
 
--- The number of open shards is within the limit if their starts are known.
+-- If the first keys of the open shards are the starts of at most 500 uniform ranges, at most `OPEN_SHARDS` shards are
+-- open.
 pub open_so : (xs : List ShardState) (target : ℕ) → starts_in xs ≡ uniform_starts target → target ≤ 500
     → length (filter is_open xs) ≤ OPEN_SHARDS
 open_so xs target are most = omega (arith, starts_many xs, ap (length {A = ℕ}) are, uniform_many target, most)
 
--- The test of the numbers, as the code makes it.
+-- The code's test whether the sequence numbers or shard numbers are used up has the same result as `are_spent`. The
+-- numbers `a`, `k`, `l` and `m` are those with which the code computes.
 pub spent_so : (next a k l m : ℕ) (tree : List ShardState) (steps : List ScaleStep) → a ≡ next → k ≡ length steps
     → l ≡ length tree → m ≡ made_by steps → (nat_lt last_number (a + k) || nat_lt last_number (l + m))
     ≡ are_spent next (length tree) steps
@@ -472,7 +497,7 @@ spent_so next a k l m tree steps at ak al am =
 not_past : (n : ℕ) → nat_lt last_number n ≡ false → n < 2 ^ 64
 not_past n h = grind (arith, nat_tests)
 
--- The numbers of the steps fit.
+-- If the sequence numbers suffice for the steps, the next sequence number after the steps is below 2^64.
 pub numbers_fit : (next count : ℕ) (steps : List ScaleStep) → are_spent next count steps ≡ false
     → next + length steps < 2 ^ 64
 numbers_fit next count steps free = not_past (next + length steps) (neither_left _ _ free)

@@ -1,4 +1,4 @@
--- A call that serves a command decides it as the machine does.
+-- The function that serves a command answers as the machine's decision does.
 use Rattle.std.proofs.Common.{◌≡◌, ℕ, ◌+◌, ◌≤◌, true, length, sym, ap, subst, ◌∙◌, arith}
 use Rattle.std.specs.Prelude.{◌-◌, ◌||◌, nat_le, nat_lt, IfOk, Result, Ok, Err}
 use Rattle.std.specs.List.{filter}
@@ -19,8 +19,10 @@ use Rattle.kds_stream.specs.Showing.{Decides, Shows, is_full}
 use Rattle.kds_stream.specs.Steps.{is_over}
 use Rattle.kds_stream.specs.Value.{StreamValue}
 
--- ---- A command that changes the stream, by the decision at the stream
+-- ---- A command that may change the stream
 
+-- Let `d` be the machine's decision on the command `what`. If a call that changed the stream `v` to `w` answered as `d`
+-- does (`Decides`), or ran out of memory, it served the command (`Serves`). The command `what'` is equal to `what`.
 pub serves : {E : Type 0} (r : Result (Result Reply Refusal) E) (v w : StreamValue) (open_limit : ℕ)
     (what what' : Command)
     (d : Journal → ℕ → Decision)
@@ -33,8 +35,11 @@ serves (Ok gives) v w open_limit what what' d is same led =
     (λ log by told. subst (λ e. (gives ≡ answer_of e) × Shows w (with_lines (lines_of e) log)) (sym (same log by told))
     (led log by told.shown))
 
--- ---- A command that only reads: it writes no line
+-- ---- A command that only reads, and adds no line
 
+-- Let the command `what` only read, and let `d` be the machine's decision on it. If a call that left the stream `v`
+-- unchanged answered as `d` does, or ran out of memory, it served the command (`Serves`). The command `what'` is equal
+-- to `what`.
 pub tells : {E : Type 0} (r : Result (Result Reply Refusal) E) (v : StreamValue) (open_limit : ℕ) (what what' : Command)
     (d : Journal → Decision)
     → what ≡ what' → is_query what' ≡ true
@@ -49,10 +54,12 @@ tells (Ok gives) v open_limit what what' d is query same answered =
       subst (λ lines. Shows v (with_lines lines log)) (sym none) told.shown,
     ))
 
--- ---- What the stream is told of the others is what the decisions ask
+-- ---- The stream's tests of the limit on open shards
 
 module _ (what : Command) (open_limit : ℕ) (v : StreamValue) (log : Journal) (told : IsToldOf what open_limit v log)
     (asks : needs_open_limit what ≡ true) where
+  -- The stream's test whether no further shard may be open (`is_full`) has the same result as the machine's test over
+  -- all streams.
   pub full_so : is_full v open_limit ≡ nat_le OPEN_SHARDS (open_count log)
   full_so = by (length (filter is_open v.tree)) (open_elsewhere log v.no) (open_count log) open_limit told.opened
       (told.fits asks)
@@ -61,6 +68,8 @@ module _ (what : Command) (open_limit : ℕ) (v : StreamValue) (log : Journal) (
           → (nat_le open_limit own || nat_le OPEN_SHARDS own) ≡ nat_le OPEN_SHARDS all
       by own others all open_limit sum is = grind (arith, nat_tests)
 
+  -- The stream's test whether `target` open shards are too many (`is_over`) has the same result as the machine's test
+  -- over all streams.
   pub over_so : (target : ℕ) → 1 ≤ target
       → is_over target open_limit ≡ nat_lt OPEN_SHARDS (open_elsewhere log v.no + target)
   over_so target some = by (open_elsewhere log v.no) open_limit (told.fits asks)

@@ -1,4 +1,4 @@
--- The scaling of a stream (Kinesis API Reference, UpdateShardCount).
+-- The tests and the steps of a scaling of a stream (Kinesis API Reference, UpdateShardCount).
 use Rattle.std.specs.Prelude.{ℕ, ◌≡◌, ◌+◌, Bool, false, ◌||◌, nat_lt, List, length, map}
 use Rattle.kds_defs.specs.declared.reply.Refusal.TheVariants as refusal
 use Rattle.kds_defs.specs.declared.reply.Reply.TheVariants as reply
@@ -13,21 +13,25 @@ use Rattle.kds_defs.specs.StreamCommands.{last_number}
 use Rattle.kds_stream.specs.Value.{StreamValue}
 use Rattle.kds_stream_logs.specs.Steps.{starts_in}
 
--- Whether `target` open shards are too many, if `open_limit` shards may be open.
+-- Whether `target` open shards are more than the `open_limit` shards that may be open.
 abbrev pub is_over : ℕ → ℕ → Bool
 is_over target open_limit = nat_lt open_limit target
 
--- Whether the steps draw a sequence number, or give a shard a number, that is above the greatest one.
+-- Whether the steps of a scaling use up the sequence numbers or the shard numbers. Before the steps, the next sequence
+-- number is `next`, and there are `count` shards. The numbers are used up if one of the two would rise above the
+-- greatest `u64`.
 abbrev pub are_spent : ℕ → ℕ → List ScaleStep → Bool
 are_spent next count steps = nat_lt last_number (next + length steps) || nat_lt last_number (count + made_by steps)
 
--- The steps `steps` are those of a scaling of the stream `v` to `target` shards, and there are enough numbers for them.
+-- The steps `steps` are those of a scaling of the stream `v` to `target` shards. They lead from the ranges of its open
+-- shards to uniform ranges, and the sequence numbers and shard numbers suffice for them.
 pub record IsPlan (v : StreamValue) (target : ℕ) (steps : List ScaleStep) : Type 0 where
   pub are : steps ≡ scale (starts_in v.tree) target
   pub leads : LeadTo steps (starts_in v.tree) (uniform_starts target)
   pub free : are_spent v.next (length v.tree) steps ≡ false
 
--- The decision on UpdateShardCount, where `full` tells whether the shards would be too many.
+-- The decision on UpdateShardCount, which scales the live stream `s` with the name `name` to `target` shards. If `full`
+-- is true, more shards would be open than may be, and the command is refused with `Full`.
 abbrev pub scale_where : Bool → Journal → ℕ → ℕ → List ℕ → ℕ → ℕ → Decision
 scale_where full log c by name s target =
     refuse refusal.Full if full else

@@ -1,4 +1,5 @@
--- What contracts see of a stream.
+-- The value that represents a stream in contracts, its invariant, and what the functions of a stream change in it. A
+-- retreat sets a stream's clock and cut back to `clock_before` and `cut_before`.
 use Rattle.std.specs.Prelude.{ℕ, ◌≡◌, ◌<◌, ◌≤◌, ◌-◌, ◌*◌, ◌^◌, max, Bool, false, not, nat_lt, if◌then◌else◌, List}
 use Rattle.std.specs.Prelude.{length, Option, Some, None}
 use Rattle.std.specs.List.{AllByRecursion, filter}
@@ -12,10 +13,10 @@ use Rattle.kds_rate.specs.Windows.{WindowValue}
 use Rattle.kds_stream.specs.Rating.{AreRated}
 use Rattle.kds_stream_logs.specs.Logs.{HasArrived, IsBelow, settled_at}
 
--- A stream: its number, its name, when it was made, its retention in hours, its shards, the log of each, the window of
--- each, whether the limits on throughput are on, its next sequence number, its clock and its cut. The last fields are
--- what clock and cut were before the last advance, if nothing has changed since, and the index of the log that is
--- settled next.
+-- A stream: its number, its name, its time of making, its retention in hours, its shards, and for each shard a log of
+-- records and a window of throughput. Then come whether the limits on throughput are on, the next sequence number, the
+-- clock, and the cut (the trim horizon as a time). The last fields are the clock and the cut to which a retreat goes
+-- back, and the index of the log that loses its trimmed records next.
 pub record StreamValue : Type 0 where
   pub no : ℕ
   pub name : List ℕ
@@ -32,15 +33,19 @@ pub record StreamValue : Type 0 where
   pub cut_before : Option ℕ
   pub next_to_settle : ℕ
 
--- If a shard is closed, the sequence number that closed it is below `next`.
+-- If a shard was closed, its ending sequence number is below `next`. The second argument says how the shard was closed.
 abbrev pub IsClosedUnder : ℕ → Option Closing → Type 0
 IsClosedUnder next None = Unit {0}
 IsClosedUnder next (Some closing) = closing.number < next
 
+-- If the shard `x` is closed, its ending sequence number is below `next`.
 abbrev pub EndsUnder : ℕ → ShardState → Type 0
 EndsUnder next x = IsClosedUnder next x.closing
 
--- What is true of every stream.
+-- The invariant of a stream. It has a log and a window for each shard, at most `OPEN_SHARDS` open shards, and an
+-- allowed retention. Its next sequence number is at least 1, fits in a `u64`, and is above all numbers in its logs and
+-- all ending sequence numbers. No record or put is later than `clock_before`, which isn't later than the clock, and
+-- each of the two cuts is below its clock.
 pub record IsStream (v : StreamValue) : Type 0 where
   pub as_many : length v.logs ≡ length v.tree
   pub few : length (filter is_open v.tree) ≤ OPEN_SHARDS
@@ -55,7 +60,8 @@ pub record IsStream (v : StreamValue) : Type 0 where
   pub drawn : 1 ≤ v.next
   pub fits : v.next < 2 ^ 64
 
--- A change of the stream `old` to `new` keeps its number, its name, its clock, and which log is settled next.
+-- A change of the stream `old` to `new` keeps its number, its name, its clock, and the index of the log that loses its
+-- trimmed records next.
 abbrev pub KeepsFields : StreamValue → StreamValue → Type 0
 KeepsFields new old = (new.no ≡ old.no) × (new.name ≡ old.name) × (new.clock ≡ old.clock)
     × (new.next_to_settle ≡ old.next_to_settle)
@@ -73,14 +79,15 @@ pub record IsChangedAt (old new : StreamValue) : Type 0 where
 abbrev pub cut_at : ℕ → ℕ → Option ℕ
 cut_at clock hours = if nat_lt clock (hours * HOUR) then None else Some (clock - hours * HOUR)
 
--- The later of two cuts.
+-- The later of two cuts. The cut `None` is earlier than every other one.
 abbrev pub later_cut : Option ℕ → Option ℕ → Option ℕ
 later_cut None cut = cut
 later_cut (Some a) None = Some a
 later_cut (Some a) (Some b) = Some (max a b)
 
--- After a change of the retention to `wanted` hours, the stream trims by both retentions. Going back to before the last
--- advance leaves the present clock and cut.
+-- A call changed the retention of the stream `old` to `wanted` hours, and the stream became `new`. Its time of making
+-- is kept. Its cut is the later one of the cut before and the cut by the new retention, and a retreat goes back to the
+-- clock of `old` and this cut.
 pub record IsKeptAt (wanted : ℕ) (old new : StreamValue) : Type 0 where
   pub made : new.made ≡ old.made
   pub hours : new.hours ≡ wanted
@@ -88,8 +95,8 @@ pub record IsKeptAt (wanted : ℕ) (old new : StreamValue) : Type 0 where
   pub clock_before : new.clock_before ≡ old.clock
   pub cut_before : new.cut_before ≡ new.cut
 
--- The stream `v` after one settling: the log that was next has lost its trimmed records, and the stream remembers no
--- earlier clock.
+-- The stream `v` after one settling: the log at the index `next_to_settle` has lost its trimmed records, and the index
+-- has moved on to the next log in a circle. A retreat goes back to the present clock and cut.
 abbrev pub settled : StreamValue → StreamValue
 settled v =
     record v {
@@ -99,12 +106,12 @@ settled v =
       next_to_settle = next_of (length v.logs) v.next_to_settle;
     }
 
--- Whether a shard is there and wasn't closed below `floor`.
+-- Whether there is a shard, and it wasn't closed at a time below `floor`.
 abbrev pub is_listed_at : ℕ → Option ShardState → Bool
 is_listed_at floor None = false
 is_listed_at floor (Some x) = not (is_closed_below floor x)
 
--- The shard, if it is there and wasn't closed below `floor`.
+-- The shard, if there is one and it wasn't closed at a time below `floor`.
 abbrev pub listed_at : ℕ → Option ShardState → Option ShardState
 listed_at floor None = None
 listed_at floor (Some x) = if is_closed_below floor x then None else Some x

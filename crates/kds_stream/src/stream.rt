@@ -69,7 +69,7 @@ impl Model for Stream {
 }
 
 impl Stream {
-    /// Returns a new stream, created at the time `made`, with `shards` open shards (Kinesis API Reference,
+    /// Returns a new stream, created at the time `made_at`, with `shards` open shards (Kinesis API Reference,
     /// CreateStream).
     pub fn new(
         alloc: Global,

@@ -1,4 +1,4 @@
--- The windows of the shards of a stream, when a put is counted.
+-- The windows of a stream's shards stand for the puts of the shards, and still do after a put is counted.
 use Rattle.std.proofs.Common.{◌≡◌, ℕ, zero, suc, ◌+◌, ◌<◌, ◌≤◌, false, List, [], ◌∷◌, length, get_or, sym, ap, subst}
 use Rattle.std.proofs.Common.{◌∙◌, arith}
 use Rattle.std.specs.Prelude.{◌==◌, if◌then◌else◌, slice_set}
@@ -9,8 +9,10 @@ use Rattle.kds_defs.specs.Rates.{SizedPut}
 use Rattle.kds_rate.specs.Windows.{StandsFor, WindowValue}
 use Rattle.kds_stream_logs.specs.Rating.{IsCounted, StandFor, with_put}
 
--- ---- At a place
+-- ---- The window at an index
 
+-- If the windows stand for the puts `f` of the shards from `n` on, the window at the index `i` stands for the puts of
+-- shard `n + i`.
 pub stand_at : (f : ℕ → List SizedPut) (n i : ℕ) (ws : List WindowValue) (d : WindowValue) → i < length ws
     → StandFor f n ws → StandsFor (get_or ws i d) (f (n + i))
 stand_at f n i [] d below h = absurd (omega arith)
@@ -18,19 +20,24 @@ stand_at f n zero (w ∷ ws) d below h = let e : n ≡ n + 0 = omega arith in su
 stand_at f n (suc i) (w ∷ ws) d below h = let e : n + 1 + i ≡ n + suc i = omega arith in
     subst (λ k. StandsFor (get_or ws i d) (f k)) e (stand_at f (n + 1) i ws d (omega arith) h.1)
 
+-- If the windows stand for the puts `f` of the shards from 0 on, the window at the index `i` stands for the puts of
+-- shard `i`.
 pub stand_here : (f : ℕ → List SizedPut) (i : ℕ) (ws : List WindowValue) (d : WindowValue) → i < length ws
     → StandFor f 0 ws → StandsFor (get_or ws i d) (f i)
 stand_here f i ws d below h = let e : 0 + i ≡ i = omega arith in
     subst (λ k. StandsFor (get_or ws i d) (f k)) e (stand_at f 0 i ws d below h)
 
+-- If no window counts a put that is later than `moment`, the window at the index `i` counts none.
 pub counted_at : (moment i : ℕ) (ws : List WindowValue) (d : WindowValue) → i < length ws
     → AllByRecursion (IsCounted moment) ws → IsCounted moment (get_or ws i d)
 counted_at moment i [] d below h = absurd (omega arith)
 counted_at moment zero (w ∷ ws) d below h = h.0
 counted_at moment (suc i) (w ∷ ws) d below h = counted_at moment i ws d (omega arith) h.1
 
--- ---- The same puts
+-- ---- The same puts, given by another function
 
+-- If the windows stand for the puts `f` of the shards from `n` on, and `g` gives each of these shards the same puts,
+-- the windows stand for `g`.
 pub stand_along : (f g : ℕ → List SizedPut) (n : ℕ) (ws : List WindowValue) → ((sh : ℕ) → n ≤ sh → f sh ≡ g sh)
     → StandFor f n ws → StandFor g n ws
 stand_along f g n [] same h = tt
@@ -39,20 +46,24 @@ stand_along f g n (w ∷ ws) same h = (
   stand_along f g (n + 1) ws (λ sh beyond. same sh (omega arith)) h.1,
 )
 
--- ---- One put more
+-- ---- One more put
 
 other_number : (n m : ℕ) → n < m → (n == m) ≡ false
 other_number n m h = grind (arith, nat_tests, h)
 
+-- `with_put` adds the put `p` in shard `sh` to the puts of shard `n`, if `sh` is `n`.
 pub put_here : (sh n : ℕ) (p : SizedPut) (f : ℕ → List SizedPut) → sh ≡ n → p ∷ f n ≡ with_put sh p f n
 put_here sh n p f is = ap (λ b. if b then p ∷ f n else f n) (sym (is_equal sh n is))
 
+-- `with_put` adds the put `p` in shard `sh` to no other shard: if `sh` isn't `n`, the puts of shard `n` are unchanged.
 pub put_elsewhere : (sh n : ℕ) (p : SizedPut) (f : ℕ → List SizedPut) → (sh == n) ≡ false → f n ≡ with_put sh p f n
 put_elsewhere sh n p f is = ap (λ b. if b then p ∷ f n else f n) (sym is)
 
 higher_number : (n m : ℕ) → m < n → (n == m) ≡ false
 higher_number n m h = grind (arith, nat_tests, h)
 
+-- Let the windows stand for the puts `f` of the shards from `n` on. If a window that also counts the put `p` takes the
+-- place of the window at the index `i`, the windows stand for `f` with `p` added in this window's shard, `at`.
 pub stand_set : (f : ℕ → List SizedPut) (n i at : ℕ) (ws : List WindowValue) (w : WindowValue) (p : SizedPut)
     → at ≡ n + i → i < length ws → StandsFor w (p ∷ f at) → StandFor f n ws
     → StandFor (with_put at p f) n (slice_set ws i w)

@@ -1,4 +1,5 @@
--- What is read of a shard: the last of a batch, and the first that arrived since a moment.
+-- The last shard of a page, the sequence numbers of a batch and the first record since a moment are as the definitions
+-- say.
 use Rattle.std.proofs.Common.{◌≡◌, ℕ, zero, suc, ◌-◌, ◌<◌, Bool, true, false, List, [], ◌∷◌, length, map, Option, Some}
 use Rattle.std.proofs.Common.{None, sym, ap, ◌∙◌, arith}
 use Rattle.std.specs.Prelude.{cond, slice_get, nat_le, if◌then◌else◌}
@@ -13,11 +14,12 @@ use Rattle.kds_log.specs.Log.{IsOrderly, IsUpTo, LogValue, first_number, since}
 use Rattle.kds_stream_logs.specs.Reading.{batch_among}
 use Rattle.kds_stream_logs.specs.Logs.{IsBelow, IsUnder}
 
--- ---- The last
+-- ---- The last shard of a page
 
 one_less : (n : ℕ) → suc (suc n) - 1 ≡ suc (suc n - 1)
 one_less n = omega arith
 
+-- The shard at the last index of a page has the number that `last_no` gives.
 pub last_shard : (shards : List Shard) (shard : Shard) → slice_get shards (length shards - 1) ≡ Some shard
     → shard.no ≡ last_no shards
 last_shard [] shard is = absurd cc
@@ -25,7 +27,7 @@ last_shard (x ∷ []) shard is = let e : x ≡ shard = cc in ap (λ (s : Shard).
 last_shard (x ∷ y ∷ shards) shard is =
     last_shard (y ∷ shards) shard (ap (slice_get (x ∷ y ∷ shards)) (sym (one_less (length shards))) ∙ is)
 
--- ---- The numbers of a batch
+-- ---- The sequence numbers of a batch
 
 all_beginning : (P : Logged → Type 0) (limit room : ℕ) (rs : List Logged) → AllByRecursion P rs
     → AllByRecursion P (beginning limit room rs)
@@ -47,6 +49,7 @@ up_to_below : (n : ℕ) (last : Option ℕ) (r : Logged) → IsUnder n last → 
 up_to_below n None r under up = absurd up
 up_to_below n (Some m) r under up = omega arith
 
+-- If all sequence numbers of a log are below `n`, so are those of the records in its batches.
 pub batch_below : (n floor position limit : ℕ) (l : LogValue) → IsBelow n l → IsOrderly l
     → AllByRecursion (λ (r : Stored). r.seq < n) (map stored (batch_among floor position limit l.kept))
 batch_below n floor position limit l below orderly =
@@ -55,9 +58,9 @@ batch_below n floor position limit l below orderly =
     all_stored n _ (all_beginning (λ (r : Logged). r.seq < n) limit BATCH_BYTES _
     (all_filter (λ (r : Logged). r.seq < n) (is_left floor position) l.kept kept))
 
--- ---- The first that arrived at or after a moment
+-- ---- The first record that arrived at or after a moment
 
--- A number, or else the next one.
+-- The number in the option, or `next` if there is none.
 abbrev pub or_next : Option ℕ → ℕ → ℕ
 or_next None next = next
 or_next (Some n) next = n
@@ -69,6 +72,8 @@ first_by : (b : Bool) (r : Logged) (rs : List Logged) (moment next : ℕ) (o : O
 first_by true r rs moment next o is rest = ap (λ x. or_next x next) is
 first_by false r rs moment next o is rest = rest is
 
+-- Let `o` be the number of the first record that arrived at or after `moment`, if there is one. Then this number, or
+-- else `next`, is what `first_at` gives.
 pub first_is : (rs : List Logged) (moment next : ℕ) (o : Option ℕ) → o ≡ first_number (since moment rs)
     → or_next o next ≡ first_at rs moment next
 first_is [] moment next o is = ap (λ x. or_next x next) is

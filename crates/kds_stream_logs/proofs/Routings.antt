@@ -1,4 +1,5 @@
--- Records that are stored together: how they are routed, and that the logs take them.
+-- The items of a request are routed one after another, memory is reserved for their records, and then the logs of the
+-- shards take these records.
 use Rattle.std.proofs.Common.{◌≡◌, ◌≢◌, ℕ, zero, suc, ◌+◌, ◌^◌, ◌<◌, ◌≤◌, Bool, true, false, List, [], ◌∷◌, ◌++◌}
 use Rattle.std.proofs.Common.{length, get_or, take, map, Some, refl, sym, ap, subst, ◌∙◌, arith}
 use Rattle.std.specs.Prelude.{◌==◌, cond, slice_set, if◌then◌else◌}
@@ -24,7 +25,7 @@ use Rattle.kds_stream_logs.specs.Routes.{outcomes, taken, is_place_of, is_routed
 use Rattle.kds_stream_logs.specs.Routes.{routed_items, stored_item, with_each}
 use Rattle.kds_stream_logs.specs.Logs.{HasArrived, IsBelow, with_appended}
 
--- ---- Memory
+-- ---- Reserved memory
 
 reserved_other : (ls : List LogWithReserve) (i j : ℕ) (l : LogWithReserve) → i ≢ j
     → reserved_at (slice_set ls i l) j ≡ reserved_at ls j
@@ -40,13 +41,15 @@ reserved_here [] i l below = absurd (omega arith)
 reserved_here (x ∷ ls) zero l below = refl
 reserved_here (x ∷ ls) (suc i) l below = reserved_here ls i l (omega arith)
 
+-- The memory that `reserved_at` gives is that of the log at the index `i`.
 pub reserved_is : (ls : List LogWithReserve) (i : ℕ) (d : LogWithReserve) → i < length ls
     → reserved_at ls i ≡ (get_or ls i d).reserved
 reserved_is [] i d below = absurd (omega arith)
 reserved_is (x ∷ ls) zero d below = refl
 reserved_is (x ∷ ls) (suc i) d below = reserved_is ls i d (omega arith)
 
--- Memory is reserved for a further place.
+-- In this module, memory for one more record is reserved in the log at the index `i`, which is the log of the place
+-- `p`. Before this, memory was reserved for the first `k` places.
 module _ (ls : List LogWithReserve) (i : ℕ) (d l : LogWithReserve) (ps : List Place) (k : ℕ) (p : Place)
     (below : i < length ls) (at : i ≡ p.shard) (grows : l.reserved ≡ (get_or ls i d).reserved + 1)
     (within : k < length ps)
@@ -80,10 +83,11 @@ module _ (ls : List LogWithReserve) (i : ℕ) (d l : LogWithReserve) (ps : List 
         reserved_other ls i sh l (λ same. differ_so p.shard sh e (sym at ∙ same)),
       )
 
+  -- Then memory is reserved for the first `k + 1` places.
   pub reserved_more : count_by (is_place_of sh) (take (k + 1) ps) ≤ reserved_at (slice_set ls i l) sh
   reserved_more = reserved_by (p.shard == sh) refl
 
--- There are as many places of a shard as records that go to it.
+-- As many of the records' places are in shard `sh` as records go to it.
 count_routed : (rs : List Routed) (sh : ℕ) → count_by (is_place_of sh) (map place_of rs) ≡ count_by (is_routed_to sh) rs
 count_routed [] sh = refl
 count_routed (r ∷ rs) sh =
@@ -91,7 +95,7 @@ count_routed (r ∷ rs) sh =
     ∙ ap (λ n. cond (r.shard == sh) 1 0 + n) (count_routed rs sh)
     ∙ sym (sum_by-cons (λ (q : Routed). cond (is_routed_to sh q) 1 0) r rs)
 
--- ---- One record is taken
+-- ---- The first of the records is appended
 
 length-set : (ls : List LogWithReserve) (i : ℕ) (l : LogWithReserve) → length (slice_set ls i l) ≡ length ls
 length-set [] i l = refl
@@ -104,7 +108,8 @@ all_set P [] i l p h = tt
 all_set P (x ∷ ls) zero l p h = (p, h.1)
 all_set P (x ∷ ls) (suc i) l p h = (h.0, all_set P ls i l p h.1)
 
--- The log of the first record has memory.
+-- If the logs can take all of the records, the log of the first record's shard, at the index `i`, has memory reserved
+-- for at least one record.
 pub reserved_left : (ls : List LogWithReserve) (i : ℕ) (r : Routed) (rs : List Routed) → i ≡ r.shard
     → CanTakeAll ls (r ∷ rs)
     → 1 ≤ reserved_at ls i
@@ -116,6 +121,8 @@ reserved_left ls i r rs at can =
     subst (λ c. cond c 1 0 + count_by (is_routed_to i) rs ≤ reserved_at ls i) (is_equal r.shard i (sym at)) counted in
     omega arith
 
+-- In this module, the record `r`, the first of those that the logs can take, is appended to the log at the index `i` of
+-- its shard. It uses memory that was reserved.
 module _ (ls : List LogWithReserve) (i : ℕ) (d l : LogWithReserve) (r : Routed) (rs : List Routed) (at : i ≡ r.shard)
     (below : i < length ls) (used : l.reserved + 1 ≡ (get_or ls i d).reserved)
     (is : log_of l ≡ record { kept = (get_or ls i d).kept ++ logged r.item ∷ []; last = Some r.item.seq })
@@ -157,6 +164,7 @@ module _ (ls : List LogWithReserve) (i : ℕ) (d l : LogWithReserve) (r : Routed
       subst (λ c. cond c 1 0 + count_by (is_routed_to sh) rs ≤ reserved_at ls sh) e (counted sh) in
       omega (arith, had, reserved_other ls i sh l (λ same. differ_so r.shard sh e (sym at ∙ same)))
 
+  -- The logs can then take all of the other records (`CanTakeAll`).
   pub taken_one : CanTakeAll (slice_set ls i l) rs
   taken_one = record {
     each = all_both (IsSooner r) (CanTake (map log_of ls)) (CanTake (map log_of (slice_set ls i l)))
@@ -165,13 +173,15 @@ module _ (ls : List LogWithReserve) (i : ℕ) (d l : LogWithReserve) (r : Routed
     in_turn = can.in_turn.1;
   }
 
+  -- Appending the other records then gives what appending all records gives from the start.
   pub with_one : with_each rs (map log_of (slice_set ls i l)) ≡ with_each (r ∷ rs) (map log_of ls)
   with_one = ap (with_each rs) (appended_at ls i d l (logged r.item) below is
       ∙ ap (λ n. with_appended n (logged r.item) (map log_of ls)) at)
 
--- ---- The records of items
+-- ---- The items are routed one after another
 
--- A further item is routed.
+-- In this module, the item `item`, the first of `items`, is routed: `r` are the routes before it, and `q` those after
+-- it. The windows are `us` before it, and `ws` after it.
 module _ (xs : List ShardState) (c : ℕ) (on : Bool) (f : ℕ → List SizedPut) (n : ℕ) (whole items rest : List NewItem)
     (item : NewItem) (r q : Routes) (us ws : List WindowValue) (are : items ≡ item ∷ rest)
     (h : GoesOn xs c on f n whole items r us) (one : IsRouted xs c on h.present item r q ws) where
@@ -204,6 +214,7 @@ module _ (xs : List ShardState) (c : ℕ) (on : Bool) (f : ℕ → List SizedPut
   number_by false is = let number : q.next ≡ r.next + 1 = one.next_is ∙ ap (after_number r.next) is in
       omega (arith, number)
 
+  -- If `GoesOn` holds before the item is routed, it holds after it, with `rest` as the items that are left.
   pub goes_on : GoesOn xs c on f n whole rest q ws
   goes_on = record {
     present = after_item xs c h.present item (is_held xs c on h.present item);
@@ -224,7 +235,7 @@ module _ (xs : List ShardState) (c : ℕ) (on : Bool) (f : ℕ → List SizedPut
         ∙ ap (λ ys. r.next + length (taken xs c on h.present ys)) (sym are) ∙ h.next_is;
   }
 
--- If no item is left, all are routed.
+-- If no item is left, the routes are those of all items (`AreRouted`).
 pub routed_all : (xs : List ShardState) (c : ℕ) (on : Bool) (f : ℕ → List SizedPut) (n : ℕ) (whole items : List NewItem)
     (r : Routes) (ws : List WindowValue) → items ≡ [] → GoesOn xs c on f n whole items r ws
     → AreRouted xs c on f n whole r ws
@@ -250,7 +261,7 @@ routed-append xs c n (x ∷ items) item =
     ap (λ (rs : List Routed). routed_item xs c n x ∷ rs) (routed-append xs c (n + 1) items item
     ∙ ap (λ k. routed_items xs c (n + 1) items ++ routed_item xs c k item ∷ []) e)
 
--- At first, no record has its place.
+-- Routes without records and places are those of no items: `AreOfRecords` holds, and their next sequence number is `n`.
 pub placed_none : (xs : List ShardState) (c n : ℕ) (r : Routes) → r.routed.items ≡ [] → r.places ≡ [] → r.next ≡ n
     → n < 2 ^ 64 → ArePlaced xs c n r
 placed_none xs c n r none no_place number below = record {
@@ -262,6 +273,8 @@ placed_none xs c n r none no_place number below = record {
   places_are = no_place ∙ ap (map place_of) (sym none);
 }
 
+-- If `AreOfRecords` holds of the routes `r`, it holds of the routes `q`, which have the same records, places and next
+-- sequence number.
 pub placed_same : (xs : List ShardState) (c n : ℕ) (r q : Routes) → q.routed.items ≡ r.routed.items
     → q.places ≡ r.places → q.next ≡ r.next → ArePlaced xs c n r → ArePlaced xs c n q
 placed_same xs c n r q same there number placed = record {
@@ -273,7 +286,8 @@ placed_same xs c n r q same there number placed = record {
   places_are = there ∙ placed.places_are ∙ ap (map place_of) (sym same);
 }
 
--- A further record has its place.
+-- Let the routes `q` be `r` with the record of one more item and its place added, and one more number drawn. If
+-- `AreOfRecords` holds of `r`, it holds of `q`.
 pub placed_more : (xs : List ShardState) (c n sh : ℕ) (r q : Routes) (item : NewItem)
     → sh ≡ home_among (filter is_open xs) item.hash → q.routed.items ≡ r.routed.items ++ stored_item sh c r.next item
     ∷ [] → q.places ≡ r.places ++ place_of (stored_item sh c r.next item) ∷ [] → q.next ≡ r.next + 1 → q.next < 2 ^ 64
@@ -297,7 +311,7 @@ placed_more xs c n sh r q item at more there number fits inside placed =
           ∙ ap (map place_of) (sym more);
     }
 
--- At first, no records are routed.
+-- Before any item is routed, the routes have no records and no outcomes, all items are left, and `GoesOn` holds.
 pub routed_none : (xs : List ShardState) (c : ℕ) (on : Bool) (f : ℕ → List SizedPut) (n : ℕ) (whole : List NewItem)
     (r : Routes) (ws : List WindowValue) → r.routed.items ≡ [] → r.outcomes ≡ [] → r.next ≡ n → StandFor f 0 ws
     → GoesOn xs c on f n whole whole r ws
@@ -312,11 +326,13 @@ routed_none xs c on f n whole r ws no_routed no_outcomes number stand = record {
   next_is = ap (λ k. k + length (taken xs c on f whole)) number;
 }
 
--- The number of the record `r` is at or above `first`, and it arrives at `clock`.
+-- The sequence number of the record `r` isn't below `first`, and `r` arrives at the time `clock`.
 pub record IsFrom (first clock : ℕ) (r : Routed) : Type 0 where
   pub number : first ≤ r.item.seq
   pub arrival : r.item.arrival ≡ clock
 
+-- If `first` isn't above `n`, the records of items with sequence numbers from `n` on have numbers that aren't below
+-- `first`, and arrive at the time `clock`.
 pub all_from : (xs : List ShardState) (clock first n : ℕ) (items : List NewItem) → first ≤ n
     → AllByRecursion (IsFrom first clock) (routed_items xs clock n items)
 all_from xs clock first n [] le = tt
@@ -332,12 +348,13 @@ turns xs clock n (item ∷ items) = (
   turns xs clock (n + 1) items,
 )
 
+-- If each record goes to one of `count` shards, its place is in one of them.
 pub all_places : (count : ℕ) (rs : List Routed) → AllByRecursion (IsWithin count) rs
     → AllByRecursion (λ (p : Place). p.shard < count) (map place_of rs)
 all_places count [] h = tt
 all_places count (r ∷ rs) h = (h.0, all_places count rs h.1)
 
--- The shards of the records' places are there.
+-- If each record may be appended to the logs (`CanTake`), its place is in a shard that has a log.
 pub places_within : (ls : List LogWithReserve) (rs : List Routed) (ps : List Place) → ps ≡ map place_of rs
     → AllByRecursion (CanTake (map log_of ls)) rs → AllByRecursion (λ (p : Place). p.shard < length ls) ps
 places_within ls rs ps placed can =
@@ -346,7 +363,8 @@ places_within ls rs ps placed can =
     (all_weaker (CanTake (map log_of ls)) (IsWithin (length ls))
     (λ r take. omega (arith, take.within, as_many_logs ls)) rs can))
 
--- Once memory is reserved for their places, all records can be taken.
+-- If each record may be appended to the logs, the records are in order, and memory is reserved for the places of all of
+-- them, the logs can take all of them (`CanTakeAll`).
 pub can_take_all : (before : List LogValue) (ls : List LogWithReserve) (rs : List Routed) (ps : List Place)
     → ps ≡ map place_of rs → map log_of ls ≡ before → AllByRecursion (CanTake before) rs → AreInTurn rs
     → ((sh : ℕ) → count_by (is_place_of sh) ps ≤ reserved_at ls sh) → CanTakeAll ls rs
@@ -357,7 +375,8 @@ can_take_all before ls rs ps placed same can turns reserved = record {
   in_turn = turns;
 }
 
--- ---- What the stream shows after them
+-- ---- Shards that exist and others
 
+-- The number of a shard that exists isn't that of one which doesn't: the first is below `len`, the second isn't.
 pub apart : (n sh len : ℕ) → n < len → len ≤ sh → n ≡ sh → ⊥
 apart n sh len within beyond e = omega arith

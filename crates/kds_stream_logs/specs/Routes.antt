@@ -1,4 +1,5 @@
--- Records on their way to the logs of their shards.
+-- Defines to which shards the items of a PutRecords request go, which of them the throughput limits hold back, what
+-- records the other items become, and the logs with these records. An item is a record as it was requested.
 use Rattle.std.specs.Prelude.{ℕ, zero, suc, ◌≡◌, ◌+◌, ◌^◌, ◌<◌, ◌≤◌, Bool, true, false, ◌==◌, ◌&&◌, if◌then◌else◌, List}
 use Rattle.std.specs.Prelude.{[], ◌∷◌, ◌++◌, length, map}
 use Rattle.std.specs.List.{AllByRecursion, count_by, filter}
@@ -17,86 +18,94 @@ use Rattle.kds_stream_logs.specs.declared.routes.Routes.{Routes}
 use Rattle.kds_stream_logs.specs.Rating.{StandFor, with_put}
 use Rattle.kds_stream_logs.specs.Logs.{HasArrived, IsBelow, settled_at, with_appended}
 
--- The record of `item`, stored in shard `sh` at `clock` with the sequence number `n`.
+-- The record that `item` becomes in shard `sh`: it has the sequence number `n` and arrives at the time `clock`.
 abbrev pub stored_item : ℕ → ℕ → ℕ → NewItem → Routed
 stored_item sh clock n item =
     record { shard = sh; item = record { seq = n; arrival = clock; key = item.key; payload = item.payload } }
 
--- The record of `item`, stored in its home among the shards `xs`.
+-- The record that `item` becomes in its home, the open shard among `xs` whose range contains the item's hash key.
 abbrev pub routed_item : List ShardState → ℕ → ℕ → NewItem → Routed
 routed_item xs clock n item = stored_item (home_among (filter is_open xs) item.hash) clock n item
 
--- The records of a list of items, with sequence numbers from `n` on.
+-- The records that a list of items become in their homes. The first has the sequence number `n`, and each other one the
+-- next number.
 abbrev pub routed_items : List ShardState → ℕ → ℕ → List NewItem → List Routed
 routed_items xs clock n [] = []
 routed_items xs clock n (item ∷ items) = routed_item xs clock n item ∷ routed_items xs clock (n + 1) items
 
--- ---- What the limits hold back
+-- ---- What the throughput limits hold back
 
 -- Whether the limits are on, and `item` is more than its home accepts after the puts `f`.
 abbrev pub is_held : List ShardState → ℕ → Bool → (ℕ → List SizedPut) → NewItem → Bool
 is_held xs clock on f item = on && is_throttled (f (home_among (filter is_open xs) item.hash)) clock (item_bytes item)
 
--- The puts after `item`, by whether it is held back or taken.
+-- The puts of each shard after `item`, if they were `f` before it. If the Boolean is true, the item is held back, and
+-- no put is added. Otherwise its put is added in its home.
 abbrev pub after_item : List ShardState → ℕ → (ℕ → List SizedPut) → NewItem → Bool → ℕ → List SizedPut
 after_item xs clock f item true = f
 after_item xs clock f item false =
     with_put (home_among (filter is_open xs) item.hash) (record { clock = clock; bytes = item_bytes item }) f
 
+-- The puts of each shard after a list of items, if they were `f` before them. The items that are held back add no put.
 abbrev pub after_items : List ShardState → ℕ → Bool → (ℕ → List SizedPut) → List NewItem → ℕ → List SizedPut
 after_items xs clock on f [] = f
 after_items xs clock on f (item ∷ items) =
     after_items xs clock on (after_item xs clock f item (is_held xs clock on f item)) items
 
--- Those of a list of items that are taken: each is judged after the items before it.
+-- The items of a list that aren't held back by the limits, in order. Each item is judged by the puts of those before
+-- it, and before all of them the puts of each shard are `f`.
 abbrev pub taken : List ShardState → ℕ → Bool → (ℕ → List SizedPut) → List NewItem → List NewItem
 taken xs clock on f [] = []
 taken xs clock on f (item ∷ items) =
     let rest : List NewItem = taken xs clock on (after_item xs clock f item (is_held xs clock on f item)) items in
     if is_held xs clock on f item then rest else item ∷ rest
 
--- The next sequence number after an item, by whether the item is held back.
+-- The stream's next sequence number after an item, if it was `n` before it. If the Boolean is true, the item is held
+-- back and draws no number.
 abbrev pub after_number : ℕ → Bool → ℕ
 after_number n true = n
 after_number n false = n + 1
 
--- The outcome of an item, by whether the item is held back.
+-- The outcome of an item. If the Boolean is true, the item is held back, and the outcome is Throttled with its home.
+-- Otherwise the outcome is Stored with its home and the sequence number `n`.
 abbrev pub outcome_of : List ShardState → ℕ → NewItem → Bool → Outcome
 outcome_of xs n item true = outcome.Throttled (home_among (filter is_open xs) item.hash)
 outcome_of xs n item false = outcome.Stored (record { shard = home_among (filter is_open xs) item.hash; seq = n })
 
+-- The outcomes of a list of items, in order. Before them, the puts of each shard are `f`, and the stream's next
+-- sequence number is `n`.
 abbrev pub outcomes : List ShardState → ℕ → Bool → (ℕ → List SizedPut) → ℕ → List NewItem → List Outcome
 outcomes xs clock on f n [] = []
 outcomes xs clock on f n (item ∷ items) =
     let held : Bool = is_held xs clock on f item in
     outcome_of xs n item held ∷ outcomes xs clock on (after_item xs clock f item held) (after_number n held) items
 
--- The place at which the record `r` is stored.
+-- The shard and the sequence number of the record `r`.
 abbrev pub place_of : Routed → Place
 place_of r = record { shard = r.shard; seq = r.item.seq }
 
--- The shard of the record `r` is one of `count` shards.
+-- The record `r` goes to one of the shards 0 to `count - 1`.
 abbrev pub IsWithin : ℕ → Routed → Type 0
 IsWithin count r = r.shard < count
 
--- The logs `ls` with each record of a list added in turn.
+-- The logs `ls` after the records of a list are appended, one after another, each to the log of its shard.
 abbrev pub with_each : List Routed → List LogValue → List LogValue
 with_each [] ls = ls
 with_each (r ∷ rs) ls = with_each rs (with_appended r.shard (logged r.item) ls)
 
--- The logs `ls` in which those of the shards of the given places are settled in turn: they lose the records that
--- arrived below `floor`.
+-- The logs `ls` after, for each of the given places, the log of the place's shard has lost the records that arrived
+-- before the time `floor`.
 abbrev pub settled_each : ℕ → List Place → List LogValue → List LogValue
 settled_each floor [] ls = ls
 settled_each floor (p ∷ ps) ls = settled_each floor ps (settled_at floor p.shard ls)
 
--- The number of records for which the log at a place has memory reserved.
+-- For how many records the log at the index `n` has memory reserved, or 0 if there is no such log.
 abbrev pub reserved_at : List LogWithReserve → ℕ → ℕ
 reserved_at [] n = 0
 reserved_at (l ∷ ls) zero = l.reserved
 reserved_at (l ∷ ls) (suc n) = reserved_at ls n
 
--- The record `a` has a lower number than `b`, and arrived no later.
+-- The record `a` has a lower sequence number than `b`, and arrived no later.
 abbrev pub IsSooner : Routed → Routed → Type 0
 IsSooner a b = (a.item.seq < b.item.seq) × (a.item.arrival ≤ b.item.arrival)
 
@@ -105,31 +114,33 @@ abbrev pub AreInTurn : List Routed → Type 0
 AreInTurn [] = Unit {0}
 AreInTurn (r ∷ rs) = AllByRecursion (IsSooner r) rs × AreInTurn rs
 
--- The logs `ls` can take the record `r`: its shard has a log, its number is above all of theirs, and it arrived no
--- earlier than their records.
+-- The record `r` may be appended to the logs `ls`: its shard has a log, its sequence number is above all that were ever
+-- appended to any log, and it arrived no earlier than the records in them.
 pub record CanTake (ls : List LogValue) (r : Routed) : Type 0 where
   pub within : r.shard < length ls
   pub number : AllByRecursion (IsBelow r.item.seq) ls
   pub arrival : AllByRecursion (HasArrived r.item.arrival) ls
 
--- Whether the record `r` goes to shard `sh` (`is_routed_to`), and whether the place `p` is in shard `sh`
--- (`is_place_of`).
+-- Whether the record `r` goes to shard `sh`.
 abbrev pub is_routed_to : ℕ → Routed → Bool
 is_routed_to sh r = r.shard == sh
 
+-- Whether the place `p` is in shard `sh`.
 abbrev pub is_place_of : ℕ → Place → Bool
 is_place_of sh p = p.shard == sh
 
--- The logs `ls` can take all of the records `rs` in turn, and each log has memory reserved for as many as go to it.
+-- Each of the records `rs` may be appended to the logs `ls` (`CanTake`). The records are in the order of their numbers
+-- and times, and each log has memory reserved for all of those that go to it.
 pub record CanTakeAll (ls : List LogWithReserve) (rs : List Routed) : Type 0 where
   pub each : AllByRecursion (CanTake (map log_of ls)) rs
   pub reserved : (sh : ℕ) → count_by (is_routed_to sh) rs ≤ reserved_at ls sh
   pub in_turn : AreInTurn rs
 
--- ---- What is made of items
+-- ---- What routing makes of items
 
--- The routes `after` are `before` with what is made of `item`. The puts before the item are `f`, and the windows `ws`
--- stand for the puts after it.
+-- After `item` is routed, the routes `after` are `before` with the item's outcome added and, unless it is held back,
+-- its record with the next sequence number. The puts of each shard before the item are `f`, and the windows `ws` stand
+-- for those after it.
 pub record IsRouted (xs : List ShardState) (clock : ℕ) (on : Bool) (f : ℕ → List SizedPut) (item : NewItem)
     (before after : Routes)
     (ws : List WindowValue) : Type 0 where
@@ -140,8 +151,8 @@ pub record IsRouted (xs : List ShardState) (clock : ℕ) (on : Bool) (f : ℕ �
       ∷ []
   pub next_is : after.next ≡ after_number before.next (is_held xs clock on f item)
 
--- The routes `r` are those of `items`, with sequence numbers from `n` on. The puts before the items are `f`, and the
--- windows `ws` stand for the puts after them.
+-- The routes `r` have the outcomes of `items`, and the records of those that aren't held back, with sequence numbers
+-- from `n` on. The puts of each shard before the items are `f`, and the windows `ws` stand for those after them.
 pub record AreRouted (xs : List ShardState) (clock : ℕ) (on : Bool) (f : ℕ
     → List SizedPut) (n : ℕ) (items : List NewItem) (r : Routes)
     (ws : List WindowValue) : Type 0 where
@@ -150,7 +161,9 @@ pub record AreRouted (xs : List ShardState) (clock : ℕ) (on : Bool) (f : ℕ
   pub outcomes_are : r.outcomes ≡ outcomes xs clock on f n items
   pub next_is : r.next ≡ n + length (taken xs clock on f items)
 
--- The routes `r` so far, together with what the remaining `items` make, are what `all` items make.
+-- Of all items, `all`, those before `items` are routed. This has led to the routes `r` and to the puts `present`, for
+-- which the windows `ws` stand. What `items` add to these gives the records, outcomes, next number and puts of `all`,
+-- begun with the number `n` and the puts `f`.
 pub record GoesOn (xs : List ShardState) (clock : ℕ) (on : Bool) (f : ℕ
     → List SizedPut) (n : ℕ) (all items : List NewItem) (r : Routes)
     (ws : List WindowValue) : Type 0 where

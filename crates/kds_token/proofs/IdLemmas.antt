@@ -1,4 +1,4 @@
--- A shard's id reads as its number, and as no other.
+-- The id of a shard is read as the shard's number, and no other text is read as a shard's number.
 use Rattle.std.proofs.Common.{subst, rules, ◌≡◌, ◌≢◌, ℕ, zero, suc, ◌-◌, ◌^◌, ◌<◌, List, ◌++◌, length, drop, replicate}
 use Rattle.std.proofs.Common.{decimal, Bool, true, false, Option, Some, None, refl, sym, ap, ◌∙◌, arith}
 use Rattle.std.specs.Prelude.{◌&&◌, nat_lt, if◌then◌else◌}
@@ -13,7 +13,7 @@ use Rattle.std.proofs.lemmas.Slice.Eq.{bytes_eq-Decides}
 use Rattle.kds_base.specs.NumberText.{are_digits, digits_of}
 use Rattle.kds_token.specs.Ids.{twelve_digits, shard_id, if_id, id_of}
 
--- ---- The digits
+-- ---- The digits of an id
 
 zeros_digits : (k : ℕ) (ds : List ℕ) → AllDigits 10 ds → AllDigits 10 (replicate k 48 ++ ds)
 zeros_digits zero ds are = are
@@ -27,16 +27,19 @@ zeros_some : (k : ℕ) (ds : List ℕ) → 0 < length ds → 0 < length (replica
 zeros_some zero ds some = some
 zeros_some (suc k) ds some = omega arith
 
+-- The text `twelve_digits n` consists of decimal digits.
 pub id_digits : (n : ℕ) → n < 2 ^ 64 → AllDigits 10 (twelve_digits n)
 id_digits n small = zeros_digits (12 - length (decimal n)) (decimal n) (decimal_is_IsNumeral n small).0.1
 
+-- The text `twelve_digits n` isn't empty.
 pub id_some : (n : ℕ) → n < 2 ^ 64 → 0 < length (twelve_digits n)
 id_some n small = zeros_some (12 - length (decimal n)) (decimal n) (decimal_is_IsNumeral n small).0.0
 
+-- The value of the digits `twelve_digits n` is `n`.
 pub id_value : (n : ℕ) → n < 2 ^ 64 → digits_value 10 (twelve_digits n) ≡ n
 id_value n small = zeros_value (12 - length (decimal n)) (decimal n) ∙ (decimal_is_IsNumeral n small).1
 
--- ---- The whole
+-- ---- The whole id
 
 if_id_again : (n : ℕ) → n < 2 ^ 64 → if_id (shard_id n) n ≡ Some n
 if_id_again n small =
@@ -44,6 +47,7 @@ if_id_again n small =
     let fits : nat_lt n (2 ^ 64) ≡ true = grind (arith, nat_tests) in
     rw (fits, same) refl
 
+-- The id of shard `n` is read as the number `n`.
 pub id_reads : (n : ℕ) → n < 2 ^ 64 → id_of (shard_id n) ≡ Some n
 unfolding id_of
 id_reads n small = ap (if_id (shard_id n)) (id_value n small) ∙ if_id_again n small
@@ -58,17 +62,18 @@ if_id_is true true text m n fits is h =
 if_id_is true false text m n fits is h = absurd (cc)
 if_id_is false c text m n fits is h = absurd (cc)
 
--- The text is the id of the number that it reads as.
+-- If a text is read as the number `n`, it is the id of shard `n`, and `n` is below 2^64.
 pub id_is : (text : List ℕ) (n : ℕ) → id_of text ≡ Some n → (text ≡ shard_id n) × (n < 2 ^ 64)
 unfolding id_of
 id_is text n h = if_id_is _ _ text (digits_value 10 (drop 8 text)) n refl refl h
 
+-- If a text is read as the number `n`, it is the id of shard `n`.
 pub id_spells : (text : List ℕ) (n : ℕ) → id_of text ≡ Some n → text ≡ shard_id n
 id_spells text n h = (id_is text n h).0
 
--- ---- As it is read
+-- ---- How the code reads an id
 
--- The text `text` consists of digits.
+-- Each byte of `text` is a decimal digit.
 abbrev IsDigits : List ℕ → Type 0
 IsDigits text = list_all is_ascii_digit text ≡ true
 
@@ -87,11 +92,13 @@ twelve_read n small =
     let fits : nat_lt n (2 ^ 64) ≡ true = grind (arith, nat_tests) in
     rw (tested, id_value n small, fits) refl
 
+-- If `text` is the id of shard `n`, the part after its first eight bytes is read as the number `n`.
 pub tail_read : (text tail : List ℕ) (n : ℕ) → tail ≡ drop 8 text → text ≡ shard_id n → n < 2 ^ 64
     → digits_of 64 tail ≡ Some n
 tail_read text tail n cut e small = ap (digits_of 64) (cut ∙ ap (drop 8) e) ∙ twelve_read n small
 
--- A text is no id if it is the id of no number but the one that was found, and isn't the id of that one.
+-- Suppose that `text` can be the id of no shard but the one with the number `found`, and that it isn't the id of this
+-- shard. Then `text` isn't read as an id.
 pub no_id : (text : List ℕ) (found o : Option ℕ) → id_of text ≡ o
     → ((n : ℕ) → n < 2 ^ 64 → text ≡ shard_id n → found ≡ Some n) → ((n : ℕ) → found ≡ Some n → text ≢ shard_id n)
     → None ≡ id_of text

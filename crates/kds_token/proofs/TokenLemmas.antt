@@ -1,4 +1,5 @@
--- What a token reads as.
+-- A token is read as the shard iterator, or the place in a listing, whose token it is. No other text is read as a shard
+-- iterator or a place.
 use Rattle.std.proofs.Common.{◌≡◌, ◌≢◌, ℕ, zero, suc, List, [], ◌∷◌, ◌++◌, Bool, true, false, Option, Some, None, refl}
 use Rattle.std.proofs.Common.{sym, ap, ◌∙◌, arith, codes, decimal, subst}
 use Rattle.std.specs.Prelude.{if◌then◌else◌, slice_index}
@@ -25,6 +26,7 @@ use Rattle.kds_token.proofs.FieldLemmas.{decimal_no_colon, AreSmall, decimal_sma
 
 -- ---- Base64
 
+-- A list of numbers below 256 is a list of bytes, as std defines it.
 pub small_bytes : (bs : List ℕ) → AreSmall bs → IsBytes bs
 small_bytes [] h i = omega arith
 small_bytes (b ∷ bs) h zero = h.0
@@ -52,13 +54,14 @@ four_fields : {a b c d w x y z : List ℕ} → a ≡ w → b ≡ x → c ≡ y �
     → a ++ 58 ∷ (b ++ 58 ∷ (c ++ 58 ∷ d)) ≡ w ++ 58 ∷ (x ++ 58 ∷ (y ++ 58 ∷ z))
 four_fields p q r s = rw (p, q, r, s) refl
 
--- ---- Iterators
+-- ---- Shard iterators
 
 kind_is : {A : Type 0} (b : Bool) (x y : List ℕ) (o : Option A) (z : A) → bytes_eq x y ≡ b
     → (if b then o else None) ≡ Some z → (x ≡ y) × (o ≡ Some z)
 kind_is true x y o z e h = ((bytes_eq-Decides x y).0 e, h)
 kind_is false x y o z e h = absurd (cc)
 
+-- The text that the token of a shard iterator encodes consists of bytes.
 pub iter_small : (i : Iter) → IsIter i → AreSmall (iter_text i)
 iter_small i is =
     let issued = decimal_small i.issued (omega (arith, is.issued)) in
@@ -92,6 +95,8 @@ iter_again i is =
       field_at (decimal i.position) (decimal i.issued) (decimal_no_colon i.position is.position),
     ) (iter_from_again i is)
 
+-- The texts `stream`, `shard`, `position` and `issued`, joined by colons, are the decimal texts of the numbers in the
+-- shard iterator `i`, and these numbers are in range.
 abbrev IsIterOf : List ℕ → List ℕ → List ℕ → List ℕ → Iter → Type 0
 IsIterOf stream shard position issued i =
     IsIter i × (stream ++ 58 ∷ (shard ++ 58 ∷ (position ++ 58 ∷ issued)) ≡ decimal i.stream
@@ -136,6 +141,7 @@ iter_reads : (text : List ℕ) (i : Iter) → IsIter i → text ≡ iter_token i
 iter_reads text i is e = ap iter_of e ∙ ap (λ o. o >>= iter_in) (decoded_again (iter_text i) (iter_small i is))
     ∙ iter_again i is
 
+-- If the definition `iter_of` gives `o` for a text of bytes, then `o` is what the text must be read as (`ReadsAsIter`).
 pub iter_reads_as : (text : List ℕ) (o : Option Iter) → IsBytes text → iter_of text ≡ o → ReadsAsIter text o
 iter_reads_as text None bytes e = λ i is token. let bad : None ≡ Some i = sym e ∙ iter_reads text i is token in cc bad
 iter_reads_as text (Some i) bytes e =
@@ -143,9 +149,11 @@ iter_reads_as text (Some i) bytes e =
     let s = iter_spells a.0 i a.2 in
     (s.0, decoded_spells text a.0 bytes a.1 ∙ ap (encode_of standard) s.1)
 
+-- What the definition `iter_of` gives for a text of bytes is what the text must be read as (`ReadsAsIter`).
 pub iter_exact : (text : List ℕ) → IsBytes text → ReadsAsIter text (iter_of text)
 iter_exact text bytes = iter_reads_as text (iter_of text) bytes refl
 
+-- Two shard iterators with the same token are equal.
 pub one_iter : (i j : Iter) → IsIter i → IsIter j → iter_token i ≡ iter_token j → i ≡ j
 one_iter i j is js e = same_some i j (sym (iter_reads (iter_token i) i is refl) ∙ iter_reads (iter_token i) j js e)
 
@@ -175,6 +183,8 @@ page_again p is =
       field_at (decimal p.after) (decimal p.issued) (decimal_no_colon p.after is.after),
     ) (page_from_again p is)
 
+-- The texts `stream`, `after` and `issued`, joined by colons, are the decimal texts of the numbers in the place `p` of
+-- a listing, and these numbers are in range.
 abbrev IsPageOf : List ℕ → List ℕ → List ℕ → Page → Type 0
 IsPageOf stream after issued p =
     IsPage p × (stream ++ 58 ∷ (after ++ 58 ∷ issued) ≡ decimal p.stream
@@ -214,6 +224,7 @@ page_reads : (text : List ℕ) (p : Page) → IsPage p → text ≡ page_token p
 page_reads text p is e = ap page_of e ∙ ap (λ o. o >>= page_in) (decoded_again (page_text p) (page_small p is))
     ∙ page_again p is
 
+-- If the definition `page_of` gives `o` for a text of bytes, then `o` is what the text must be read as (`ReadsAsPage`).
 pub page_reads_as : (text : List ℕ) (o : Option Page) → IsBytes text → page_of text ≡ o → ReadsAsPage text o
 page_reads_as text None bytes e = λ p is token. let bad : None ≡ Some p = sym e ∙ page_reads text p is token in cc bad
 page_reads_as text (Some p) bytes e =
@@ -221,17 +232,20 @@ page_reads_as text (Some p) bytes e =
     let s = page_spells a.0 p a.2 in
     (s.0, decoded_spells text a.0 bytes a.1 ∙ ap (encode_of standard) s.1)
 
+-- What the definition `page_of` gives for a text of bytes is what the text must be read as (`ReadsAsPage`).
 pub page_exact : (text : List ℕ) → IsBytes text → ReadsAsPage text (page_of text)
 page_exact text bytes = page_reads_as text (page_of text) bytes refl
 
+-- Two places in a listing with the same token are equal.
 pub one_page : (p q : Page) → IsPage p → IsPage q → page_token p ≡ page_token q → p ≡ q
 one_page p q is js e = same_some p q (sym (page_reads (page_token p) p is refl) ∙ page_reads (page_token p) q js e)
 
--- ---- Neither is the other
+-- ---- No token is of both kinds
 
 texts_apart : (a b : List ℕ) → codes "KI1:" ++ a ≡ codes "KT1:" ++ b → ⊥
 texts_apart a b h = let e : ◌≡◌ {A = ℕ} 73 84 = ap (λ (l : List ℕ). slice_index l 1) h in absurd (omega arith)
 
+-- No shard iterator has the same token as a place in a listing.
 pub tokens_apart : (i : Iter) (p : Page) → IsIter i → IsPage p → iter_token i ≢ page_token p
 tokens_apart i p is js e =
     texts_apart _ _ (same_some (iter_text i) (page_text p) (sym (decoded_again (iter_text i) (iter_small i is))

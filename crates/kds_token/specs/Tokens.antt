@@ -1,4 +1,6 @@
--- The tokens of iterators and of places in a listing (base64 is RFC 4648, section 4).
+-- The tokens of shard iterators and of listings of shards. A token is the base64 text (RFC 4648, section 4) of fields
+-- that are separated by colons. The token of a listing stands for a place in it (`Page`): the stream, the shard after
+-- which the listing goes on, and the time of issue.
 use Rattle.std.specs.Prelude.{◌≡◌, ◌≢◌, ℕ, ◌^◌, ◌<◌, List, ◌∷◌, ◌++◌, codes, decimal, if◌then◌else◌, Option, Some, None}
 use Rattle.std.specs.Str.{bytes_eq}
 use Rattle.base64.specs.Engines.{standard}
@@ -9,53 +11,60 @@ use Rattle.kds_defs.specs.declared.reply.Page.{Page}
 use Rattle.kds_base.specs.Moments.{moment_of}
 use Rattle.kds_token.specs.Fields.{◌>>=◌, field}
 
--- ---- Iterators
+-- ---- Shard iterators
 
--- The text that the token of the iterator `i` encodes: `KI1:STREAM:SHARD:POSITION:ISSUED`.
+-- The text that the token of the shard iterator `i` encodes: `KI1:STREAM:SHARD:POSITION:ISSUED`, with the numbers in
+-- decimal.
 abbrev pub iter_text : Iter → List ℕ
 iter_text i = codes "KI1:"
     ++ (decimal i.stream ++ 58 ∷ (decimal i.shard ++ 58 ∷ (decimal i.position ++ 58 ∷ decimal i.issued)))
 
--- The token of the iterator `i` (Kinesis API Reference, GetShardIterator, ShardIterator).
+-- The token of the shard iterator `i`, which is its text in base64 (Kinesis API Reference, GetShardIterator,
+-- ShardIterator).
 abbrev pub iter_token : Iter → List ℕ
 iter_token i = encode_of standard (iter_text i)
 
--- The numbers of the iterator `i` are in range: its moment is below 2 ^ 62, and the others are below 2 ^ 64.
+-- The numbers of the shard iterator `i` are in range: its time of issue is below 2^62, and the others are below 2^64.
 pub record IsIter (i : Iter) : Type 0 where
   pub stream : i.stream < 2 ^ 64
   pub shard : i.shard < 2 ^ 64
   pub position : i.position < 2 ^ 64
   pub issued : i.issued < 2 ^ 62
 
--- The text `text` is to be read as the iterator whose token it is, or as `None` if it isn't an iterator's token.
+-- The option is what `text` must be read as: the shard iterator whose token `text` is, or `None` if `text` isn't the
+-- token of a shard iterator whose numbers are in range.
 abbrev pub ReadsAsIter : List ℕ → Option Iter → Type 0
 ReadsAsIter text None = (i : Iter) → IsIter i → text ≢ iter_token i
 ReadsAsIter text (Some i) = IsIter i × (text ≡ iter_token i)
 
 -- ---- Places in a listing
 
--- The text that the token of the place `p` in a listing encodes: `KT1:STREAM:AFTER:ISSUED`.
+-- The text that the token of the place `p` in a listing encodes: `KT1:STREAM:AFTER:ISSUED`, with the numbers in
+-- decimal.
 abbrev pub page_text : Page → List ℕ
 page_text p = codes "KT1:" ++ (decimal p.stream ++ 58 ∷ (decimal p.after ++ 58 ∷ decimal p.issued))
 
--- The token of the place `p` in a listing (Kinesis API Reference, ListShards, NextToken).
+-- The token of the place `p` in a listing, which is its text in base64 (Kinesis API Reference, ListShards, NextToken).
 abbrev pub page_token : Page → List ℕ
 page_token p = encode_of standard (page_text p)
 
--- The numbers of the place `p` in a listing are in range: its moment is below 2 ^ 62, and the others are below 2 ^ 64.
+-- The numbers of the place `p` in a listing are in range: its time of issue is below 2^62, and the others are below
+-- 2^64.
 pub record IsPage (p : Page) : Type 0 where
   pub stream : p.stream < 2 ^ 64
   pub after : p.after < 2 ^ 64
   pub issued : p.issued < 2 ^ 62
 
--- The text `text` is to be read as the place whose token it is, or as `None` if it isn't a listing's token.
+-- The option is what `text` must be read as: the place in a listing whose token `text` is, or `None` if `text` isn't
+-- the token of a place whose numbers are in range.
 abbrev pub ReadsAsPage : List ℕ → Option Page → Type 0
 ReadsAsPage text None = (p : Page) → IsPage p → text ≢ page_token p
 ReadsAsPage text (Some p) = IsPage p × (text ≡ page_token p)
 
--- ---- The same as functions of a text
+-- ---- What a text is read as
 
--- The iterator whose fields have these texts, if there is one.
+-- The shard iterator whose numbers have the decimal texts `stream`, `shard`, `position` and `issued`, if these texts
+-- are such numbers.
 unfoldable pub iter_from : List ℕ → List ℕ → List ℕ → List ℕ → Option Iter
 iter_from stream shard position issued = do
   a ← number_of 64 stream
@@ -64,7 +73,7 @@ iter_from stream shard position issued = do
   d ← moment_of issued
   Some (record { stream = a; shard = b; position = c; issued = d })
 
--- The iterator whose token encodes `text`, if there is one.
+-- The shard iterator whose token encodes `text`, if there is one. `text` isn't in base64 any more.
 unfoldable pub iter_in : List ℕ → Option Iter
 iter_in text = do
   kind ← field text
@@ -73,11 +82,12 @@ iter_in text = do
   position ← field shard.1
   if bytes_eq kind.0 (codes "KI1") then iter_from stream.0 shard.0 position.0 position.1 else None
 
--- The iterator whose token is `text`, if there is one.
+-- The shard iterator whose token is `text`, if there is one.
 abbrev pub iter_of : List ℕ → Option Iter
 iter_of text = decoded_of standard text >>= iter_in
 
--- The place in a listing whose fields have these texts, if there is one.
+-- The place in a listing whose numbers have the decimal texts `stream`, `after` and `issued`, if these texts are such
+-- numbers.
 unfoldable pub page_from : List ℕ → List ℕ → List ℕ → Option Page
 page_from stream after issued = do
   a ← number_of 64 stream
@@ -85,7 +95,7 @@ page_from stream after issued = do
   c ← moment_of issued
   Some (record { stream = a; after = b; issued = c })
 
--- The place in a listing whose token encodes `text`, if there is one.
+-- The place in a listing whose token encodes `text`, if there is one. `text` isn't in base64 any more.
 unfoldable pub page_in : List ℕ → Option Page
 page_in text = do
   kind ← field text

@@ -1,4 +1,5 @@
--- The children of a shard stand together, and stay so as shards are split and merged.
+-- The index of first children fits the shards of a new stream (`AreFamilies`), and it fits the shards again after a
+-- split or a merge. So the children of a shard come one right after the other.
 use Rattle.std.proofs.Common.{◌≡◌, inl, inr, ℕ, zero, suc, ◌+◌, ◌<◌, ◌≤◌, Bool, true, false, refl, sym, ap, subst, ◌∙◌}
 use Rattle.std.proofs.Common.{arith}
 use Rattle.std.proofs.Common.{List, [], ◌∷◌, ◌++◌, length, drop, take, Option, Some, None}
@@ -15,7 +16,7 @@ use Rattle.kds_defs.specs.Shards.{with_closed}
 use Rattle.kds_tree.specs.Families.{AreFamilies, MayStandAt, told_of}
 use Rattle.kds_tree.proofs.OpenStarts.{Closes, IsBehind, closes_one, closes_two, get_back, get_cases, get_front}
 
--- ---- What is among them all is among those two
+-- ---- A shard's children are among the two shards that the index gives
 
 none_passes : (p : ShardState → Bool) (xs : List ShardState)
     → ((place : ℕ) (x : ShardState) → slice_get xs place ≡ Some x → p x ≡ false) → filter p xs ≡ []
@@ -39,6 +40,8 @@ near p (suc first) (x ∷ xs) only =
     ∙ sym (ap (λ (b : Bool). cond b (x ∷ filter p xs) (filter p xs))
     (false_from_ne_true (p x) (λ t. absurd (omega (arith, (only 0 x refl t).0)))))
 
+-- If the index gives `first` as the first child of the shard `parent`, all children of this shard are among the two
+-- shards from the index `first` on.
 pub all_near : (firsts : List (Option ℕ)) (xs pair : List ShardState) (parent first : ℕ) → AreFamilies firsts xs
     → Some first ≡ told_of (slice_get firsts parent) → pair ≡ take 2 (drop first xs)
     → children_among parent pair ≡ children_among parent xs
@@ -47,7 +50,7 @@ all_near firsts xs pair parent first families is is_pair =
     ∙ near (is_child parent) first xs (λ place x there child.
     subst (λ o. MayStandAt o place) (sym is) (families.each parent place x there child))
 
--- A shard without a first child has no children.
+-- If the index gives no first child of the shard `parent`, this shard has no children.
 pub none_known : (firsts : List (Option ℕ)) (xs : List ShardState) (parent : ℕ) → AreFamilies firsts xs
     → None ≡ told_of (slice_get firsts parent)
     → [] ≡ children_among parent xs
@@ -56,7 +59,7 @@ none_known firsts xs parent families is =
     (λ place x there. false_from_ne_true (is_child parent x)
     (λ t. subst (λ o. MayStandAt o place) (sym is) (families.each parent place x there t))))
 
--- ---- Lists with places that are set
+-- ---- Lists in which an element is replaced
 
 set_keeps : (l : List (Option ℕ)) (i j : ℕ) (v : Option ℕ) → i ≢ j → slice_get (slice_set l j v) i ≡ slice_get l i
 set_keeps [] i j v apart = refl
@@ -110,6 +113,7 @@ none_at zero place below = absurd (omega arith)
 none_at (suc n) zero below = refl
 none_at (suc n) (suc place) below = none_at n place (omega arith)
 
+-- An index without any first child fits the shards of a new stream, because none of them has a parent.
 pub families_made : (count n start : ℕ) (ranges : List Span) → length (first_shards n start ranges) ≡ count
     → AreFamilies (replicate count None) (first_shards n start ranges)
 unfolding nones
@@ -121,13 +125,14 @@ families_made count n start ranges long = record {
       none_at count place (omega (arith, long, slice_get_within (first_shards n start ranges) place x is));
 }
 
--- ---- Shards that are closed, and others behind all
+-- ---- Shards are closed, and others are added at the end
 
--- Each child in the list `closed` is a child of the same shard in the list `xs`.
+-- Each child in the list `closed` is, at the same index in the list `xs`, a child of the same shard.
 abbrev pub Kin : List ShardState → List ShardState → Type 0
 Kin xs closed = (parent place : ℕ) (y : ShardState) → slice_get closed place ≡ Some y → is_child parent y ≡ true
     → (x : ShardState) × ((slice_get xs place ≡ Some x) × (is_child parent x ≡ true))
 
+-- After a shard is closed, each shard is a child of the same shards as before (`Kin`).
 pub kin_closed : (xs : List ShardState) (sh : ℕ) (closing : Closing) → Kin xs (with_closed sh closing xs)
 kin_closed [] sh closing parent place y is child = absurd cc
 kin_closed (x ∷ xs) zero closing parent zero y is child =
@@ -138,16 +143,19 @@ kin_closed (x ∷ xs) zero closing parent (suc place) y is child = (y, (is, chil
 kin_closed (x ∷ xs) (suc sh) closing parent zero y is child = (y, (is, child))
 kin_closed (x ∷ xs) (suc sh) closing parent (suc place) y is child = kin_closed xs sh closing parent place y is child
 
+-- After two shards are closed, each shard is a child of the same shards as before (`Kin`).
 pub kin_twice : (xs : List ShardState) (sh other : ℕ) (closing : Closing)
     → Kin xs (with_closed other closing (with_closed sh closing xs))
 kin_twice xs sh other closing parent place y is child =
     let once = kin_closed (with_closed sh closing xs) other closing parent place y is child in
     kin_closed xs sh closing parent place once.0 once.1.0 once.1.1
 
--- The first children after two shards get one and further shards come, which have none.
+-- The index `firsts` after the shards `sh` and `other` have got the first child `child`, and the entries `more` have
+-- been added for new shards.
 abbrev pub after_birth : List (Option ℕ) → ℕ → ℕ → ℕ → List (Option ℕ) → List (Option ℕ)
 after_birth firsts sh other child more = slice_set (slice_set firsts sh (Some child)) other (Some child) ++ more
 
+-- The entries `more` of the index give no first child.
 abbrev AreNone : List (Option ℕ) → Type 0
 AreNone more = (i : ℕ) → i < length more → slice_get more i ≡ Some None
 
@@ -214,6 +222,8 @@ module _ (firsts more : List (Option ℕ)) (xs closed born : List ShardState) (s
       let e : place ≡ length sets + h.place = omega (arith, h.is, long_sets) in
       ap (slice_get (sets ++ more)) e ∙ get_back sets more h.place ∙ none h.place (omega arith)
 
+  -- Let the shards `sh` and `other`, which have no children, be closed, and let the shards `born`, at most two, be
+  -- added at the end, with no other parents than these. Then the changed index (`after_birth`) fits the shards.
   pub born_families : AreFamilies (after_birth firsts sh other child more) (closed ++ born)
   born_families = record {
     long =
@@ -264,6 +274,8 @@ none_in_two zero below = refl
 none_in_two (suc zero) below = refl
 none_in_two (suc (suc i)) below = absurd (omega arith)
 
+-- After an open shard is split, the index with this shard's first child set to the first new shard, and with two empty
+-- entries added, fits the shards.
 pub split_families : (firsts : List (Option ℕ)) (xs : List ShardState) (sh a b start : ℕ) (r q : Span)
     (closing : Closing) (x : ShardState)
     → slice_get xs sh ≡ Some x → is_open x ≡ true → AreFamilies firsts xs
@@ -276,6 +288,8 @@ split_families firsts xs sh a b start r q closing x made open_now families =
     families (closes_one xs sh closing) (kin_closed xs sh closing) (omega arith) refl none_in_two refl young young
     (of_split sh a b start r q)
 
+-- After two open shards are merged, the index with the first child of each set to the new shard, and with one empty
+-- entry added, fits the shards.
 pub merge_families : (firsts : List (Option ℕ)) (xs : List ShardState) (sh other a start : ℕ) (r : Span)
     (closing : Closing) (x y : ShardState)
     → slice_get xs sh ≡ Some x → is_open x ≡ true → slice_get xs other ≡ Some y → is_open y ≡ true
@@ -288,8 +302,10 @@ merge_families firsts xs sh other a start r closing x y made open_now other_made
     families (closes_two xs sh other closing) (kin_twice xs sh other closing) (omega arith) refl none_in_one refl
     (families.young sh x made open_now) (families.young other y other_made other_open) (of_merge sh other a start r)
 
--- ---- Places that are added
+-- ---- How the code changes the index
 
+-- If the code sets the entries of the shards `sh` and `other` in the index to `a`, and adds one empty entry, the index
+-- is the one of `after_birth`.
 pub one_place : (fs kept set more : List (Option ℕ)) (sh other a n : ℕ) → kept ≡ fs
     → set ≡ slice_set (slice_set kept sh (Some a)) other (Some a) → a ≡ n
     → more ≡ set ++ None ∷ []
@@ -301,6 +317,8 @@ one_place fs kept set more sh other a n is_kept is_set is is_more =
     ∙ ap (λ (us : List (Option ℕ)). slice_set (slice_set us sh (Some a)) other (Some a)) is_kept
     ∙ ap (λ (m : ℕ). slice_set (slice_set fs sh (Some m)) other (Some m)) is)
 
+-- If the code sets the entries of the shards `sh` and `other` in the index to `a`, and adds two empty entries, the
+-- index is the one of `after_birth`.
 pub two_places : (fs kept set next more : List (Option ℕ)) (sh other a n : ℕ) → kept ≡ fs
     → set ≡ slice_set (slice_set kept sh (Some a)) other (Some a)
     → a ≡ n → next ≡ set ++ None ∷ [] → more ≡ next ++ None ∷ []

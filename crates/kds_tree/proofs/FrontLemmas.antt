@@ -1,4 +1,5 @@
--- What stays true of the shards at the front, and that listings may pass over those that aren't named.
+-- The front of a list of shards: its first shards, each of which is expired or has its number in the list `names`
+-- (`AreLeft`). The lemmas say what keeps a front a front, and why listings may skip its shards that aren't named.
 use Rattle.std.proofs.Common.{◌≡◌, ℕ, zero, suc, ◌+◌, ◌-◌, ◌<◌, ◌≤◌, Bool, true, false, List, [], ◌∷◌, ◌++◌, drop}
 use Rattle.std.proofs.Common.{get_or, length, map, Option, Some, None, refl, sym, ap, subst, ◌∙◌, arith, inl, inr}
 use Rattle.std.specs.Prelude.{cond, max, not, slice_get, slice_set}
@@ -19,7 +20,7 @@ still_below : (f g : ℕ) (o : Option Closing) → f ≤ g → was_closed_below 
 still_below f g None h e = e
 still_below f g (Some closing) h e = grind (arith, nat_tests)
 
--- What has expired stays so.
+-- A front at the floor `f` is also a front at a higher floor `g`, because expired shards stay expired.
 pub later_left : (f g n c : ℕ) (names : List ℕ) (xs : List ShardState) → f ≤ g → AreLeft f n c names xs
     → AreLeft g n c names xs
 later_left f g n zero names xs h left = left
@@ -30,20 +31,23 @@ later_left f g n (suc c) (i ∷ names) (x ∷ xs) h (inl a) = inl (a.0, later_le
 later_left f g n (suc c) (i ∷ names) (x ∷ xs) h (inr a) =
     inr (still_below f g x.closing h a.0, later_left f g (suc n) c (i ∷ names) xs h a.1)
 
--- The front has one more shard if an expired shard comes before it.
+-- If an expired shard is put before the list, the front may have one shard more.
 passed_left : (f n c : ℕ) (names : List ℕ) (x : ShardState) (xs : List ShardState) → is_closed_below f x ≡ true
     → AreLeft f (suc n) c names xs
     → AreLeft f n (suc c) names (x ∷ xs)
 passed_left f n c [] x xs e left = (e, left)
 passed_left f n c (i ∷ names) x xs e left = inr (e, left)
 
--- Names of shards that have expired may go.
+-- Suppose that each shard of `x ∷ xs` whose number fails the test `keep` is expired. Then each shard of `xs` whose
+-- number fails `keep` is expired. The shard `x` has the number `n`.
 shifted : (f n : ℕ) (keep : ℕ → Bool) (x : ShardState) (xs : List ShardState)
     → ((j : ℕ) (y : ShardState) → slice_get (x ∷ xs) j ≡ Some y → keep (n + j) ≡ false → is_closed_below f y ≡ true)
     → (j : ℕ) (y : ShardState) → slice_get xs j ≡ Some y → keep (suc n + j) ≡ false → is_closed_below f y ≡ true
 shifted f n keep x xs drops j y is e = let next : n + suc j ≡ suc n + j = omega arith in
     drops (suc j) y is (ap keep next ∙ e)
 
+-- Suppose that each shard whose number fails the test `keep` is expired. Then the names of a front may be filtered by
+-- `keep`, and the front stays a front.
 pub kept_left : (f n c : ℕ) (keep : ℕ → Bool) (names : List ℕ) (xs : List ShardState)
     → ((j : ℕ) (y : ShardState) → slice_get xs j ≡ Some y → keep (n + j) ≡ false → is_closed_below f y ≡ true)
     → AreLeft f n c names xs → AreLeft f n c (filter keep names) xs
@@ -64,7 +68,7 @@ kept_left f n (suc c) keep (i ∷ names) (x ∷ xs) drops (inr a) =
     passed_left f n c (filter keep (i ∷ names)) x xs a.0
     (kept_left f (suc n) c keep (i ∷ names) xs (shifted f n keep x xs drops) a.1)
 
--- The front may go on with the shard behind it if this shard has expired.
+-- If the shard right after the front is expired, the front may have one shard more.
 pub one_passed : (f n c m : ℕ) (names : List ℕ) (xs : List ShardState) (x : ShardState) → m ≡ c + 1 → c < length xs
     → x ≡ get_or xs c x
     → is_closed_below f x ≡ true → AreLeft f n c names xs → AreLeft f n m names xs
@@ -82,7 +86,7 @@ one_passed f n c m names xs x is below at e left =
     longer n (suc k) (i ∷ ns) (y ∷ ys) below at (inr a) =
         inr (a.0, longer (suc n) k (i ∷ ns) ys (omega arith) at a.1)
 
--- The front may go on with the shard behind it if this shard is named.
+-- If the number of the shard right after the front is added to the names, the front may have one shard more.
 pub one_named : (f n c m : ℕ) (names : List ℕ) (xs : List ShardState) → m ≡ c + 1 → c < length xs
     → AreLeft f n c names xs → AreLeft f n m (names ++ (n + c) ∷ []) xs
 one_named f n c m names xs is below left =
@@ -101,8 +105,9 @@ one_named f n c m names xs is below left =
     longer p (suc k) (i ∷ ns) (y ∷ ys) e below (inr a) =
         inr (a.0, longer (suc p) k (i ∷ ns) ys (omega arith) (omega arith) a.1)
 
--- ---- Further shards, and changes of open ones, leave the front as it is
+-- ---- A front stays a front if shards are added at the end, and if open shards are changed
 
+-- If shards are added at the end of the list, a front stays a front.
 pub left_append : (f n c : ℕ) (names : List ℕ) (xs ys : List ShardState) → AreLeft f n c names xs
     → AreLeft f n c names (xs ++ ys)
 left_append f n zero names xs ys left = left
@@ -121,6 +126,7 @@ open_first : (f : ℕ) (x y : ShardState) (xs : List ShardState) → slice_get (
 open_first f x y xs made opened e = let same : x ≡ y = cc in
     open_or_below f y.closing y refl opened (ap (is_closed_below f) (sym same) ∙ e)
 
+-- If an open shard is replaced by another shard, a front stays a front, because an open shard of the front is named.
 pub left_set : (f n c i : ℕ) (names : List ℕ) (xs : List ShardState) (x y : ShardState) → slice_get xs i ≡ Some x
     → is_open x ≡ true
     → AreLeft f n c names xs → AreLeft f n c names (slice_set xs i y)
@@ -136,6 +142,7 @@ left_set f n (suc c) (suc i) (k ∷ names) (z ∷ xs) x y made opened (inl a) =
 left_set f n (suc c) (suc i) (k ∷ names) (z ∷ xs) x y made opened (inr a) =
     inr (a.0, left_set f (suc n) c i (k ∷ names) xs x y made opened a.1)
 
+-- If two open shards are replaced by others, a front stays a front, because an open shard of the front is named.
 pub left_sets : (f n c i j : ℕ) (names : List ℕ) (xs : List ShardState) (x v y z : ShardState) → slice_get xs i ≡ Some x
     → is_open x ≡ true
     → slice_get xs j ≡ Some v → is_open v ≡ true → AreLeft f n c names xs
@@ -162,7 +169,7 @@ left_sets f n (suc c) (suc i) (suc j) (k ∷ names) (w ∷ xs) x v y z made open
 left_sets f n (suc c) (suc i) (suc j) (k ∷ names) (w ∷ xs) x v y z made opened made' opened' (inr a) =
     inr (a.0, left_sets f (suc n) c i j (k ∷ names) xs x v y z made opened made' opened' a.1)
 
--- ---- The names rise, so those from a number on are those behind a place
+-- ---- The names rise, so those from a number on belong to the shards from this number on
 
 least : (f n c : ℕ) (names : List ℕ) (xs : List ShardState) → AreLeft f n c names xs → (j d : ℕ) → j < length names
     → n ≤ get_or names j d
@@ -174,6 +181,7 @@ least f n (suc c) (i ∷ names) (x ∷ xs) (inl a) (suc j) d lt =
     omega (arith, least f (suc n) c names xs a.1 j d (omega arith))
 least f n (suc c) (i ∷ names) (x ∷ xs) (inr a) j d lt = omega (arith, least f (suc n) c (i ∷ names) xs a.1 j d lt)
 
+-- The numbers in the names of a front never fall.
 pub names_rise : (f n c : ℕ) (names : List ℕ) (xs : List ShardState) → AreLeft f n c names xs
     → (i j d : ℕ) → i ≤ j → j < length names → get_or names i d ≤ get_or names j d
 names_rise f n zero names xs left i j d le lt = absurd (omega (arith, lt, ap length left))
@@ -205,6 +213,8 @@ nothing_before f n c t (suc at) (i ∷ names) xs is before left =
       least f n c (i ∷ names) xs left 0 i (omega arith),
     ))
 
+-- The names that aren't below the number `t` are the names for the front of the shards from the number `t` on, which
+-- begin at the index `m`. The first such name is at the index `at` of the names.
 pub names_behind : (f n c m t k at : ℕ) (names : List ℕ) (xs : List ShardState) → t ≡ n + m → k ≡ c - m
     → ((j d : ℕ) → j < at → j < length names → get_or names j d < t)
     → ((j d : ℕ) → at ≤ j → j < length names → t ≤ get_or names j d)
@@ -229,7 +239,7 @@ names_behind f n (suc c) (suc m) t k (suc at) (i ∷ names) (x ∷ xs) is_t is_k
 names_behind f n (suc c) (suc m) t k at (i ∷ names) (x ∷ xs) is_t is_k before from (inr a) =
     names_behind f (suc n) c m t k at (i ∷ names) xs (omega arith) (omega arith) before from a.1
 
--- ---- Listings pass over the others
+-- ---- Listings skip the shards of the front that aren't named
 
 listed_left : (f n c : ℕ) (names : List ℕ) (xs all : List ShardState)
     → ((j : ℕ) → slice_get all (n + j) ≡ slice_get xs j) → AreLeft f n c names xs
@@ -268,7 +278,8 @@ drop_twice (suc a) (suc b) [] = let e : suc (a + suc b) ≡ suc a + suc b = omeg
 drop_twice (suc a) b (x ∷ xs) = let e : suc (a + b) ≡ suc a + b = omega arith in
     drop_twice a b xs ∙ ap (λ k. drop k (x ∷ xs)) e
 
--- A listing that begins behind a number is that of the named shards from there on, and of the shards behind the front.
+-- A listing of the shards after a given number can be made from the named shards after this number, and the shards that
+-- come after both the number and the front. `names` are the names from the next number on.
 pub listing_left : (cut after : Option ℕ) (xs : List ShardState) (names : List ℕ) (c start m : ℕ)
     → AreLeft (floor_of cut) start (c - start) names (drop start xs) → m ≡ max start c
     → drop start xs ≡ filter (is_after_shard after) xs
@@ -282,7 +293,8 @@ listing_left cut after xs names c start m left is behind =
     left)
     ∙ listing_behind cut after xs (drop start xs) behind
 
--- The keys of the named shards, and then those of the shards behind the front, are the keys of all listed shards.
+-- The keys of the listed shards among the named ones, followed by the keys of the listed shards after the front, are
+-- the keys of all listed shards. The lemma says so of these keys after `keys`.
 pub keys_left : (s f c : ℕ) (names : List ℕ) (xs : List ShardState) (keys now new : List ShardRef)
     → AreLeft f 0 c names xs
     → now ≡ keys ++ refs_of s (listed_among f (picked names xs))
@@ -299,6 +311,7 @@ keys_left s f c names xs keys now new left is_now is_new =
     (sym (filter-append _ first (drop c xs))
     ∙ listed_left f 0 c names xs xs (λ j. let e : 0 + j ≡ j = omega arith in ap (slice_get xs) e) left))
 
+-- A front has at most as many shards as the list.
 pub left_within : (f n c : ℕ) (names : List ℕ) (xs : List ShardState) → AreLeft f n c names xs → c ≤ length xs
 left_within f n zero names xs left = omega arith
 left_within f n (suc c) names [] left = absurd left
@@ -317,6 +330,7 @@ was_true f j (Some y) x is e = let same : y ≡ x = cc in
     not_false true e = refl
     not_false false e = absurd cc
 
+-- If the test that a shard isn't expired fails for the shard at the index `j`, this shard is expired.
 pub drops_expired : (f : ℕ) (xs : List ShardState) (j : ℕ) (x : ShardState) → slice_get xs j ≡ Some x
     → not (was_expired f (slice_get xs (0 + j))) ≡ false → is_closed_below f x ≡ true
 drops_expired f xs j x is e = let same : 0 + j ≡ j = omega arith in

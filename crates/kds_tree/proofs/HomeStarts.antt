@@ -1,4 +1,5 @@
--- The home of a key stands at the last start at or below it.
+-- The home of a hash key is the open shard with the last start at or below the key. The starts `ss` are in the order of
+-- their keys, and exactly those before the index `i` are at or below the key `k`.
 use Rattle.std.proofs.Common.{◌≡◌, ℕ, zero, suc, ◌-◌, ◌^◌, ◌<◌, ◌≤◌, Bool, true, false, List, [], ◌∷◌, length, get_or}
 use Rattle.std.proofs.Common.{Some, leb, leb-true, refl, sym, ap, subst, ◌∙◌, arith}
 use Rattle.std.specs.Prelude.{slice_get}
@@ -38,11 +39,12 @@ module _ (xs : List ShardState) (ss : List OpenStart) (k i : ℕ) (tree : IsTree
     (below : k < 2 ^ 128)
     (point : IsPartitionPoint (λ (y : OpenStart). leb y.key k ≡ true) (λ (y : OpenStart). leb y.key k ≡ false) ss i)
     (bound : i ≤ length ss) where
-  -- A start at or below the key stands before the point.
+  -- A start that is at or below the key `k` comes before the index `i`.
   before_point : (j : ℕ) (d : OpenStart) → j < length ss → (get_or ss j d).key ≤ k → j < i
   before_point j d lt le =
       below_unless j i (leb i j) refl (λ over. below_point (get_or ss j d).key k (point.1 j d over lt) le)
 
+  -- The start right before the index `i` belongs to the home of the key `k`.
   pub found : (s : OpenStart) → (at : ℕ) → at ≡ i - 1 → at < length ss → s ≡ get_or ss at s → IsHome xs k s.shard
   found s at is_at within is =
       let h = home_is xs k tree below in
@@ -73,7 +75,7 @@ module _ (xs : List ShardState) (ss : List OpenStart) (k i : ℕ) (tree : IsTree
       in_h in
       subst (IsHome xs k) (sym same) h
 
-  -- There is a start at or below the key.
+  -- There is a start right before the index `i`, so at least one start is at or below the key `k`.
   pub some_start : (at : ℕ) → at ≡ i - 1 → at < length ss
   some_start at is_at =
       let h = home_is xs k tree below in

@@ -1,4 +1,4 @@
--- The keys of the starts that are kept in order: they are those of the open shards, put in order.
+-- The hash keys in the list of starts are the first keys of the ranges of the open shards, in rising order.
 use Rattle.std.proofs.Common.{◌≡◌, ℕ, suc, ◌+◌, ◌<◌, ◌≤◌, Bool, true, false, List, [], ◌∷◌, length, get_or, map, refl}
 use Rattle.std.proofs.Common.{sym, ap, subst, ◌∙◌, arith}
 use Rattle.std.specs.Prelude.{cond, ◌==◌, nat_lt}
@@ -14,14 +14,14 @@ use Rattle.kds_tree.specs.Tree.{IsTree}
 use Rattle.kds_tree.specs.declared.start.OpenStart.{OpenStart}
 use Rattle.kds_tree.proofs.Risings.{tree_rises}
 
--- ---- Lists that don't fall, with each key as often in both, are the same
+-- ---- Two lists that never fall are equal if each key is equally often in both
 
 -- How often the key `k` is in a list.
 abbrev times : ℕ → List ℕ → ℕ
 times k [] = 0
 times k (x ∷ xs) = cond (x == k) 1 0 + times k xs
 
--- No key of a list is below the one before it.
+-- The first number of a list isn't below `n`, and no number is below the one before it.
 abbrev NoneFalls : ℕ → List ℕ → Type 0
 NoneFalls n [] = Unit {0}
 NoneFalls n (x ∷ xs) = (n ≤ x) × NoneFalls x xs
@@ -62,14 +62,15 @@ same_lists n (x ∷ xs) (y ∷ ys) r t e =
     (λ k. same_tail x y k xs ys same (e k)))
     ∙ ap (λ (z : ℕ). z ∷ ys) same
 
--- ---- How often a key is there
+-- ---- How often a list has a key
 
 times_by : (lt : Bool) (k b x : ℕ) (xs more : List ℕ) → times k more ≡ cond (b == k) 1 0 + times k xs
     → times k (cond lt (b ∷ x ∷ xs) (x ∷ more)) ≡ cond (b == k) 1 0 + times k (x ∷ xs)
 times_by true k b x xs more h = refl
 times_by false k b x xs more h = omega arith
 
--- An added start is there once more.
+-- If the key `b` is inserted into a list of first keys, `b` is in the list once more than before, and all other keys
+-- are as often as before.
 times_with : (k b : ℕ) (xs : List ℕ) → times k (with_start b xs) ≡ cond (b == k) 1 0 + times k xs
 times_with k b [] = refl
 times_with k b (x ∷ xs) = times_by (nat_lt b x) k b x xs (with_start b xs) (times_with k b xs)
@@ -95,7 +96,7 @@ times_keys : (k : ℕ) (ss : List OpenStart) → times k (starting_keys ss) ≡ 
 times_keys k [] = refl
 times_keys k (s ∷ ss) = counted (s.key == k) s (filter (has_key k) ss) (times k (starting_keys ss)) (times_keys k ss)
 
--- ---- Those that are kept don't fall
+-- ---- The keys of the starts never fall
 
 none_falls : (n : ℕ) (ss : List OpenStart) → IsNonDecreasingBy (λ (s : OpenStart). s.key) ss
     → ((d : OpenStart) → 0 < length ss → n ≤ (get_or ss 0 d).key)
@@ -106,6 +107,8 @@ none_falls n (s ∷ ss) order above =
     λ i j d le within. order (suc i) (suc j) d (omega arith) (omega arith) in
     (above s (omega arith), none_falls s.key ss later (λ d some. order 0 1 d (omega arith) (omega arith)))
 
+-- If the starts `ss` are right for the shards `xs` (`AreStarts`), their keys are the first keys of the open shards in
+-- rising order (`starts_among`).
 pub same_keys : (ss : List OpenStart) (xs : List ShardState) → AreStarts ss xs → IsTree xs
     → starting_keys ss ≡ starts_among (filter is_open xs)
 same_keys ss xs starts tree =

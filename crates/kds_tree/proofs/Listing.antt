@@ -1,4 +1,4 @@
--- Listings of a list of shards.
+-- A listing of the shards after a given number can be made from the shards after this number alone.
 use Rattle.std.proofs.Common.{◌≡◌, ℕ, zero, suc, ◌+◌, ◌<◌, ◌≤◌, Bool, true, false, List, [], ◌∷◌, refl, sym, ap, ◌∙◌}
 use Rattle.std.proofs.Common.{arith}
 use Rattle.std.proofs.Common.{drop, length, map, Option, Some, None, inl, inr}
@@ -11,7 +11,7 @@ use Rattle.kds_defs.specs.Streams.{floor_of}
 use Rattle.kds_defs.specs.Tiled.{AreNumbered}
 use Rattle.kds_tree.specs.Front.{listing}
 
--- ---- Two tests may be tried in either order
+-- ---- Filters by two tests can be exchanged
 
 swap_step : (p q : ShardState → Bool) (a b : Bool) (x : ShardState) (xs : List ShardState) → p x ≡ a → q x ≡ b
     → filter p (filter q xs) ≡ filter q (filter p xs)
@@ -30,7 +30,7 @@ filter_swap : (p q : ShardState → Bool) (xs : List ShardState) → filter p (f
 filter_swap p q [] = refl
 filter_swap p q (x ∷ xs) = swap_step p q (p x) (q x) x xs refl refl (filter_swap p q xs)
 
--- ---- What stands behind a number
+-- ---- The shards after a given number
 
 above : (m n after : ℕ) → m ≡ n → after < n → nat_lt after m ≡ true
 above m n after is h = grind (arith, nat_tests)
@@ -38,7 +38,8 @@ above m n after is h = grind (arith, nat_tests)
 not_above : (m n after : ℕ) → m ≡ n → n ≤ after → nat_lt after m ≡ false
 not_above m n after is h = grind (arith, nat_tests)
 
--- All shards stand behind a number if they are numbered from above it.
+-- If the shards of a list are numbered from `n` on, and `after` is below `n`, all of them have a number greater than
+-- `after`.
 all_behind : (xs : List ShardState) (n after : ℕ) → AreNumbered n xs → after < n
     → filter (is_after_shard (Some after)) xs ≡ xs
 all_behind [] n after numbers h = refl
@@ -47,7 +48,8 @@ all_behind (x ∷ xs) n after numbers h =
     (above x.no n after numbers.0 h)
     ∙ ap (λ ys. x ∷ ys) (all_behind xs (n + 1) after numbers.1 (omega arith))
 
--- The shards from the place right behind a number, or from the end if that comes first, are those behind the number.
+-- Let the shards of a list be numbered from `n` on. Those with a number greater than `after` are those from the index
+-- `from` on, if the shard at this index has the next number after `after`, or if the list ends before the index.
 point : (xs : List ShardState) (n after from : ℕ) → AreNumbered n xs → n + from ≤ after + 1 → (n + from ≡ after + 1)
     ⊎ (length xs ≤ from)
     → drop from xs ≡ filter (is_after_shard (Some after)) xs
@@ -64,21 +66,24 @@ point (x ∷ xs) n after (suc from) numbers below is =
     later (inl e) = inl (omega arith)
     later (inr h) = inr (omega arith)
 
+-- The shards with a number greater than that of the shard at the index `i` are those from the index `i + 1` on.
 pub right_behind : (xs : List ShardState) (after i from : ℕ) → AreNumbered 0 xs → i ≡ after → from ≡ i + 1
     → drop from xs ≡ filter (is_after_shard (Some after)) xs
 right_behind xs after i from numbers same is =
     point xs 0 after from numbers (omega arith) (inl (omega arith))
 
+-- If there are at most `i` shards, none of them has a number greater than `i`.
 pub at_end : (xs : List ShardState) (after i from : ℕ) → AreNumbered 0 xs → i ≡ after → length xs ≤ i → from ≡ length xs
     → drop from xs ≡ filter (is_after_shard (Some after)) xs
 at_end xs after i from numbers same far is =
     point xs 0 after from numbers (omega arith) (inr (omega arith))
 
+-- If no number is given, all shards are listed.
 pub behind_none : (xs : List ShardState) → xs ≡ filter (is_after_shard None) xs
 behind_none [] = refl
 behind_none (x ∷ xs) = ap (λ ys. x ∷ ys) (behind_none xs)
 
--- The shards that are listed behind a number are those of the shards behind it.
+-- A listing of the shards after a given number has those listed shards of all that have a greater number.
 pub listing_behind : (cut after : Option ℕ) (xs behind : List ShardState) → behind ≡ filter (is_after_shard after) xs
     → listing cut behind ≡ map shown (filter (is_after_shard after) (listed_among (floor_of cut) xs))
 listing_behind cut after xs behind is = ap (listing cut) is ∙ ap (map shown) (filter_swap _ _ xs)

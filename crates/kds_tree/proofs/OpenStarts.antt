@@ -1,4 +1,5 @@
--- The starts of open shards, as they are made and as shards are split and merged.
+-- The list of the starts of the open shards is right for a new stream, and it stays right after a split or a merge
+-- (`AreStarts`). The start of a shard consists of its number and the first hash key of its range.
 use Rattle.std.proofs.Common.{◌≡◌, inl, inr, ℕ, zero, suc, ◌+◌, ◌<◌, Bool, true, false, List, [], ◌∷◌, ◌++◌, length}
 use Rattle.std.proofs.Common.{get_or, map, Some, refl, sym, ap, subst, ◌∙◌, arith}
 use Rattle.std.specs.Prelude.{◌≢◌, ◌⊎◌, ◌==◌, ◌&&◌, not, slice_get, cond}
@@ -18,7 +19,7 @@ use Rattle.kds_tree.specs.Starts.{IsStart, AreOf, AreStarts, open_starts, own_st
 use Rattle.kds_tree.specs.declared.start.OpenStart.{OpenStart}
 use Rattle.kds_tree.proofs.Homes.{number_at}
 
--- ---- How many pass a test
+-- ---- How many starts pass a test
 
 tally : (OpenStart → Bool) → List OpenStart → ℕ
 tally p ss = length (filter p ss)
@@ -38,7 +39,7 @@ filter_step p true true s ss ts is h = ap (λ d. cond d (s ∷ filter p ss) (fil
 filter_step p true false s ss ts is h = ap (λ d. cond d (s ∷ filter p ss) (filter p ss)) is ∙ h
 filter_step p false c s ss ts is h = h
 
--- What passes one test and then another passes both.
+-- Filtering starts by one test and then by another keeps the starts that pass both tests.
 filter_both : (p q : OpenStart → Bool) (ss : List OpenStart) → filter p (filter q ss) ≡ filter (λ s. q s && p s) ss
 filter_both p q [] = refl
 filter_both p q (s ∷ ss) =
@@ -93,19 +94,23 @@ contains_left p (y ∷ ys) s zero lt is t = left_chosen (p y) y s (filter p ys) 
 contains_left p (y ∷ ys) s (suc k) lt is t =
     left_choice (p y) y s (filter p ys) (contains_left p ys s k (omega arith) is t)
 
--- ---- Places
+-- ---- Indexes in two lists, one after the other
 
+-- The element at the index `i` of `xs` is also at the index `i` of `xs` followed by `ys`.
 pub get_front : {A : Type 0} → (xs ys : List A) (i : ℕ) (x : A) → slice_get xs i ≡ Some x
     → slice_get (xs ++ ys) i ≡ Some x
 get_front [] ys i x is = absurd cc
 get_front (z ∷ zs) ys zero x is = is
 get_front (z ∷ zs) ys (suc i) x is = get_front zs ys i x is
 
+-- The element at the index `length xs + i` of `xs` followed by `ys` is the element at the index `i` of `ys`.
 pub get_back : {A : Type 0} → (xs ys : List A) (i : ℕ) → slice_get (xs ++ ys) (length xs + i) ≡ slice_get ys i
 get_back [] ys i = let e : 0 + i ≡ i = omega arith in ap (slice_get ys) e
 get_back (z ∷ zs) ys i = let e : suc (length zs) + i ≡ suc (length zs + i) = omega arith in
     ap (slice_get (z ∷ zs ++ ys)) e ∙ get_back zs ys i
 
+-- The shard `x` is in the list `ys`, which comes after `n` other shards, and `i` is the index of `x` among all of these
+-- shards.
 pub record IsBehind (ys : List ShardState) (n i : ℕ) (x : ShardState) : Type 0 where
   pub place : ℕ
   pub at : slice_get ys place ≡ Some x
@@ -114,6 +119,8 @@ pub record IsBehind (ys : List ShardState) (n i : ℕ) (x : ShardState) : Type 0
 behind_more : (ys : List ShardState) (n i : ℕ) (x : ShardState) → IsBehind ys n i x → IsBehind ys (suc n) (suc i) x
 behind_more ys n i x h = record { place = h.place; at = h.at; is = omega (arith, h.is) }
 
+-- If the shard `x` is at the index `i` of `xs` followed by `ys`, it is at this index of `xs`, or it is in `ys`
+-- (`IsBehind`).
 pub get_cases : (xs ys : List ShardState) (i : ℕ) (x : ShardState) → slice_get (xs ++ ys) i ≡ Some x
     → (slice_get xs i ≡ Some x) ⊎ IsBehind ys (length xs) i x
 get_cases [] ys i x is = inr (record { place = i; at = is; is = omega arith })
@@ -149,6 +156,7 @@ each_from xs (y ∷ ys) n numbers at =
     (each_from xs ys (n + 1) numbers.1 (λ i z is. let f : n + 1 + i ≡ n + suc i = omega arith in
     ap (slice_get xs) f ∙ at (suc i) z is))
 
+-- If the shards `xs` are numbered in their order, the starts `open_starts xs` are those of the open shards (`AreOf`).
 pub made_starts : (xs : List ShardState) → AreNumbered 0 xs → AreOf (open_starts xs) xs
 made_starts xs numbers = record {
   each = All-from_recursion (IsStart xs) (open_starts xs)
@@ -158,7 +166,8 @@ made_starts xs numbers = record {
       subst (λ (k : ℕ). Contains (open_starts xs) (start_of x k)) e (contains_open xs i x is open_now);
 }
 
--- The starts of the open shards are still those if they are put in order.
+-- If the starts `ss` are those of the open shards, each as often as it should be, and are then put in the order of
+-- their keys, the result `ts` is right (`AreStarts`).
 pub in_order : (xs : List ShardState) (ss ts : List OpenStart) → AreOf ss xs
     → ((p : OpenStart → Bool) → length (filter p ss) ≡ length (filter p (open_starts xs))) → IsPermutation ss ts
     → IsNonDecreasingBy (λ (s : OpenStart). s.key) ts → AreStarts ts xs
@@ -172,8 +181,10 @@ in_order xs ss ts of many same order = record {
   order = order;
 }
 
--- ---- A change that closes two shards, and opens others behind all
+-- ---- Two shards are closed, and others are added at the end
 
+-- The shards `closed` are `xs` with the shards `sh` and `other` closed. All other shards are kept, and each open shard
+-- was open before. The starts of the open shards are those before without the starts of `sh` and `other`.
 pub record Closes (xs closed : List ShardState) (sh other : ℕ) : Type 0 where
   pub kept : (i : ℕ) (x : ShardState) → i ≢ sh → i ≢ other → slice_get xs i ≡ Some x → slice_get closed i ≡ Some x
   pub back : (i : ℕ) (x : ShardState) → slice_get closed i ≡ Some x → is_open x ≡ true → (slice_get xs i ≡ Some x)
@@ -220,6 +231,8 @@ module _ (xs closed born : List ShardState) (sh other : ℕ) (closes : Closes xs
       Contains-append_right (filter (stays sh other) ss) (open_starts born) (start_of x i)
       (subst (λ (k : ℕ). Contains (open_starts born) (start_of x k)) e (contains_open born h.place x h.at open_now))
 
+  -- Let two shards be closed, and let the shards `born` be added at the end. Then the starts before, without those of
+  -- the closed shards, and the starts of `born` are together those of the open shards (`AreOf`).
   pub changed : (ss : List OpenStart) → AreOf ss xs
       → AreOf (filter (stays sh other) ss ++ open_starts born) (closed ++ born)
   changed ss of = record {
@@ -255,7 +268,8 @@ many_changed xs closed born sh other closes numbers ss starts p =
     ∙ sym (tally-append p (open_starts closed) (open_starts born))
     ∙ ap (tally p) (sym (open-append closed born))
 
--- The starts after a split or a merge are those of the open shards then, put in order.
+-- The starts of the shards that stay open, followed by the starts of the new shards `born` and put in the order of
+-- their keys, are right after a split or a merge (`AreStarts`).
 pub reshaped : (xs closed born : List ShardState) (sh other : ℕ) → Closes xs closed sh other
     → AreNumbered (length xs) born → AreNumbered 0 xs
     → (ss more ts : List OpenStart) → AreStarts ss xs → more ≡ filter (stays sh other) ss ++ open_starts born
@@ -267,13 +281,17 @@ reshaped xs closed born sh other closes numbers own ss more ts starts is same or
     (changed xs closed born sh other closes numbers ss starts.of))
     (λ p. ap (λ us. length (filter p us)) is ∙ many_changed xs closed born sh other closes own ss starts p) same order
 
--- ---- Starts that are added
+-- ---- How the code adds starts
 
+-- If the code leaves the starts `front` as they are and adds the start `a`, which is `b`, the starts are `front`
+-- followed by `b`.
 pub one_more : (front mid more : List OpenStart) (a b : OpenStart) → mid ≡ front → more ≡ mid ++ a ∷ [] → a ≡ b
     → more ≡ front ++ b ∷ []
 one_more front mid more a b is_mid is_more is =
     is_more ∙ ap (λ us. us ++ a ∷ []) is_mid ∙ ap (λ (s : OpenStart). front ++ s ∷ []) is
 
+-- If the code leaves the starts `front` as they are and adds the starts `a` and `b`, which are `c` and `d`, the starts
+-- are `front` followed by `c` and `d`.
 pub two_more : (front mid next more : List OpenStart) (a b c d : OpenStart) → mid ≡ front → next ≡ mid ++ a ∷ []
     → more ≡ next ++ b ∷ [] → a ≡ c → b ≡ d → more ≡ front ++ c ∷ d ∷ []
 two_more front mid next more a b c d is_mid is_next is_more is_c is_d =
@@ -314,9 +332,9 @@ open_apart xs sh i closing x is open_now e =
     ∙ is in
     absurd (apart (is_open x) open_now (closed_same xs sh closing x is'))
 
--- ---- The starts that are left
+-- ---- The starts that are left after shards are closed
 
--- Whether the start `s` is that of a shard other than `k`.
+-- Whether the start `s` belongs to a shard other than shard `k`.
 abbrev is_other : ℕ → OpenStart → Bool
 is_other k s = not (s.shard == k)
 
@@ -374,6 +392,8 @@ closed_twice [] sh closing = refl
 closed_twice (x ∷ xs) zero closing = refl
 closed_twice (x ∷ xs) (suc sh) closing = ap (λ ys. x ∷ ys) (closed_twice xs sh closing)
 
+-- The list in which the shard `sh` is closed is related to the list before as `Closes` states, with `sh` in both
+-- places.
 pub closes_one : (xs : List ShardState) (sh : ℕ) (closing : Closing) → Closes xs (with_closed sh closing xs) sh sh
 closes_one xs sh closing = record {
   kept = λ i x apart again is. closed_other xs sh i closing apart ∙ is;
@@ -384,6 +404,8 @@ closes_one xs sh closing = record {
   left = λ numbers. left_two xs sh sh closing numbers ∙ ap open_starts (closed_twice xs sh closing);
 }
 
+-- The list in which the shards `sh` and `other` are closed one after the other is related to the list before as
+-- `Closes` states.
 pub closes_two : (xs : List ShardState) (sh other : ℕ) (closing : Closing)
     → Closes xs (with_closed other closing (with_closed sh closing xs)) sh other
 closes_two xs sh other closing =

@@ -1,4 +1,4 @@
--- Pages with room for all that is listed, and numbers at which there is no shard.
+-- A page that has room for all listed shards lacks none of them, and a number that no shard has adds nothing to a page.
 use Rattle.std.proofs.Common.{◌≡◌, ℕ, zero, suc, ◌≤◌, false, List, [], ◌∷◌, ◌++◌, length, take, Option, None, refl, sym}
 use Rattle.std.proofs.Common.{ap, subst, arith}
 use Rattle.std.specs.Prelude.{nat_lt, slice_get}
@@ -31,11 +31,13 @@ beyond (x ∷ xs) (suc i) le = beyond xs i (omega arith)
 lt_false : (n m : ℕ) → false ≡ nat_lt n m → m ≤ n
 lt_false n m e = grind (arith, nat_tests)
 
+-- If the number isn't below the number of shards, there is no shard at this index.
 pub none_there : (xs : List ShardState) (i number : ℕ) → i ≡ number → false ≡ nat_lt i (length xs)
     → slice_get xs number ≡ None
 none_there xs i number is e = beyond xs number (omega (arith, is, lt_false i (length xs) e))
 
--- If there is no shard, all shards are listed already.
+-- If the page `listed` has at most `limit` shards and `o` is None, then `listed` is also the page of the list with `o`
+-- added, and no shards remain after this page (`Lists` with `more` false).
 pub none_more : (limit : ℕ) (cut : Option ℕ) (listed : List Shard) (o : Option ShardState) → o ≡ None
     → length listed ≤ limit
     → Lists limit (listed ++ listing cut (picked_before o [])) listed false
@@ -43,7 +45,7 @@ none_more limit cut listed o none few =
     subst (λ (p : Option ShardState). Lists limit (listed ++ listing cut (picked_before p [])) listed false) (sym none)
     (subst (λ (us : List Shard). Lists limit us listed false) (sym (append-nil listed)) (whole limit listed few))
 
--- If there is no shard, there is no key.
+-- If there is no shard to add, the list of keys stays as it is.
 pub no_key : (s floor : ℕ) (keys : List ShardRef) (o : Option ShardState) → o ≡ None
     → keys ≡ keys ++ refs_of s (listed_among floor (picked_before o []))
 no_key s floor keys o none =

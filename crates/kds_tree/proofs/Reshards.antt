@@ -1,4 +1,5 @@
--- Splits and merges over plain lists.
+-- A split or a merge, as the code makes it in a list of shards, has the result that the definitions state, and keeps
+-- the invariants of the shard tree.
 use Rattle.std.proofs.Common.{◌≡◌, ℕ, zero, suc, ◌+◌, ◌-◌, ◌*◌, ◌/◌, ◌^◌, ◌<◌, ◌≤◌, Bool, true, false, List, [], ◌∷◌}
 use Rattle.std.proofs.Common.{◌++◌, length, map, Option, Some, None, refl, sym, ap, subst, ◌∙◌, arith}
 use Rattle.std.specs.Prelude.{Result, Ok, Err, slice_get, slice_set, slice_index_or, not, is_some, if◌then◌else◌}
@@ -26,7 +27,7 @@ use Rattle.kds_tree.proofs.Families.{after_birth, merge_families, split_families
 use Rattle.kds_tree.proofs.OpenStarts.{get_front, reshaped, closes_one, closes_two}
 use Rattle.kds_tree.specs.Tree.{IsTree, IsWithinKeys, split_refusal, merge_refusal, answer_by, value_by}
 
--- ---- What no refusal says
+-- ---- What is known of a split or a merge that isn't refused
 
 passed : (b : Bool) (r : Refusal) (o : Option Refusal) → (if not b then Some r else o) ≡ None → (b ≡ true) × (o ≡ None)
 passed true r o h = (refl, h)
@@ -36,12 +37,14 @@ there : (o : Option ShardState) → is_some o ≡ true → (x : ShardState) × (
 there None h = absurd cc
 there (Some x) h = (x, refl)
 
+-- Shard `sh` of `xs` is open, and the key `at` lies inside its range, so that neither part is empty.
 pub record CanSplit (xs : List ShardState) (sh at : ℕ) : Type 0 where
   pub state : ShardState
   pub made : slice_get xs sh ≡ Some state
   pub is_open_now : is_open state ≡ true
   pub inside : is_inside state.range at ≡ true
 
+-- If a split isn't refused, the shard is open, and the key lies inside its range (`CanSplit`).
 pub can_split : (xs : List ShardState) (sh at : ℕ) → split_refusal xs sh at ≡ None → CanSplit xs sh at
 can_split xs sh at h =
     let a = passed _ _ _ h in
@@ -55,6 +58,7 @@ can_split xs sh at h =
       inside = subst (λ o. is_inside (range_of o) at ≡ true) x.1 d.0;
     }
 
+-- The shards `sh` and `other` of `xs` are open, and their ranges are adjacent.
 pub record CanMerge (xs : List ShardState) (sh other : ℕ) : Type 0 where
   pub state : ShardState
   pub beside : ShardState
@@ -64,6 +68,7 @@ pub record CanMerge (xs : List ShardState) (sh other : ℕ) : Type 0 where
   pub other_open : is_open beside ≡ true
   pub touch : are_adjacent state.range beside.range ≡ true
 
+-- If a merge isn't refused, the two shards are open, and their ranges are adjacent (`CanMerge`).
 pub can_merge : (xs : List ShardState) (sh other : ℕ) → merge_refusal xs sh other ≡ None → CanMerge xs sh other
 can_merge xs sh other h =
     let a = passed _ _ _ h in
@@ -84,7 +89,7 @@ can_merge xs sh other h =
           (subst (λ o. are_adjacent (range_of o) (range_of (slice_get xs other)) ≡ true) x.1 d.0);
     }
 
--- ---- What is kept
+-- ---- The invariant of the shards
 
 numbered_two : (n : ℕ) (x y : ShardState) → x.no ≡ n → y.no ≡ n + 1 → AreNumbered n (x ∷ y ∷ [])
 numbered_two n x y h g = (h, (g, tt))
@@ -113,8 +118,8 @@ chosen_within false x y h g = g
 lower_within : (r : Span) (at : ℕ) → is_inside r at ≡ true → r.end < 2 ^ 128 → at - 1 < 2 ^ 128
 lower_within r at inside h = grind (arith, nat_tests)
 
--- All ranges of a new stream end within the keys: those but the last end before a further one begins, at or below `n`
--- widths.
+-- If `n` ranges of the width `width` from `start` on fit below 2^128, the last `n` ranges of a new stream end below
+-- 2^128.
 within_last : (width start n : ℕ) → start + n * width ≤ 2 ^ 128 → (i s : ℕ)
     → AllByRecursion IsWithinKeys (first_shards i s (uniform_from width start n))
 within_last width start zero fits i s = tt
@@ -125,6 +130,7 @@ within_last width start (suc (suc n)) fits i s =
     before_key : (start width n : ℕ) → start + suc (suc n) * width ≤ 2 ^ 128 → start + width - 1 < 2 ^ 128
     before_key start width n fits = omega arith
 
+-- The shards keep their invariant (`IsTree`) after a split that isn't refused.
 pub tree_split : (xs : List ShardState) (sh at start : ℕ) (closing : Closing) → split_refusal xs sh at ≡ None
     → IsTree xs → IsTree (split_shards sh at closing start xs)
 tree_split xs sh at start closing h tree =
@@ -155,6 +161,7 @@ tree_split xs sh at start closing h tree =
           );
     }
 
+-- The shards keep their invariant (`IsTree`) after a merge that isn't refused.
 pub tree_merged : (xs : List ShardState) (sh other start : ℕ) (closing : Closing) → merge_refusal xs sh other ≡ None
     → IsTree xs → IsTree (merged_shards sh other closing start xs)
 tree_merged xs sh other start closing h tree =
@@ -198,11 +205,12 @@ within_made : (n : ℕ) → n ≤ 500 → AllByRecursion IsWithinKeys (made_shar
 within_made zero high = tt
 within_made (suc n) high = within_last (2 ^ 128 / suc n) 0 (suc n) (omega arith) 0 1
 
+-- The shards of a new stream with 1 to 500 shards meet the invariant (`IsTree`).
 pub tree_made : (n : ℕ) → 1 ≤ n → n ≤ 500 → IsTree (made_shards n 1)
 tree_made n low high =
     record { numbered = numbered-first 0 1 (uniform n); tiled = tiled_new n 1 low high; within = within_made n high }
 
--- ---- A shard that is closed at its place, where others follow
+-- ---- A shard is closed after others were added at the end
 
 closed_at : (xs ys : List ShardState) (i : ℕ) (x y : ShardState) (closing : Closing) → slice_get xs i ≡ Some x
     → y ≡ record x { closing = Some closing } → slice_set (xs ++ ys) i y ≡ with_closed i closing xs ++ ys
@@ -213,15 +221,19 @@ closed_at (z ∷ zs) ys zero x y closing at is =
     s) (sym e))
 closed_at (z ∷ zs) ys (suc i) x y closing at is = ap (λ ss. z ∷ ss) (closed_at zs ys i x y closing at is)
 
--- ---- What the calls owe
+-- ---- What the code does
 
--- The starts after a change: those of two shards are away, some others are there, and all are put in order.
+-- The list of starts stays right when the shards `xs`, which meet the invariant `IsTree`, become `zs`. If `ss` is right
+-- for `xs` (`AreStarts`), then `ss` without the starts of `sh` and `other`, with the starts of `born` added, and put in
+-- the order of the keys, is right for `zs`.
 abbrev pub StartsGo : List ShardState → ℕ → ℕ → List ShardState → List ShardState → Type 0
 StartsGo xs sh other born zs = IsTree xs → (ss more ts : List OpenStart) → AreStarts ss xs
     → more ≡ filter (stays sh other) ss ++ map own_start born → IsPermutation more ts
     → IsNonDecreasingBy (λ (s : OpenStart). s.key) ts → AreStarts ts zs
 
--- The first children after a change: two shards have one, and further shards come that have none.
+-- The index of first children still fits when the shards `xs` become `zs`. If `firsts` fits `xs` (`AreFamilies`), then
+-- `firsts`, with the first child of `sh` and `other` set to the number after those of `xs`, and with the entries `more`
+-- added, fits `zs`.
 abbrev pub FamiliesGo : List ShardState → ℕ → ℕ → List (Option ℕ) → List ShardState → Type 0
 FamiliesGo xs sh other more zs = (firsts : List (Option ℕ)) → AreFamilies firsts xs
     → AreFamilies (after_birth firsts sh other (length xs) more) zs
@@ -230,23 +242,24 @@ answered : {A : Type 0} (o : Option Refusal) (x y : A) → Ok x ≡ answer_by o 
 answered None x y h = let e : x ≡ y = cc in (refl, e)
 answered (Some r) x y h = absurd cc
 
--- A call that is refused leaves the shards as they were.
+-- If a split or a merge is refused, the shards are those before it.
 pub refused_value : {A : Type 0} (o : Option Refusal) (r : Refusal) (x : A) (before after : List ShardState)
     → Err r ≡ answer_by o x → before ≡ value_by o before after
 refused_value None r x before after h = absurd cc
 refused_value (Some s) r x before after h = refl
 
--- The answer of a refused call is its refusal.
+-- If two answers that are refusals are equal, the refusals are equal.
 same_refusal : {A : Type 0} (r q : Refusal)
     → (let a : Result A Refusal = Err r in let b : Result A Refusal = Err q in a ≡ b) → r ≡ q
 same_refusal r q h = cc
 
+-- If a split or a merge is refused with `r`, its answer is `r` whatever it would be otherwise.
 pub refused_answer : {A B : Type 0} (o : Option Refusal) (r : Refusal) (x : A) (y : B) → Err r ≡ answer_by o x
     → Err r ≡ answer_by o y
 refused_answer None r x y h = absurd cc
 refused_answer (Some q) r x y h = ap Err (same_refusal r q h)
 
--- The element that is read at the place `i` is the shard there.
+-- The shard that the code reads at the index `i` of `xs` followed by `ys` is the shard `x` at this index of `xs`.
 read_at : (xs ys zs : List ShardState) (i : ℕ) (x old : ShardState) → zs ≡ xs ++ ys → slice_get xs i ≡ Some x
     → old ≡ slice_index_or zs i old → x ≡ old
 read_at xs ys zs i x old is at read =
@@ -257,6 +270,8 @@ read_at xs ys zs i x old is at read =
     ∙ get_or_from_slice_get xs i x old at
     )
 
+-- The shards `zs` are `xs` after a split of shard `sh` at the key `at` that isn't refused, and `low` and `high` are the
+-- new shards. The invariant of the shards, the list of starts and the index of first children stay right.
 pub record Splits (xs : List ShardState) (sh at start : ℕ) (closing : Closing) (low high : ShardState)
     (zs : List ShardState) : Type 0 where
   pub allowed : split_refusal xs sh at ≡ None
@@ -274,7 +289,7 @@ closed_in xs ys zs sh x closing old new made is read close =
     ∙ closed_at xs ys sh x new closing made (close
     ∙ ap (λ (k : ShardState). let s : ShardState = record k { closing = Some closing } in s) (sym e))
 
--- Closing a shard leaves each place filled.
+-- If there is a shard at the index `other`, there still is one after the shard at the index `sh` is closed.
 still_there : (xs : List ShardState) (sh other : ℕ) (closing : Closing) (y : ShardState) → slice_get xs other ≡ Some y
     → (z : ShardState) × (slice_get (with_closed sh closing xs) other ≡ Some z)
 still_there [] sh other closing y is = absurd cc
@@ -283,10 +298,12 @@ still_there (x ∷ xs) zero (suc other) closing y is = (y, is)
 still_there (x ∷ xs) (suc sh) zero closing y is = (x, refl)
 still_there (x ∷ xs) (suc sh) (suc other) closing y is = still_there xs sh other closing y is
 
--- The two ranges of a split of the range `r` at the key `at`.
+-- The lower part and the upper part of the range `r` that is split at the key `at`.
 abbrev pub halves : Span → ℕ → Span × Span
 halves r at = (lower_part r at, upper_part r at)
 
+-- If a split isn't refused, and the code adds the two new shards at the end and then closes the shard that is split,
+-- the result is the one that `Splits` states.
 pub splits : (xs zs : List ShardState) (sh i at start a b s : ℕ) (closing : Closing) (ranges : Span
     × Span) (low high old new : ShardState)
     → Ok ranges ≡ answer_by (split_refusal xs sh at) (halves (range_of (slice_get xs sh)) at)
@@ -333,7 +350,7 @@ splits xs zs sh i at start a b s closing ranges low high old new answer is_i is_
           can.state can.made can.is_open_now families);
     }
 
--- A shard that is split is there.
+-- The index of the shard that is split is within the list after the two new shards were added.
 pub split_within : (xs zs : List ShardState) (sh i at : ℕ) (ranges : Span × Span) (low high : ShardState)
     → Ok ranges ≡ answer_by (split_refusal xs sh at) (halves (range_of (slice_get xs sh)) at) → i ≡ sh
     → zs ≡ xs ++ low ∷ high ∷ [] → i < length zs
@@ -342,7 +359,7 @@ split_within xs zs sh i at ranges low high answer is_i is =
     let can = can_split xs sh at h.0 in
     omega (arith, is_i, slice_get_within xs sh can.state can.made, ap length is, length-append xs (low ∷ high ∷ []))
 
--- A first child may be written down for a shard that is split.
+-- The index of first children has an entry for the shard that is split.
 pub split_known : (xs : List ShardState) (firsts kept : List (Option ℕ)) (sh at : ℕ) (ranges : Span × Span)
     → Ok ranges ≡ answer_by (split_refusal xs sh at) (halves (range_of (slice_get xs sh)) at)
     → AreFamilies firsts xs → kept ≡ firsts → sh < length kept
@@ -351,7 +368,7 @@ split_known xs firsts kept sh at ranges answer families is =
     answer).0 in
     omega (arith, slice_get_within xs sh can.state can.made, families.long, ap length is)
 
--- Both shards of a merge stand in the list with the child added.
+-- The indexes of the two shards of a merge are within the list after the new shard was added.
 pub both_within : (xs zs : List ShardState) (sh other i j n : ℕ) (range joint : Span) (child : ShardState)
     → Ok range ≡ answer_by (merge_refusal xs sh other) joint → i ≡ sh → j ≡ other → n ≡ length zs
     → zs ≡ xs ++ child ∷ [] → (i < n) × (j < n)
@@ -362,6 +379,7 @@ both_within xs zs sh other i j n range joint child answer is_i is_j is_n more =
     let e : n ≡ length xs + 1 = is_n ∙ ap (λ (s : List ShardState). length s) more ∙ length-append xs (child ∷ []) in
     (omega arith, omega arith)
 
+-- The index of first children has an entry for each of the two shards of a merge.
 pub both_known : (xs : List ShardState) (firsts kept : List (Option ℕ)) (sh other : ℕ) (range joint : Span)
     → Ok range ≡ answer_by (merge_refusal xs sh other) joint
     → AreFamilies firsts xs → kept ≡ firsts → (sh < length kept) × (other < length kept)
@@ -372,7 +390,7 @@ both_known xs firsts kept sh other range joint answer families is =
       omega (arith, slice_get_within xs other can.beside can.other_made, long),
     )
 
--- The front stays as it is, as only open shards are closed.
+-- The front of the shards (`AreLeft`) stays a front after a split, because the shard that the split closes was open.
 pub front_split : (xs zs : List ShardState) (sh i at f n : ℕ) (names : List ℕ) (ranges : Span
     × Span) (low high y : ShardState)
     → Ok ranges ≡ answer_by (split_refusal xs sh at) (halves (range_of (slice_get xs sh)) at) → i ≡ sh
@@ -388,6 +406,7 @@ front_split xs zs sh i at f n names ranges low high y answer is_i is front =
     (left_set f 0 n sh names more can.state y made can.is_open_now
     (left_append f 0 n names xs (low ∷ high ∷ []) front)))
 
+-- The front of the shards (`AreLeft`) stays a front after a merge, because the shards that the merge closes were open.
 pub front_merge : (xs zs : List ShardState) (sh other i j f n : ℕ) (names : List ℕ) (range joint : Span)
     (child y z : ShardState)
     → Ok range ≡ answer_by (merge_refusal xs sh other) joint → i ≡ sh → j ≡ other → zs ≡ xs ++ child ∷ []
@@ -403,18 +422,21 @@ front_merge xs zs sh other i j f n names range joint child y z answer is_i is_j 
     (left_sets f 0 n sh other names more can.state can.beside y z made can.is_open_now made' can.other_open
     (left_append f 0 n names xs (child ∷ []) front))))
 
--- The value after an accepted call is the one that the call makes.
+-- If a split or a merge isn't refused, the shards after it are those that it makes.
 by_none : (o : Option Refusal) (before after zs : List ShardState) → o ≡ None → zs ≡ after
     → zs ≡ value_by o before after
 by_none None before after zs none is = is
 by_none (Some r) before after zs none is = absurd cc
 
+-- After a split that isn't refused, the shards are those of the definition `split_shards`.
 pub split_value : (xs : List ShardState) (sh at start : ℕ) (closing : Closing) (low high : ShardState)
     (zs : List ShardState) → Splits xs sh at start closing low high zs
     → zs ≡ value_by (split_refusal xs sh at) xs (split_shards sh at closing start xs)
 split_value xs sh at start closing low high zs s =
     by_none (split_refusal xs sh at) xs (split_shards sh at closing start xs) zs s.allowed s.value
 
+-- The shards `zs` are `xs` after a merge of the shards `sh` and `other` that isn't refused, and `child` is the new
+-- shard. The invariant of the shards, the list of starts and the index of first children stay right.
 pub record Merges (xs : List ShardState) (sh other start : ℕ) (closing : Closing) (child : ShardState)
     (zs : List ShardState) : Type 0 where
   pub allowed : merge_refusal xs sh other ≡ None
@@ -423,12 +445,15 @@ pub record Merges (xs : List ShardState) (sh other start : ℕ) (closing : Closi
   pub starts : StartsGo xs sh other (child ∷ []) zs
   pub families : FamiliesGo xs sh other (None ∷ []) zs
 
+-- After a merge that isn't refused, the shards are those of the definition `merged_shards`.
 pub merge_value : (xs : List ShardState) (sh other start : ℕ) (closing : Closing) (child : ShardState)
     (zs : List ShardState) → Merges xs sh other start closing child zs
     → zs ≡ value_by (merge_refusal xs sh other) xs (merged_shards sh other closing start xs)
 merge_value xs sh other start closing child zs s =
     by_none (merge_refusal xs sh other) xs (merged_shards sh other closing start xs) zs s.allowed s.value
 
+-- If a merge isn't refused, and the code adds the new shard at the end and then closes the two shards, the result is
+-- the one that `Merges` states.
 pub merges : (xs zs : List ShardState) (sh other i j start a s : ℕ) (closing : Closing) (range : Span)
     (child old new old' new' : ShardState)
     → Ok range ≡ answer_by (merge_refusal xs sh other)

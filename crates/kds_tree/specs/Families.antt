@@ -1,4 +1,5 @@
--- The children of shards: those of one shard stand next to each other.
+-- The index by which the children of a shard are found. It has, for each shard, the number of the shard's first child.
+-- A shard has at most two children, and they have consecutive numbers.
 use Rattle.std.specs.Prelude.{ℕ, ◌≡◌, ◌+◌, ◌≤◌, true, List, length, slice_get, Option, Some, None}
 use Rattle.kds_defs.specs.Shards.{ShardState, is_child, is_open}
 
@@ -7,12 +8,15 @@ abbrev pub told_of : Option (Option ℕ) → Option ℕ
 told_of None = None
 told_of (Some told) = told
 
--- A child may stand at `place`: it is the place of the first child, or the one behind it.
+-- A child of a shard may have the number `index`: the shard has a first child, and `index` is the number of this child
+-- or the next one.
 abbrev pub MayStandAt : Option ℕ → ℕ → Type 0
 MayStandAt None place = ⊥
 MayStandAt (Some first) place = (first ≤ place) × (place ≤ first + 1)
 
--- The list `firsts` has the first child of each of the shards `xs`, if the shard has children. An open shard has none.
+-- The index `firsts` fits the shards `xs`. It has an entry for each shard: the number of the shard's first child, or
+-- `None`. Each child of a shard has the number in the shard's entry, or the next number. The entry of an open shard is
+-- `None`.
 pub record AreFamilies (firsts : List (Option ℕ)) (xs : List ShardState) : Type 0 where
   pub long : length firsts ≡ length xs
   pub each : (parent place : ℕ) (x : ShardState) → slice_get xs place ≡ Some x → is_child parent x ≡ true

@@ -1,23 +1,24 @@
--- What a kept shard (`KeptShard`) stands for.
+-- The state (`ShardState`) that a kept shard (`KeptShard`) represents, and the kept shard that represents a state.
 use Rattle.std.specs.Prelude.{ℕ, ◌≡◌, refl, Option, Some, None}
 use Rattle.std.proofs.Common.{ap, ◌∙◌}
 use Rattle.kds_defs.specs.Shards.{ShardState, Closing, ending, shown}
 use Rattle.kds_tree.specs.declared.kept.KeptShard.TheInside.{Inside}
 
--- How a shard was closed, if it has an ending number and a time of closing.
+-- How a shard was closed, made from its ending sequence number and the time of its closing. If one of the two is
+-- missing, the shard is open.
 abbrev pub closing_from : Option ℕ → Option ℕ → Option Closing
 closing_from (Some n) (Some c) = Some (record { number = n; clock = c })
 closing_from (Some n) None = None
 closing_from None c = None
 
--- An ending number and a time of closing are both there, or neither is.
+-- Either both an ending sequence number and a time of closing are given, or neither is.
 abbrev pub AreBoth : Option ℕ → Option ℕ → Type 0
 AreBoth (Some n) (Some c) = Unit {0}
 AreBoth (Some n) None = ⊥
 AreBoth None (Some c) = ⊥
 AreBoth None None = Unit {0}
 
--- All that is known of the kept shard `k`.
+-- The state that the kept shard `k` represents.
 abbrev pub state_of : Inside → ShardState
 state_of k = record {
   no = k.shard.no;
@@ -28,12 +29,14 @@ state_of k = record {
   closing = closing_from k.shard.end k.closed;
 }
 
--- ---- How the fields are given back
+-- ---- The kept shard that represents a state
 
+-- The time at which a shard was closed, or `None` if it is open.
 abbrev pub moment_of : Option Closing → Option ℕ
 moment_of None = None
 moment_of (Some closing) = Some closing.clock
 
+-- The kept shard that represents the state `x`.
 abbrev pub fields_of : ShardState → Inside
 fields_of x = record { shard = shown x; closed = moment_of x.closing }
 
@@ -49,6 +52,8 @@ moment_back None (Some c) h = absurd h
 moment_back (Some n) None h = absurd h
 moment_back (Some n) (Some c) h = refl
 
+-- If the kept shard `k` has both an ending sequence number and a time of closing, or neither, the kept shard that
+-- represents the state of `k` is `k` itself.
 pub fields_back : (k : Inside) → AreBoth k.shard.end k.closed → fields_of (state_of k) ≡ k
 fields_back k h =
     ap (λ (n : Option ℕ). let f : Inside = record {

@@ -1,4 +1,5 @@
--- The shards of a stream as a tree keeps them, and what its calls answer.
+-- The shard tree, which holds the shards of a stream: its value in contracts, the invariant of its shards, and why it
+-- refuses a split or a merge.
 use Rattle.std.specs.Prelude.{ℕ, ◌≡◌, ◌+◌, ◌<◌, ◌^◌, Bool, true, false, ◌&&◌, not, is_some, if◌then◌else◌, List}
 use Rattle.std.specs.Prelude.{slice_get, Option, Some, None, Result, Ok, Err}
 use Rattle.std.specs.List.{AllByRecursion}
@@ -9,23 +10,24 @@ use Rattle.kds_defs.specs.Shards.{ShardState, is_open, is_closed_below, range_of
 use Rattle.kds_defs.specs.StreamCommands.{is_open_at}
 use Rattle.kds_defs.specs.Tiled.{AreNumbered, IsTiled}
 
--- The shards, and the number of further shards for which there is memory.
+-- A shard tree: its shards in the order of their numbers, and the number of further shards for which memory is
+-- reserved.
 pub record TreeValue : Type 0 where
   pub shards : List ShardState
   pub spare : ℕ
 
--- The range of the shard `x` ends within the hash keys.
+-- The range of the shard `x` ends at a hash key, which is below 2^128.
 abbrev pub IsWithinKeys : ShardState → Type 0
 IsWithinKeys x = x.range.end < 2 ^ 128
 
--- What is true of the shards `xs` in every state: they are numbered in their order, and the ranges of the open ones
--- partition the keys.
+-- The invariant of the shards `xs` of a stream. They are numbered from 0 in the order of the list, each hash key lies
+-- in the range of exactly one open shard, no range is empty, and each range ends below 2^128.
 pub record IsTree (xs : List ShardState) : Type 0 where
   pub numbered : AreNumbered 0 xs
   pub tiled : IsTiled xs
   pub within : AllByRecursion IsWithinKeys xs
 
--- Shard `sh` is one of `xs` and is open, and its range contains `key`.
+-- Shard `sh` of `xs` is a home of the hash key `key`: it is open, and its range contains `key`.
 pub record IsHome (xs : List ShardState) (key sh : ℕ) : Type 0 where
   pub state : ShardState
   pub made : slice_get xs sh ≡ Some state
@@ -37,13 +39,14 @@ abbrev pub was_expired : ℕ → Option ShardState → Bool
 was_expired floor None = false
 was_expired floor (Some x) = is_closed_below floor x
 
--- The two ranges of a split of shard `sh` at the key `at`.
+-- The lower range and the upper range into which a split at the key `at` divides the range of shard `sh`.
 abbrev pub split_parts : List ShardState → ℕ → ℕ → Span × Span
 split_parts xs sh at = (lower_part (range_of (slice_get xs sh)) at, upper_part (range_of (slice_get xs sh)) at)
 
--- ---- Refusals, the first that holds
+-- ---- Why a split or a merge is refused: the first refusal that applies
 
--- Why a split of shard `sh` at the key `at` is refused, if it is (Kinesis API Reference, SplitShard).
+-- Why the shard tree refuses a split of shard `sh` at the key `at`, or `None` if it doesn't (Kinesis API Reference,
+-- SplitShard). The shard must exist and be open, and neither part of its range may be empty.
 abbrev pub split_refusal : List ShardState → ℕ → ℕ → Option Refusal
 split_refusal xs sh at =
     if not (is_some (slice_get xs sh)) then Some refusal.NoShard else
@@ -51,7 +54,8 @@ split_refusal xs sh at =
     if not (is_inside (range_of (slice_get xs sh)) at) then Some refusal.BadSplit else
     None
 
--- Why a merge of shard `sh` with shard `other` is refused, if it is (Kinesis API Reference, MergeShards).
+-- Why the shard tree refuses a merge of shard `sh` with shard `other`, or `None` if it doesn't (Kinesis API Reference,
+-- MergeShards). The two shards must exist and be open, and their ranges must be adjacent.
 abbrev pub merge_refusal : List ShardState → ℕ → ℕ → Option Refusal
 merge_refusal xs sh other =
     if not (is_some (slice_get xs sh) && is_some (slice_get xs other)) then Some refusal.NoShard else
@@ -60,22 +64,25 @@ merge_refusal xs sh other =
     refusal.NotAdjacent else
     None
 
--- The answer of a call: its refusal, if there is one, and otherwise `x`.
+-- The answer to a split or a merge: the refusal as an error, if there is one, and otherwise `x`.
 abbrev pub answer_by : {A : Type 0} → Option Refusal → A → Result A Refusal
 answer_by (Some r) x = Err r
 answer_by None x = Ok x
 
--- The value after a call: `before` if the call is refused, and otherwise `after`.
+-- The value after a split or a merge: `before` if there is a refusal, and `after` otherwise.
 abbrev pub value_by : {A : Type 0} → Option Refusal → A → A → A
 value_by (Some r) before after = before
 value_by None before after = after
 
--- The shards `xs` after a split or a merge that drew the sequence number `number` at `clock`, unless it is refused.
+-- The shards `xs` after a split of shard `sh` at the key `at` that takes the sequence number `number` at the time
+-- `clock`. If the split is refused, they are `xs`.
 abbrev pub after_split : List ShardState → ℕ → ℕ → ℕ → ℕ → List ShardState
 after_split xs sh at number clock =
     value_by (split_refusal xs sh at) xs
     (split_shards sh at (record { number = number; clock = clock }) (number + 1) xs)
 
+-- The shards `xs` after a merge of the shards `sh` and `other` that takes the sequence number `number` at the time
+-- `clock`. If the merge is refused, they are `xs`.
 abbrev pub after_merge : List ShardState → ℕ → ℕ → ℕ → ℕ → List ShardState
 after_merge xs sh other number clock =
     value_by (merge_refusal xs sh other) xs

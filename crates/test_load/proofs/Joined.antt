@@ -1,4 +1,4 @@
--- A pass into which the passes with the numbers from one on were joined.
+-- A pass into which other passes, with consecutive numbers, were joined.
 use Rattle.std.proofs.Common.{◌≡◌, ℕ, ◌+◌, ◌<◌, ◌≤◌, List, [], ◌∷◌, ◌++◌, sym, ap, ◌∙◌, subst, arith, length}
 use Rattle.std.proofs.Common.{length-append}
 use mathlib.Core.Logic.{dite}

@@ -2,6 +2,7 @@ use Rattle.std.proofs.Common.{◌≡◌, ◌++◌, drop}
 use Rattle.kcl_defs.specs.Plans.{cuts}
 use Rattle.kcl_sync.proofs.add_cuts.Given as goal
 
--- The plan consists of the steps so far and those for the rows that are left.
+-- The steps so far, followed by those that remove rows among the rows that the loop hasn't come to, are the steps from
+-- before the loop, followed by those that remove all rows of other shards.
 abbrev pub invariant-loop-r : goal.invariant-loop-r
 invariant-loop-r l = l.steps.all ++ cuts l.shards (drop l.r-index l.rows) ≡ l.fn.steps.all ++ cuts l.shards l.rows

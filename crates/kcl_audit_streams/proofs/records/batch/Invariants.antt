@@ -4,7 +4,8 @@ use Rattle.kds_defs.specs.Records.{beginning, left_among, numbers_of}
 use Rattle.kcl_audit_streams.specs.Standing.{records_in}
 use Rattle.kcl_audit_streams.proofs.records.batch.Given as goal
 
--- The numbers are those so far and those of the beginning of what is left.
+-- The sequence numbers taken so far, followed by those of the batch from the records that remain, are those of the
+-- whole batch.
 abbrev pub invariant-loop-item : goal.invariant-loop-item
 invariant-loop-item l =
     l.numbers ++ numbers_of

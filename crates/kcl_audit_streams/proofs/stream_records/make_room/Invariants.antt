@@ -2,10 +2,10 @@ use Rattle.std.proofs.Common.{ℕ, ◌≡◌, ◌+◌, ◌-◌, length}
 use Rattle.kcl_audit_streams.specs.Apart.{records_at}
 use Rattle.kcl_audit_streams.proofs.stream_records.make_room.Given as goal
 
--- The shards so far have the records that they had.
+-- Each shard has the same records as before the loop, since only empty lists were added.
 abbrev pub invariant-loop-alloc : goal.invariant-loop-alloc
 invariant-loop-alloc l = (sh : ℕ) → records_at l.shards.items sh ≡ records_at l.initial.shards.items sh
 
--- The number of shards that are missing.
+-- The number of lists that are still to be added.
 abbrev pub decreases-loop-alloc : goal.decreases-loop-alloc
 decreases-loop-alloc l = l.shard-inside.0 + 1 - length l.shards.items

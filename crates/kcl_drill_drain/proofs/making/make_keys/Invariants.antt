@@ -5,7 +5,8 @@ use Rattle.kcl_drill_drain.specs.Keys.{AreMade, listed_keys}
 use Rattle.kcl_drill_drain.specs.Leased.{HasLeased, Leads}
 use Rattle.kcl_drill_drain.proofs.making.make_keys.Given as goal
 
--- The machine has answered turns on leases, and the rows of the first keys are made.
+-- The machine has still answered only turns on leases since any history for which this was true before. The rows of the
+-- keys so far are made.
 abbrev pub invariant-loop-key : goal.invariant-loop-key
 invariant-loop-key g l =
     ((h : List Asked) → HasLeased (g.M.Machine.stands_for l.fn.machine) l.by l.at h

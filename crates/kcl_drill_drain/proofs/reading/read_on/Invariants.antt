@@ -4,7 +4,8 @@ use Rattle.kcl_drill_drain.specs.Leased.{HasLeased}
 use Rattle.kcl_drill_drain.specs.Standing.{IsSpot, ReadsOn, Spot}
 use Rattle.kcl_drill_drain.proofs.reading.read_on.Given as goal
 
--- The machine has answered turns on leases, and its tenure reads on.
+-- The machine has still answered only turns on leases since any history for which this was true before. If the tenure
+-- was ready for a read before the loop, it still is (`ReadsOn`).
 abbrev pub invariant-loop-next : goal.invariant-loop-next
 invariant-loop-next g l =
     ((h : List Asked) → HasLeased (g.M.Machine.stands_for l.fn.machine) l.by l.at h

@@ -4,7 +4,7 @@ use Rattle.kds_turn.specs.Passes.{Standing}
 use Rattle.kcl_drill_run.specs.Participants.{AreMembersOf}
 use Rattle.kcl_drill_run.proofs.participants.members_of.Given as goal
 
--- There is a worker for each pass so far, and the other passes are left.
+-- There is one worker for each pass that was taken so far, in order, and the other passes remain.
 abbrev pub invariant-loop-pass : goal.invariant-loop-pass
 invariant-loop-pass l = record {
   so_far : (used : List Standing) × AreMembersOf 1 used l.made.items

@@ -6,7 +6,8 @@ use Rattle.kcl_drill_summary.specs.Reading.{HasRead}
 use Rattle.kcl_drill_summary.specs.Counting.{CanCount, GoesOn}
 use Rattle.kcl_drill_summary.proofs.counting.count_from.Given as goal
 
--- The machine has read on in the same shard, and what is counted and what is left are all records.
+-- The machine has still only read since any history for which this was true before. The counts so far and the records
+-- that are left from the iterator on make up all records of the shard (`GoesOn`).
 abbrev pub invariant-loop-now : goal.invariant-loop-now
 invariant-loop-now g l =
     ((h : List Asked) → HasRead (g.M.Machine.stands_for l.fn.machine) l.by l.at h

@@ -3,7 +3,7 @@ use Rattle.kcl_journal.specs.Entries.{numbers_of, words}
 use Rattle.kcl_journal.proofs.WordLists.{with_front}
 use Rattle.kcl_journal.proofs.numbers.numbers.Given as goal
 
--- The numbers are those so far and those that are left.
+-- The numbers read so far, followed by those of the words that remain, are all numbers of the text.
 abbrev pub invariant-loop-front : goal.invariant-loop-front
 invariant-loop-front l = numbers_of (words l.fn.text) ≡ with_front l.numbers (numbers_of (words l.rest))
 

@@ -4,7 +4,8 @@ use Rattle.kcl_sim.specs.Standing.{Employs}
 use Rattle.kcl_sim.specs.Workers.{Employed, all_called}
 use Rattle.kcl_sim.proofs.workers.call_all.Given as goal
 
--- The calls so far lead to where all of the calls lead.
+-- No command waits for its answer. The worker `l.worker`, after the calls so far, stands for a record that leads to the
+-- same record as the one before the loop once all due calls are made.
 abbrev pub invariant-loop-worker : goal.invariant-loop-worker
 invariant-loop-worker l =
     (l.worker.waiting ≡ None)

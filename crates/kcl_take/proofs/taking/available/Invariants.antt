@@ -3,7 +3,7 @@ use Rattle.std.specs.List.{filter}
 use Rattle.kcl_defs.specs.Plans.{is_available}
 use Rattle.kcl_take.proofs.taking.available.Given as goal
 
--- The available rows are those found so far and those among the rows that are left.
+-- The available rows so far, followed by those among the rows that the loop hasn't come to, are all available rows.
 abbrev pub invariant-loop-r : goal.invariant-loop-r
 invariant-loop-r l =
     let test = is_available l.fn.me l.fn.held in

@@ -4,7 +4,9 @@ use Rattle.kcl_worker_lists.specs.Changes.{live_among, retired_among}
 use Rattle.kcl_worker_lists.specs.Retirements.{retirement}
 use Rattle.kcl_worker_lists.proofs.retired.retire_finished.Given as goal
 
--- The consumers before the index go on, and those from it on are left to look at.
+-- The consumers before the index `i` haven't ended. With those from `i` on that haven't ended, they are all consumers
+-- that haven't ended. The retired ones so far, with those from `i` on that have ended, are all retired ones, and there
+-- is room for them.
 abbrev pub invariant-loop-i : goal.invariant-loop-i
 invariant-loop-i g l =
     (take l.i l.consumers.items ++ live_among (drop l.i l.consumers.items) ≡ live_among l.fn.consumers.items)

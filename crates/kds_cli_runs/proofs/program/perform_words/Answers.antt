@@ -8,7 +8,7 @@ use Rattle.kds_cli_runs.proofs.Asked.{asked_so, listens_or_not, no_door, no_inpu
 use Rattle.kds_cli_runs.proofs.Codes.{each, no_usage}
 use Rattle.kds_cli_runs.proofs.program.perform_words.Goals as goal
 
--- ---- The words are those of a task
+-- ---- The words ask for a task
 
 pub returns-in-Ok-Some-clause-usage : goal.returns-in-Ok-Some-clause-usage
 returns-in-Ok-Some-clause-usage g c =
@@ -57,7 +57,7 @@ returns-in-Ok-Some-clause-write g c = c.perform.ensures.write
 pub returns-in-Ok-Some-clause-door : goal.returns-in-Ok-Some-clause-door
 returns-in-Ok-Some-clause-door g c = c.perform.ensures.door
 
--- ---- The words are none's
+-- ---- The words ask for no task
 
 pub returns-in-Ok-None-clause-usage : goal.returns-in-Ok-None-clause-usage
 returns-in-Ok-None-clause-usage g c =
@@ -69,7 +69,7 @@ returns-in-Ok-None-clause-refused g c = λ none. inl refl
 pub returns-in-Ok-None-clause-untouched : goal.returns-in-Ok-None-clause-untouched
 returns-in-Ok-None-clause-untouched g c = λ none. (refl, refl)
 
--- ---- Memory ran out before they were read
+-- ---- Memory runs out while the words are read
 
 pub returns-in-Err-clause-usage : goal.returns-in-Err-clause-usage
 returns-in-Err-clause-usage g c = λ usage. absurd (no_usage usage)

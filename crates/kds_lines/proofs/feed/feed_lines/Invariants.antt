@@ -3,6 +3,8 @@ use Rattle.kds_lines.specs.declared.sizes.TheConstants.{OUTPUT_BYTES}
 use Rattle.kds_lines.specs.LineBuffer.{Stands, FedLines, fed_count}
 use Rattle.kds_lines.proofs.feed.feed_lines.Given as goal
 
+-- Whatever was fed before, a first part of `piece` was fed, and `rest` remains. The sink's fault count hasn't fallen,
+-- and fewer than OUTPUT_BYTES bytes of output wait.
 abbrev pub invariant-loop-at : goal.invariant-loop-at
 invariant-loop-at g l =
     ((fed : List ℕ) (start : Option (List ℕ))
@@ -12,5 +14,6 @@ invariant-loop-at g l =
     × (g.K.Sink.faults l.fn.out ≤ g.K.Sink.faults l.out)
     × (length l.line_buffer.output < OUTPUT_BYTES)
 
+-- Each round of the loop feeds at least one byte of those that remain.
 abbrev pub decreases-loop-at : goal.decreases-loop-at
 decreases-loop-at g l = length l.rest

@@ -1,7 +1,8 @@
 use Rattle.std.proofs.Common.{◌≡◌, ◌+◌, ◌≤◌, take, vec_len}
 use Rattle.kds_reply_texts.proofs.pieces.push_zeros.Given as goal
 
--- What stood before stays, and what was made and what is left are all that is asked for.
+-- The bytes from before the loop are unchanged. The zero bytes that were added and the `left` ones still to be added
+-- are together as many as asked for.
 abbrev pub invariant-loop-left : goal.invariant-loop-left
 invariant-loop-left l = record {
   front : take (vec_len l.fn.out) l.out.items ≡ l.fn.out.items;
@@ -9,5 +10,6 @@ invariant-loop-left l = record {
   made : vec_len l.out + l.left ≡ vec_len l.fn.out + l.size;
 }
 
+-- Each round of the loop adds at least one of the zero bytes that are left.
 abbrev pub decreases-loop-left : goal.decreases-loop-left
 decreases-loop-left l = l.left

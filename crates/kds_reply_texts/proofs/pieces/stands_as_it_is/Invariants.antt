@@ -3,7 +3,7 @@ use Rattle.std.specs.Bool.{OnTrue}
 use Rattle.json.specs.Written.{PlainBetween}
 use Rattle.kds_reply_texts.proofs.pieces.stands_as_it_is.Given as goal
 
--- The flag says whether the bytes so far stand as they are.
+-- If `plain` is true, none of the bytes so far needs escaping. If `ascii` is true, each of them is below 128.
 abbrev pub invariant-loop-byte : goal.invariant-loop-byte
 invariant-loop-byte l = record {
   plain : OnTrue l.plain (PlainBetween l.bytes 0 l.byte-index);

@@ -3,7 +3,7 @@ use Rattle.std.specs.Prelude.{count_by}
 use Rattle.kds_reply_texts.specs.Bodies.{has_failed}
 use Rattle.kds_reply_texts.proofs.put_results.failed_count.Given as goal
 
--- The records so far that weren't put are counted.
+-- The count is that of the outcomes so far whose records weren't stored, and so it is at most their number.
 abbrev pub invariant-loop-outcome : goal.invariant-loop-outcome
 invariant-loop-outcome l = record {
   counted : l.count ≡ count_by has_failed (take l.outcome-index l.outcomes);

@@ -6,7 +6,9 @@ use Rattle.kds_reply_texts.specs.Records.{record_data}
 use Rattle.kds_reply_texts.specs.Room.{front_text}
 use Rattle.kds_reply_texts.proofs.records.fill_records.Given as goal
 
--- The text so far, with that of the records that are left, is the whole text.
+-- The text up to the index `at`, with that of the records still to come and the closing bracket, is the text from
+-- before followed by the whole array. The first `size` bytes of `front`, at most 60, are the text before the payload of
+-- a record of the second `second`.
 abbrev pub invariant-loop-stored : goal.invariant-loop-stored
 invariant-loop-stored l = record {
   within : l.at ≤ vec_len l.out;

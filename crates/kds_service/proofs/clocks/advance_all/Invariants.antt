@@ -5,7 +5,8 @@ use Rattle.kds_service.specs.Clocks.{advanced}
 use Rattle.kds_service.specs.Shown.{AreShown}
 use Rattle.kds_service.proofs.clocks.advance_all.Given as goal
 
--- The streams so far stand at the clock, and the others are as they were. All show what they showed.
+-- The streams before the index `i` are at the new clock, and the other streams are unchanged. The keys are unchanged,
+-- and the streams show each journal that they showed before the loop.
 abbrev pub invariant-loop-i : goal.invariant-loop-i
 invariant-loop-i l = record {
   value : values l.streams ≡ map (advanced l.clock) (take l.i (values l.initial.streams))

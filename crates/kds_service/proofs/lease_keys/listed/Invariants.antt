@@ -3,6 +3,7 @@ use Rattle.indexmap.specs.IndexMap.{values}
 use Rattle.kds_service.specs.Keyed.{listed_keys}
 use Rattle.kds_service.proofs.lease_keys.listed.Given as goal
 
--- The keys so far, with those that are left, are all keys.
+-- The keys so far, followed by those of the listed shards of the streams still to come, are the keys of all listed
+-- shards.
 abbrev pub invariant-loop-i : goal.invariant-loop-i
 invariant-loop-i l = l.keys ++ listed_keys (drop l.i (values l.streams)) ≡ listed_keys (values l.streams)

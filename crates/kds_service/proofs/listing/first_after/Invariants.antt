@@ -2,7 +2,8 @@ use Rattle.std.proofs.Common.{◌≡◌, ◌≤◌, ◌++◌, length, drop, filt
 use Rattle.kds_defs.specs.Listings.{is_after_name}
 use Rattle.kds_service.proofs.listing.first_after.Given as goal
 
--- The names so far, with those that are left, are all names, and there are no more than the limit.
+-- The names so far, followed by the names after `after` among those still to come, are all names after `after`. At most
+-- `limit` names are in the list so far.
 abbrev pub invariant-loop-name : goal.invariant-loop-name
 invariant-loop-name l = record {
   all : l.first ++ filter (is_after_name l.after) (map (λ n. n.now) (drop l.name-index l.names))

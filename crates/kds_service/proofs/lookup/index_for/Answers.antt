@@ -1,4 +1,4 @@
--- The index of a token's stream is that of the token's number.
+-- For a command with a token, the index is that of the stream whose number is in the token.
 use Rattle.std.proofs.Common.{sym, ◌∙◌}
 use Rattle.indexmap.specs.IndexMap.{values}
 use Rattle.kds_service.proofs.Lookups.{token_place}

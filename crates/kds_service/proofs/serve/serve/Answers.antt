@@ -1,4 +1,4 @@
--- Each command leads as the function that serves it ensures.
+-- For each kind of command, the contract of the function that serves this kind gives what `serve` promises (`Leads`).
 use Rattle.std.proofs.Common.{refl}
 use Rattle.std.specs.Prelude.{Ok}
 use Rattle.indexmap.specs.IndexMap.{values}

@@ -1,5 +1,5 @@
--- The stream at the place that is found decides the command; where its token is too old, or there is no place, it is
--- refused.
+-- The stream at the index that is found decides the command. If the command's token is too old, or no index is found,
+-- the machine refuses the command.
 use Rattle.std.proofs.Common.{◌≡◌, sym, ap, ◌∙◌}
 use Rattle.std.specs.Prelude.{◌-◌}
 use Rattle.kds_base.proofs.Facts.{same_some}

@@ -4,7 +4,7 @@ use Rattle.indexmap.specs.IndexMap.{values}
 use Rattle.kds_service.specs.Places.{open_total}
 use Rattle.kds_service.proofs.streams_by_name.may_open.Given as goal
 
--- What may still be open is what may be open at all, minus what is open in the streams so far.
+-- The number `left` is OPEN_SHARDS without `more` and without the open shards of the streams before the index `i`.
 abbrev pub invariant-loop-i : goal.invariant-loop-i
 invariant-loop-i l = l.left + open_total (values l.streams) + l.more
     ≡ OPEN_SHARDS + open_total (drop l.i (values l.streams))

@@ -1,4 +1,4 @@
--- Each stream takes from the room what it has open.
+-- The loop subtracts the open shards of each stream, except the stream itself, from the number that may be open.
 use Rattle.std.proofs.Common.{ap, arith}
 use Rattle.indexmap.specs.IndexMap.{values}
 use Rattle.kds_service.proofs.Lists.{drop_get}

@@ -3,7 +3,8 @@ use Rattle.kds_log.specs.Log.{log_of}
 use Rattle.kds_stream_logs.specs.Routes.{CanTakeAll, with_each}
 use Rattle.kds_stream_logs.proofs.routes.append_all.Given as goal
 
--- The records that are left can be taken, and make of the logs what all records make.
+-- The logs can take the records that are left. With these records appended, they are the first logs with all records
+-- appended.
 abbrev pub invariant-loop-next : goal.invariant-loop-next
 invariant-loop-next l =
     record {
@@ -12,5 +13,6 @@ invariant-loop-next l =
           ≡ with_each l.initial.routed.items (map log_of l.initial.logs);
     }
 
+-- Each round of the loop appends one of the records that are left.
 abbrev pub decreases-loop-next : goal.decreases-loop-next
 decreases-loop-next l = length l.routed.items

@@ -6,7 +6,9 @@ use Rattle.kds_stream_logs.specs.Routes.{ArePlaced, GoesOn}
 use Rattle.kds_stream_logs.specs.Saved.{restored}
 use Rattle.kds_stream_logs.proofs.routes.route_all.Given as goal
 
--- The routes so far, with the items that are left, go on to those of all items.
+-- The routes so far, with what the items that are left add, are the routes of all items (`GoesOn`). They have the
+-- records of the items so far (`AreOfRecords`). Each shard has a window, no window counts a put after the clock, and
+-- putting back the saved windows gives those from before the loop.
 abbrev pub invariant-loop-item : goal.invariant-loop-item
 invariant-loop-item l =
     record {
@@ -18,5 +20,6 @@ invariant-loop-item l =
       saved : restored l.routes.saved.items l.windows ≡ l.initial.windows;
     }
 
+-- Each round of the loop routes one of the items that are left.
 abbrev pub decreases-loop-item : goal.decreases-loop-item
 decreases-loop-item l = length l.items.items

@@ -2,8 +2,8 @@ use Rattle.std.proofs.Common.{◌≡◌, ◌≤◌, ◌+◌, ◌*◌, drop}
 use Rattle.kds_defs.specs.ScaleCommands.{made_by}
 use Rattle.kds_stream_logs.proofs.steps.made_by.Given as goal
 
--- The count so far, with what the steps that are left make, is all that the steps make. Each step makes two shards at
--- most.
+-- The count so far, with the shards that the steps still to come make, is the number of shards that all steps make. The
+-- count is at most two for each step that the loop has passed.
 abbrev pub invariant-loop-step : goal.invariant-loop-step
 invariant-loop-step l =
     record {

@@ -2,6 +2,7 @@ use Rattle.std.proofs.Common.{◌≡◌, ◌++◌, drop}
 use Rattle.kds_tree.specs.Starts.{open_starts}
 use Rattle.kds_tree.proofs.tree.open_starts.Given as goal
 
--- The starts so far, with those of the shards that are left, are all starts.
+-- The starts that were added so far, followed by the starts of the open shards from the loop's index on, are the starts
+-- of all open shards.
 abbrev pub invariant-loop-kept : goal.invariant-loop-kept
 invariant-loop-kept l = l.starts.items ++ open_starts (drop l.kept-index l.shards) ≡ open_starts l.shards

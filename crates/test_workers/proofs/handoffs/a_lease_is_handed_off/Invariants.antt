@@ -1,7 +1,7 @@
 use Rattle.std.proofs.Common.{◌≡◌, [], None}
 use Rattle.test_workers.proofs.handoffs.a_lease_is_handed_off.Given as goal
 
--- the first pass is as it was dealt but for its turns, and no command waits
+-- The first pass is as it was dealt except for its turns, and no command waits for its answer.
 abbrev pub invariant-loop : goal.invariant-loop
 invariant-loop g l = record {
   hall : l.first.hall ≡ l.hall.id;

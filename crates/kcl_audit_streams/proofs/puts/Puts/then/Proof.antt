@@ -1,4 +1,5 @@
--- The value of no bytes has the record behind the others.
+-- `then` returns the list of records with one more record at its end. This list is ghost code, so it has no bytes at
+-- run time.
 use Rattle.std.proofs.Common.{[], ◌∷◌, ◌++◌, refl}
 use Rattle.std.proofs.raw_atomic.Walks.{proved}
 use mir.Syntax.{named}

@@ -1,4 +1,5 @@
--- The value of no bytes has the same turns.
+-- The copy of a history has the same turns as the history. A history here is ghost code, so it has no bytes at run
+-- time.
 use Rattle.std.proofs.Common.{[], ◌∷◌, refl}
 use Rattle.std.proofs.raw_atomic.Walks.{proved}
 use mir.Syntax.{named}

@@ -1,4 +1,5 @@
--- A token that is too old is refused, and any other lists the shards after its own.
+-- ListShards with a token is refused if the token is too old. With any other token, the reply has the shards after the
+-- token's shard.
 use Rattle.std.proofs.Common.{◌≡◌, Some, true, false, sym, subst, ap, ◌∙◌}
 use Rattle.std.specs.Prelude.{not, IfOk}
 use Rattle.kds_defs.proofs.Decisions.{passed_if, refused_if}

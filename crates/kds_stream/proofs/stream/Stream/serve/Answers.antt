@@ -1,4 +1,6 @@
--- Each command is decided as the call that it is handed to ensures: `told` names the stream, and says what room it has.
+-- The answer of `serve` to each command is the machine's decision, because the contract of the function that serves the
+-- command says so. The premise `told` (`IsToldOf`) says that a stream which the command names is this one, and how many
+-- shards may be open in it.
 use Rattle.std.proofs.Common.{refl, ap, sym, subst, ◌∙◌}
 use Rattle.std.specs.Prelude.{Ok}
 use Rattle.kds_defs.proofs.Decisions.{with_some}
