@@ -53,13 +53,12 @@ CONTRACTS = [
 ]
 # An implementation of a trait's method must meet the trait's clauses: the implementation, and where the trait stands.
 TRAITS = {('kcl_world', 'WorldMachine::apply'): ('kds_defs', 'src/machine.rt', 'apply')}
-# What is read, answered and written for one connection; and how its bytes end.
-ENDED = [
-    'serve.ended', 'exchange.goes_on', 'exchange.ended', 'read_next.ends', 'read_piece.ends', 'read_large_piece.ends',
-]
+# What is read, answered and written for one connection; and how its bytes end. The contract of `read_piece` is one
+# record, and the goal of an edit doesn't tell which part of it is broken, so it counts for what is served alone.
+ENDED = ['serve.ended', 'exchange.goes_on', 'exchange.ended']
 SERVED = [
-    *ENDED, 'exchange.waits', 'make_turn.goes_on', 'serve_next.goes_on', 'flush.written', 'flush.stands',
-    'write_early.goes_on', 'write_early.ended', 'read_next.grows', 'read_piece.grows', 'read_large_piece.grows',
+    *ENDED, 'exchange.free', 'make_turn.goes_on', 'serve_next.goes_on', 'flush.written', 'flush.stands',
+    'write_early.goes_on', 'write_early.ended', 'read_next.ensures', 'read_piece.ensures', 'read_large_piece.ensures',
 ]
 # A clause of a contract that follows from a clause of another name: the clause, and those that it follows from.
 THROUGH = {
@@ -80,14 +79,14 @@ THROUGH = {
     ('kcl_live', 'run_worker.served_so_far'): ['drive.err'],
     ('kcl_worker', 'Worker::next.next'): [
         'next_in_part.some', 'next_in_part.none', 'next_while_stopping.some', 'next_while_stopping.none',
-        'from_consumers.given', 'from_renewals.given', 'from_takes.given', 'from_sync.given',
+        'from_consumers.next', 'from_renewals.next', 'from_takes.next', 'from_sync.next',
     ],
     ('kcl_worker', 'Worker::absorb.absorbed'): [
         'after_renewal.leaves', 'after_renewal.processors', 'after_consumer.held', 'after_consumer.consumers',
-        'write_held.ensures', 'tenancy_of.ensures', 'taken_of.ensures', 'add_taken.held', 'add_taken.consumers',
+        'update_held.ensures', 'tenancy_of.ensures', 'taken_of.ensures', 'add_taken.held', 'add_taken.consumers',
     ],
     ('kcl_consumer', 'Consumer::absorb.stage'): [
-        'after_giving.stage', 'after_marking.stage', 'after_opening.stage', 'after_ending.stage', 'after_reading.stage',
+        'after_give.stage', 'after_mark.stage', 'after_open.stage', 'after_end.stage', 'after_read.stage',
         'stage_after_give.stage', 'Ahead::front_stage.stage', 'Ahead::pop_first.ensures', 'Ahead::is_filled.ensures',
     ],
     ('kcl_consumer', 'Consumer::absorb.given'): ['last_after.ensures'],

@@ -58,9 +58,9 @@ TURNED = {
 # question at each layer. Any other name means one thing in three crates at most.
 SHARED = {
     'new': 'of Rust', 'copy': 'of Rust, with an allocator', 'next': 'of Rust: what comes next', 'as_slice': 'of Rust', 'index_of': 'the index in a sorted list',
-    'read': 'of a source; of a tenure', 'take': 'a lease; a line (Taker)', 'make': 'a row; a processor (Maker)',
+    'read': 'of a source; of a tenure', 'take': 'a lease; a line (Taker)',
     'put': 'a record; a row', 'split': 'a shard, and its range', 'apply': 'a turn (Machine)', 'absorb': 'the answer to what next gave', 'due': 'what must come next',
-    'ask': 'the command of a request, of a worker', 'advance': 'go on: a clock, a worker, an output', 'expired': 'a lease; a token; a shard',
+    'advance': 'go on: a clock, a worker, an output',
     'is_listed': 'of a shard, at each layer', 'position': 'of a shard, at each layer', 'shard': 'of a key, at each layer', 'lease_lines': 'laws on lines of leases',
 }
 # the most lines of a function, its contract included, each clause counted as one

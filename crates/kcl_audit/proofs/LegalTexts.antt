@@ -10,7 +10,8 @@ use Rattle.std.proofs.lemmas.List.Splits.{slice_split-cons_no, slice_split-cons_
 use Rattle.std.proofs.lemmas.Slice.Eq.{bytes_eq-Decides}
 use Rattle.kds_defs.specs.Journal.{Journal, Line, with_lines}
 use Rattle.kds_defs.specs.Legal.{IsGood, IsLegal, last_clock}
-use Rattle.kds_lines.specs.Lines.{End, Lined, ended, is_feed, is_over, lined, lined_from, pieces, preceded, too_long}
+use Rattle.kds_lines.specs.Lines.{End, Lined, ended, is_feed, is_too_long, lined, lined_from, pieces, preceded}
+use Rattle.kds_lines.specs.Lines.{too_long}
 use Rattle.kcl_script_fields.specs.Fields.{Lacks}
 use Rattle.kcl_journal.specs.declared.line.EntryLine.{EntryLine}
 use Rattle.kcl_journal.specs.declared.line.TheConstants.{FIRST_VERSION, VERSION}
@@ -46,7 +47,7 @@ pieces_line (b ∷ bs) z lacks = slice_split-cons_no is_feed b (bs ++ 10 ∷ z) 
 -- The lines of the pieces `text` and then `ps` are `text` and the lines of `ps`, unless a length is too great.
 lined_cut : (used : ℕ) (text : List ℕ) (ps : List (List ℕ)) → (ps ≡ [] → ⊥)
     → lined_from used (text ∷ ps)
-    ≡ (if is_over (length text) (used + length text + 1) then ended too_long else preceded text
+    ≡ (if is_too_long (length text) (used + length text + 1) then ended too_long else preceded text
     (lined_from (used + length text + 1) ps))
 lined_cut used text [] there = absurd (there refl)
 lined_cut used text (q ∷ qs) there = refl
@@ -55,7 +56,7 @@ lined_cut used text (q ∷ qs) there = refl
 -- length is too great. `used` bytes came before.
 lined_line : (used : ℕ) (text z : List ℕ) → Lacks 10 text
     → lined_from used (pieces (text ++ 10 ∷ z))
-    ≡ (if is_over (length text) (used + length text + 1) then ended too_long else preceded text
+    ≡ (if is_too_long (length text) (used + length text + 1) then ended too_long else preceded text
     (lined_from (used + length text + 1) (pieces z)))
 lined_line used text z lacks =
     ap (lined_from used) (pieces_line text z lacks) ∙ lined_cut used text (pieces z) (pieces_there z)
@@ -90,7 +91,7 @@ past : (p : Progress) (text z : List ℕ) (n : ℕ) → finish p too_long ≡ ov
 past p text z n stops lacks later used =
     let more = used + length text + 1 in
     subst (λ l. IsFine n (ends p l)) (sym (lined_line used text z lacks)) (
-    past_by (is_over (length text) more) p text (lined_from more (pieces z)) n stops (later more))
+    past_by (is_too_long (length text) more) p text (lined_from more (pieces z)) n stops (later more))
 
 -- If the result is `over`, the input ended with a length that is too great.
 finish_over : (p : Progress) (end : End) → finish p end ≡ over → end ≡ too_long

@@ -13,7 +13,8 @@ use Rattle.kcl_laws.specs.ShownLines.{entry_line}
 use Rattle.kds_defs.specs.declared.entry.Entry.{Entry}
 use Rattle.kds_defs.specs.Journal.{Journal, Line, with_lines}
 use Rattle.kds_defs.specs.Legal.{IsGood, IsLegal, last_clock}
-use Rattle.kds_lines.specs.Lines.{End, Lined, ended, is_over, last_of, lined, lined_from, pieces, preceded, too_long}
+use Rattle.kds_lines.specs.Lines.{End, Lined, ended, is_too_long, last_of, lined, lined_from, pieces, preceded}
+use Rattle.kds_lines.specs.Lines.{too_long}
 use Rattle.kds_lines.specs.Lines.{unfinished, whole}
 use Rattle.kcl_journal.specs.declared.line.EntryLine.{EntryLine}
 use Rattle.kcl_journal.specs.declared.line.TheConstants.{FIRST_VERSION, VERSION}
@@ -42,7 +43,7 @@ by_over false h = cc
 last_whole : (used : ℕ) (piece : List ℕ) → (last_of used piece).end ≡ whole
     → piece ≡ lines_text (last_of used piece).texts
 last_whole used [] h = refl
-last_whole used (b ∷ bs) h = absurd (by_over (is_over (length (b ∷ bs)) (used + length (b ∷ bs))) h)
+last_whole used (b ∷ bs) h = absurd (by_over (is_too_long (length (b ∷ bs)) (used + length (b ∷ bs))) h)
 
 over_whole : (b : Bool) (piece rest : List ℕ) (later : Lined) → (later.end ≡ whole → rest ≡ lines_text later.texts)
     → (if b then ended too_long else preceded piece later).end ≡ whole
@@ -58,7 +59,7 @@ whole_from : (used : ℕ) (ps : List (List ℕ)) → (lined_from used ps).end �
 whole_from used [] h = refl
 whole_from used (piece ∷ []) h = last_whole used piece h
 whole_from used (piece ∷ another ∷ more) h =
-    over_whole (is_over (length piece) (used + length piece + 1)) piece (join_with_byte 10 (another ∷ more))
+    over_whole (is_too_long (length piece) (used + length piece + 1)) piece (join_with_byte 10 (another ∷ more))
     (lined_from (used + length piece + 1) (another ∷ more)) (
     whole_from (used + length piece + 1) (another ∷ more)) h
 

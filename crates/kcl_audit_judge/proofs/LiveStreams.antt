@@ -12,7 +12,7 @@ use Rattle.kds_defs.specs.Journal.{Journal}
 use Rattle.kds_defs.specs.Legal.{told}
 use Rattle.kds_defs.specs.Shards.{open_count, open_in as open_of}
 use Rattle.kds_defs.specs.Streams.{is_live, live_streams, name_of, numbers_from, same_name, stream_named}
-use Rattle.kcl_audit_streams.specs.Judging.{is_named, lacks_room, live_count, made_verdict, open_in}
+use Rattle.kcl_audit_streams.specs.Judging.{is_named, exceeds_open_limit, live_count, made_verdict, open_in}
 use Rattle.kcl_audit_streams.specs.Standing.{AreStreams, ShowsAll, StreamValue}
 use Rattle.kcl_audit_streams.specs.Verdict.{judged, same_entry}
 use Rattle.kcl_audit_streams.proofs.SameEntries.{list}
@@ -59,8 +59,8 @@ module _ (log : Journal) (vs : List StreamValue) (sh : ShowsAll vs log) where
   pub named_are : (name : List ℕ) → is_some (stream_named log name) ≡ is_named vs name
   named_are name = ap (λ count. named_in log name (live_from log 1 count)) sh.made ∙ named_from log name 1 vs sh.streams
 
-  -- `lacks_room` for one more shard says exactly that no more shards may be open.
-  pub full_is : lacks_room vs 1 ≡ nat_le OPEN_SHARDS (open_count log)
+  -- By the list, no further shard may be open exactly if the journal has at least `OPEN_SHARDS` open ones.
+  pub full_is : exceeds_open_limit vs 1 ≡ nat_le OPEN_SHARDS (open_count log)
   full_is = above (open_in vs) ∙ ap (nat_le OPEN_SHARDS) (sym open_are)
     where
       above : (n : ℕ) → nat_lt OPEN_SHARDS (n + 1) ≡ nat_le OPEN_SHARDS n

@@ -18,7 +18,7 @@ use Rattle.kds_defs.specs.Leases.{TenureState, tenure}
 use Rattle.kds_defs.specs.Legal.{reach_in, told}
 use Rattle.kds_defs.specs.Listings.{are_none, ends_at, is_closed_at}
 use Rattle.kds_defs.specs.declared.reply.Stored.{Stored}
-use Rattle.kds_defs.specs.Records.{batch, beginning, left_among, numbers_of, place_after, stored}
+use Rattle.kds_defs.specs.Records.{batch, beginning, left_among, numbers_of, position_after, stored}
 use Rattle.kds_base.proofs.Facts.{is_itself}
 use Rattle.kds_defs.proofs.Counted.{numbers_stored}
 use Rattle.kcl_book.specs.declared.tenure.Tenure.{Tenure}
@@ -47,13 +47,13 @@ reach_same (Some T) = refl
 -- says that the tenure `t` read the records `ns` with the limit `limit`, and whether this ended the shard (`ended`).
 -- `position` is where the tenure goes on reading.
 module _ (w : StreamsValue) (rs : List Row) (ts : List TenureValue) (by t limit position : ℕ) (ended : Bool)
-    (ns : List ℕ) (place : position ≡ reach_of (tenure_at ts t))
+    (ns : List ℕ) (reach : position ≡ reach_of (tenure_at ts t))
     (log : Journal) (st : Stands (leases (facing w.clock (Shows w)) rs ts) log) where
   -- The decision on the entry's command is that on a Read at `position`.
   tells : told log (entry_line w.clock by (entry.Read t limit ended ns)) (entry.Read t limit ended ns)
       ≡ decide log w.clock by (command.Read t position limit)
   tells = ap (λ p. decide log w.clock by (command.Read t p limit)) (reach_same (tenure log t)
-      ∙ ap reach_of (st.tenure_is t) ∙ sym place)
+      ∙ ap reach_of (st.tenure_is t) ∙ sym reach)
 
   -- If this Read is refused with `r`, the entry breaks the rule that its command is refused with `r`.
   pub read_refused_entry : (r : Refusal)
@@ -80,7 +80,7 @@ module _ (w : StreamsValue) (rs : List Row) (ts : List TenureValue) (by t limit 
       ≡ numbers_of (beginning limit BATCH_BYTES
       (left_among (floor_in v w.clock) position (records_in v.records y.key.shard))))
       (e : Bool) (e_is : e ≡ (is_closed_at (slice_get v.tree y.key.shard)
-      && are_none (left_among (floor_in v w.clock) (place_after position ms)
+      && are_none (left_among (floor_in v w.clock) (position_after position ms)
       (records_in v.records y.key.shard)))) where
     -- `v` is the model of the tenure's stream in the journal.
     shown_stream : IsStream log y.key.stream v
@@ -97,12 +97,12 @@ module _ (w : StreamsValue) (rs : List Row) (ts : List TenureValue) (by t limit 
 
     -- `e` says whether the shard ends with this batch in the journal.
     pub end_is : e ≡ ends_at log w.clock y.key.stream y.key.shard
-        (place_after position (numbers_of (batch log w.clock y.key.stream y.key.shard position limit)))
+        (position_after position (numbers_of (batch log w.clock y.key.stream y.key.shard position limit)))
     end_is =
         e_is
-        ∙ sym (ends_is log w.clock y.key.stream y.key.shard (place_after position ms) v shown_stream its_live
+        ∙ sym (ends_is log w.clock y.key.stream y.key.shard (position_after position ms) v shown_stream its_live
         st.shows.order)
-        ∙ ap (λ ls. ends_at log w.clock y.key.stream y.key.shard (place_after position ls)) numbers_are
+        ∙ ap (λ ls. ends_at log w.clock y.key.stream y.key.shard (position_after position ls)) numbers_are
 
     -- The Read is accepted, and gives just the line with the numbers `ms` and the end `e`.
     pub gives_line : (r : Reply)
@@ -133,8 +133,9 @@ module _ (w : StreamsValue) (rs : List Row) (ts : List TenureValue) (by t limit 
         (entry.Read t limit ended ns) (Err rule.Entry) log
     read_other differs = (sym (read_verdict ∙ ap agrees differs), (tt, st))
 
-    -- The entry has just this end and these numbers.
-    pub read_entry : (new : List TenureValue) (n : ℕ) → KeepsShards w.clock (Shows w) → n ≡ place_after position ms
+    -- If the entry has the end `e` and the numbers `ms`, it is good, and the model with this read added to the tenure
+    -- is right.
+    pub read_entry : (new : List TenureValue) (n : ℕ) → KeepsShards w.clock (Shows w) → n ≡ position_after position ms
         → IfSome (tenure_at ts t) (λ x. new ≡ slice_set ts (t - 1) (with_read n e x))
         → same_flag e ended ≡ true → same_list ms ns ≡ true
         → Judges (leases (facing w.clock (Shows w)) rs ts) (leases (facing w.clock (Shows w)) rs new) by
@@ -143,8 +144,8 @@ module _ (w : StreamsValue) (rs : List Row) (ts : List TenureValue) (by t limit 
         let both : (same_flag e ended && same_list ms ns) ≡ true = rw (ends, lists) refl in
         let s = facing w.clock (Shows w) in
         let xs = batch log w.clock y.key.stream y.key.shard position limit in
-        let far : n ≡ place_after position (map (λ (r : Stored). r.seq) (map stored xs)) =
-        n_is ∙ ap (place_after position) (numbers_are ∙ sym (numbers_stored xs)) in
+        let far : n ≡ position_after position (map (λ (r : Stored). r.seq) (map stored xs)) =
+        n_is ∙ ap (position_after position) (numbers_are ∙ sym (numbers_stored xs)) in
         let done = read_at s rs ts by t position limit y (map stored xs) e n new law log st reads refl end_is far
         new_is in
         let line_is : plain_line w.clock by (entry.Read t limit e ms)

@@ -16,7 +16,7 @@ use Rattle.kds_defs.specs.Journal.{Line, Journal}
 use Rattle.kds_defs.specs.Legal.{last_clock, told}
 use Rattle.kds_defs.specs.Streams.{made_count}
 use Rattle.kds_defs.specs.Subjects.{stream_of}
-use Rattle.kcl_audit_streams.specs.Judging.{changed_at, changed_of, entry_verdict, in_its, in_live, lacks_room}
+use Rattle.kcl_audit_streams.specs.Judging.{changed_at, changed_of, entry_verdict, in_its, in_live, exceeds_open_limit}
 use Rattle.kcl_audit_streams.specs.Judging.{made_refusal, new_stream, stream_verdict}
 use Rattle.kcl_audit_streams.specs.Judging.{streams_after, with_entry}
 use Rattle.kcl_audit_streams.specs.Standing.{AreStreams, IsStream, Shows, ShowsAll, StreamValue, StreamsValue, if_live}
@@ -36,21 +36,21 @@ use Rattle.kcl_audit_judge.proofs.LiveStreams.{full_is, made_told}
 later_told : (w : StreamsValue) (log : Journal) (by : ℕ) (what : Entry) → Shows w log → IsLater what → (o : Option ℕ)
     → stream_of what ≡ o → o ≢ None
     → judged (told log (entry_line w.clock by what) what) what
-    ≡ in_its w.streams o (entry_verdict (lacks_room w.streams 1) w.clock what)
+    ≡ in_its w.streams o (entry_verdict (exceeds_open_limit w.streams 1) w.clock what)
 later_told w log by what sh later None is of = absurd (of refl)
 later_told w log by what sh later (Some s) is of = found (stream_at w.streams s) refl
   where
     some : (v : StreamValue) (b : Bool) → IsStream log s v → v.live ≡ b
         → judged (told log (entry_line w.clock by what) what) what
-        ≡ in_live (if b then Some v else None) (entry_verdict (lacks_room w.streams 1) w.clock what)
+        ≡ in_live (if b then Some v else None) (entry_verdict (exceeds_open_limit w.streams 1) w.clock what)
     some v true st live =
-        live_told log w.clock by s what later is v (lacks_room w.streams 1) st live sh.order
+        live_told log w.clock by s what later is v (exceeds_open_limit w.streams 1) st live sh.order
         (full_is log w.streams sh.all)
     some v false st live = gone_told log w.clock by s what later is (st.lives ∙ live)
 
     found : (o : Option StreamValue) → stream_at w.streams s ≡ o
         → judged (told log (entry_line w.clock by what) what) what
-        ≡ in_live (if_live o) (entry_verdict (lacks_room w.streams 1) w.clock what)
+        ≡ in_live (if_live o) (entry_verdict (exceeds_open_limit w.streams 1) w.clock what)
     found None at = gone_told log w.clock by s what later is (stream_none w log s sh at).gone
     found (Some v) at = some v v.live (stream_found w log s v sh at) refl
 
@@ -171,15 +171,16 @@ its_stream vs log s f o sh =
 -- line.
 all_later : (vs : List StreamValue) (log : Journal) (d by : ℕ) (what : Entry) → ShowsAll vs log → last_clock log ≤ d
     → IsLater what
-    → (o : Option ℕ) → stream_of what ≡ o → o ≢ None → in_its vs o (entry_verdict (lacks_room vs 1) d what) ≡ Ok tt
+    → (o : Option ℕ) → stream_of what ≡ o → o ≢ None → in_its vs o (entry_verdict (exceeds_open_limit vs 1) d what)
+    ≡ Ok tt
     → ShowsAll (changed_of o (with_entry d what) vs) (entry_line d by what ∷ log)
 all_later vs log d by what sh order later None is of good = absurd (of refl)
 all_later vs log d by what sh order later (Some s) is of good =
-    let f = entry_verdict (lacks_room vs 1) d what in
+    let f = entry_verdict (exceeds_open_limit vs 1) d what in
     let o = is_of vs s f good in
     shows_changed log (entry_line d by what) s order is vs f (with_entry d what) o
     (made_kept what (made_count log) later) sh
-    (stream_step d by s o.value log (lacks_room vs 1) what later is o.good order (its_stream vs log s f o sh))
+    (stream_step d by s o.value log (exceeds_open_limit vs 1) what later is o.good order (its_stream vs log s f o sh))
 
 -- After a good entry of a stream, the changed list represents the journal with the entry's line.
 all_after : (vs : List StreamValue) (log : Journal) (d by : ℕ) (what : Entry) → ShowsAll vs log → last_clock log ≤ d

@@ -16,11 +16,11 @@ ghost use Rattle.kcl_audit_streams.specs.Verdict.{IsFit, same_flag, same_list, s
 use kcl_audit_streams::{Rule, ToldStreams};
 use kcl_book::Book;
 use kcl_leases::{
-    Shards, counting, cut, free, give, make, mark, open, reader, renew, take, take_start,
+    Shards, cut, effective_origin, free, give, make, mark, open, reader, renew, take, take_start,
 };
 use kcl_table::Table;
 use kds_base::{Items, Memory, Seq, ShardRef, StreamNo, TenureNo, WorkerNo};
-use kds_defs::{Answer, Entry, Origin, Refusal, Shard, Target, place_after_numbers};
+use kds_defs::{Answer, Entry, Origin, Refusal, Shard, Target, position_after_numbers};
 use std::alloc::Global;
 
 /// Returns the verdict on an entry whose command can lead only to this entry. `answer` is the answer to this command.
@@ -135,7 +135,7 @@ fn on_read(
     if !same_numbers(batch.as_slice(), numbers.as_slice()) {
         return Ok(Err(Rule::Entry));
     }
-    book.read(no, place_after_numbers(position, batch.as_slice()), ends);
+    book.read(no, position_after_numbers(position, batch.as_slice()), ends);
     Ok(Ok(()))
 }
 
@@ -168,7 +168,7 @@ fn counts(
 {
     // The origin is borrowed because it is used more than once.
     let from = &from;
-    same_start(counting(shards, table, stream, shard, *from), *from)
+    same_start(effective_origin(shards, table, stream, shard, *from), *from)
 }
 
 /// Judges the entry `lease`: a row of the lease table was made. Applies the entry if it breaks no rule. The entry must

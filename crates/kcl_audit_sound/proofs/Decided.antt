@@ -90,15 +90,16 @@ module _
     (numbered : (log : Journal) (s : ℕ) → AreNumbered 0 (shards log s))
     (drawn : (log : Journal) → IsLegal log → (s sh : ℕ) → AreDrawn log s sh)
     (next_fits : (log : Journal) → IsLegal log → (s : ℕ) → next_number log s ≤ last_number) where
-  batch_fits : (log : Journal) (c s sh place limit : ℕ) → IsLegal log
-      → AllByRecursion Is64 (numbers_of (batch log c s sh place limit))
-  batch_fits log c s sh place limit legal =
+  -- In a legal journal, the sequence numbers of each batch fit into 64 bits.
+  batch_fits : (log : Journal) (c s sh reach limit : ℕ) → IsLegal log
+      → AllByRecursion Is64 (numbers_of (batch log c s sh reach limit))
+  batch_fits log c s sh reach limit legal =
       let next = next_number log s in
-      let left = left_among (trim_floor log c s) place (records log s sh) in
-      numbers_fit next (batch log c s sh place limit) (next_fits log legal s)
-      (below_beginning next limit _ (left_from log c s sh place)
+      let left = left_among (trim_floor log c s) reach (records log s sh) in
+      numbers_fit next (batch log c s sh reach limit) (next_fits log legal s)
+      (below_beginning next limit _ (left_from log c s sh reach)
       (live_below (is_live log s) next left
-      (below_left next (trim_floor log c s) place (records log s sh)
+      (below_left next (trim_floor log c s) reach (records log s sh)
       (below_next (start_of (shard_at log s sh)) (records log s sh) next (drawn log legal s sh)))))
 
   -- If a command adds just the line `line`, this line can be written as text (`IsEntryLine`).
@@ -151,7 +152,7 @@ module _
   told_one log c by _ _ _ (Frees t counter T begun same fits) legal is lawful bits =
       line_told c by _ is (bits.0, next_counter _ counter same fits bits.1)
   told_one log c by _ _ _ (Opens t) legal is lawful bits = line_told c by _ is bits
-  told_one log c by _ _ _ (Reads t position limit T place ended begun same) legal is lawful bits =
+  told_one log c by _ _ _ (Reads t position limit T reach ended begun same) legal is lawful bits =
       line_told c by _ is (bits.0, (lawful, batch_fits log c _ _ _ limit legal))
   told_one log c by _ _ _ (Gives t T begun) legal is lawful bits = line_told c by _ is bits
   told_one log c by _ _ _ (Marks t counter to T begun same fits) legal is lawful bits =

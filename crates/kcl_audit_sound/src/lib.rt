@@ -8,4 +8,4 @@ mod laws;
 mod typed;
 
 pub use laws::sound_histories;
-pub use typed::{has_bits, have_bits};
+pub use typed::{all_fit_types, fits_types};

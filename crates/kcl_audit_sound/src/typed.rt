@@ -96,7 +96,7 @@ fn are_numbers(what: &Command)
 
 /// Proves that the actor of a turn and the numbers in its command fit their machine types. At run time the function
 /// only visits the numbers.
-pub fn has_bits(turn: &Turn)
+pub fn fits_types(turn: &Turn)
     ensures { HasBits turn.now }
 {
     has_32_bits(turn.by);
@@ -105,10 +105,10 @@ pub fn has_bits(turn: &Turn)
 
 /// Proves for each turn that its actor and the numbers in its command fit their machine types. At run time the function
 /// only visits the turns.
-pub fn have_bits(turns: &[Turn])
+pub fn all_fit_types(turns: &[Turn])
     ensures { HaveBits turns.now }
 {
     for turn in turns {
-        has_bits(turn);
+        fits_types(turn);
     }
 }

@@ -41,15 +41,17 @@ batch_is log c s sh p limit v st live order =
     ∙ ap numbers_of (beginning_bare limit BATCH_BYTES (left_from log c s sh p))
     ∙ ap (λ rs. numbers_of (beginning limit BATCH_BYTES rs)) (left_is log c s sh p v st live order)
 
-pub ends_is : (log : Journal) (c s sh place : ℕ) (v : StreamValue) → IsStream log s v → v.live ≡ true
+-- In the journal, the shard ends at `position` exactly if in the model it is closed and nothing is left from `position`
+-- on.
+pub ends_is : (log : Journal) (c s sh position : ℕ) (v : StreamValue) → IsStream log s v → v.live ≡ true
     → last_clock log ≤ c
-    → ends_at log c s sh place
-    ≡ (is_closed_at (slice_get v.tree sh) && are_none (left_among (floor_in v c) place (records_in v.records sh)))
-ends_is log c s sh place v st live order =
-    ap (λ (b : Bool). is_closed_at (slice_get (shards log s) sh) && b) (sym (none_bare (left_from log c s sh place))
-    ∙ ap are_none (left_is log c s sh place v st live order))
+    → ends_at log c s sh position
+    ≡ (is_closed_at (slice_get v.tree sh) && are_none (left_among (floor_in v c) position (records_in v.records sh)))
+ends_is log c s sh position v st live order =
+    ap (λ (b : Bool). is_closed_at (slice_get (shards log s) sh) && b) (sym (none_bare (left_from log c s sh position))
+    ∙ ap are_none (left_is log c s sh position v st live order))
     ∙ ap (λ (xs : List ShardState). is_closed_at (slice_get xs sh)
-    && are_none (left_among (floor_in v c) place (records_in v.records sh))) st.shards_are
+    && are_none (left_among (floor_in v c) position (records_in v.records sh))) st.shards_are
 
 -- ---- Where reading begins
 

@@ -30,15 +30,15 @@ by_state vs i f v true is live good =
     record { value = v; some = omega arith; at = ap (slice_get vs) same ∙ is; live = live; good = good }
 by_state vs i f v false is live good = absurd cc
 
-by_place : (vs : List StreamValue) (i : ℕ) (f : StreamValue → Verdict) (o : Option StreamValue) → slice_get vs i ≡ o
+by_index : (vs : List StreamValue) (i : ℕ) (f : StreamValue → Verdict) (o : Option StreamValue) → slice_get vs i ≡ o
     → in_live (if_live o) f ≡ Ok tt → IsOf vs (suc i) f
-by_place vs i f None is good = absurd cc
-by_place vs i f (Some v) is good = by_state vs i f v v.live is refl good
+by_index vs i f None is good = absurd cc
+by_index vs i f (Some v) is good = by_state vs i f v v.live is refl good
 
 -- If the verdict on the live stream with the number `s` is Ok, then this stream exists (`IsOf`).
 pub is_of : (vs : List StreamValue) (s : ℕ) (f : StreamValue → Verdict) → in_live (live_at vs s) f ≡ Ok tt → IsOf vs s f
 is_of vs zero f good = absurd cc
-is_of vs (suc i) f good = by_place vs i f (slice_get vs i) refl good
+is_of vs (suc i) f good = by_index vs i f (slice_get vs i) refl good
 
 -- ---- The stream that is read and changed
 

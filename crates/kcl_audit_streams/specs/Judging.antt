@@ -12,7 +12,7 @@ use Rattle.kds_defs.specs.declared.reply.Refusal.{Refusal}
 use Rattle.kds_defs.specs.declared.reply.Refusal.TheVariants as refusal
 use Rattle.kds_defs.specs.Rates.{is_throttled}
 use Rattle.kds_defs.specs.Listings.{are_none, is_closed_at}
-use Rattle.kds_defs.specs.Records.{Logged, first_at, left_among, place_after}
+use Rattle.kds_defs.specs.Records.{Logged, first_at, left_among, position_after}
 use Rattle.kds_defs.specs.Shards.{home_among, is_open, made_shards, merged_shards, split_shards}
 use Rattle.kds_defs.specs.StreamCommands.{last_number}
 use Rattle.kds_defs.specs.Streams.{floor_at, same_name}
@@ -84,7 +84,7 @@ left_in v clock sh position = left_among (floor_in v clock) position (records_in
 -- batch that was read. `numbers` are the sequence numbers of this batch, which was read at `position`.
 abbrev pub is_end_in : StreamValue → ℕ → ℕ → ℕ → List ℕ → Bool
 is_end_in v clock sh position numbers =
-    is_closed_at (slice_get v.tree sh) && are_none (left_in v clock sh (place_after position numbers))
+    is_closed_at (slice_get v.tree sh) && are_none (left_in v clock sh (position_after position numbers))
 
 -- The sequence number from which the shard `sh` is read if reading begins at the given origin at the clock `clock`.
 abbrev pub position_in : StreamValue → ℕ → ℕ → Origin → ℕ
@@ -109,16 +109,16 @@ abbrev pub open_in : List StreamValue → ℕ
 open_in [] = 0
 open_in (v ∷ vs) = (if v.live then length (filter is_open v.tree) else 0) + open_in vs
 
--- With `more` further shards, more shards would be open than may be.
-abbrev pub lacks_room : List StreamValue → ℕ → Bool
-lacks_room vs more = nat_lt OPEN_SHARDS (open_in vs + more)
+-- Whether more shards than allowed (`OPEN_SHARDS`) would be open after `more` further ones are opened.
+abbrev pub exceeds_open_limit : List StreamValue → ℕ → Bool
+exceeds_open_limit vs more = nat_lt OPEN_SHARDS (open_in vs + more)
 
 -- The refusal of a command that makes a stream of the name `name` with `count` shards, or None if nothing speaks
 -- against it.
 abbrev pub made_refusal : List StreamValue → List ℕ → ℕ → Option Refusal
 made_refusal vs name count =
     if is_named vs name then Some refusal.StreamThere else
-    if nat_le LIVE_STREAMS (live_count vs) || lacks_room vs count then Some refusal.Full else
+    if nat_le LIVE_STREAMS (live_count vs) || exceeds_open_limit vs count then Some refusal.Full else
     if length vs == last_number then Some refusal.Spent else
     None
 
@@ -150,7 +150,7 @@ in_its vs (Some s) next = in_live (live_at vs s) next
 -- The verdict on an entry at the clock `clock`. An entry that is of no stream is good.
 abbrev pub stream_verdict : List StreamValue → ℕ → Entry → Verdict
 stream_verdict vs clock (entry.Made s name count) = made_verdict vs s name count
-stream_verdict vs clock what = in_its vs (stream_of what) (entry_verdict (lacks_room vs 1) clock what)
+stream_verdict vs clock what = in_its vs (stream_of what) (entry_verdict (exceeds_open_limit vs 1) clock what)
 
 -- ---- The model after a good entry
 

@@ -6,7 +6,7 @@ ghost use Rattle.std.specs.Prelude.{Some, IfOk, OnOk, OnErr};
 ghost use Rattle.std.specs.Option.{option_map};
 ghost use Rattle.std.specs.List.{AllByRecursion};
 ghost use Rattle.kds_defs.specs.declared.limits.TheConstants.{BATCH_BYTES, HOUR, MOST_SHARDS};
-ghost use Rattle.kds_defs.specs.Records.{beginning, numbers_of, place_after};
+ghost use Rattle.kds_defs.specs.Records.{beginning, numbers_of, position_after};
 ghost use Rattle.kds_defs.specs.Shards.{shown};
 ghost use Rattle.kds_defs.specs.StreamCommands.{last_number};
 ghost use Rattle.kds_defs.specs.Streams.{floor_at, floor_of};
@@ -24,7 +24,7 @@ use crate::rule::Rule;
 use crate::stream_records::Records;
 use kds_base::{Items, Memory, Moment, Name, Seq, ShardNo};
 use kds_defs::limits::{FIRST_HOURS, HOUR};
-use kds_defs::{Entry, Origin, Refusal, Shard, place_after_numbers};
+use kds_defs::{Entry, Origin, Refusal, Shard, position_after_numbers};
 use kds_tree::ShardTree;
 use std::alloc::Global;
 use std::marker::Model;
@@ -283,12 +283,12 @@ impl ToldStream {
         let floor = self.floor(clock);
         let ahead = self.records.ahead(shard, position);
         let numbers = batch(alloc, ahead, shard, floor, position, limit)?;
-        let place = place_after_numbers(position, numbers.as_slice());
+        let reach = position_after_numbers(position, numbers.as_slice());
         let closed = match self.tree.shard(shard) {
             Some(shown) => shown.end.is_some(),
             None => false,
         };
-        let end = closed && none_left(self.records.ahead(shard, place), shard, floor, place);
+        let end = closed && none_left(self.records.ahead(shard, reach), shard, floor, reach);
         Ok((numbers, end))
     }
 

@@ -5,7 +5,7 @@ ghost use Rattle.kds_defs.specs.declared.limits.TheConstants.{MOST_SHARDS};
 ghost use Rattle.kds_defs.specs.declared.reply.Refusal.TheVariants as refusal;
 ghost use Rattle.kcl_audit_streams.specs.declared.rule.Rule.TheVariants as rule;
 ghost use Rattle.kcl_audit_streams.specs.Verdict.{IsFit};
-ghost use Rattle.kcl_audit_streams.specs.Judging.{changed_at, entry_verdict, in_live, lacks_room, made_verdict};
+ghost use Rattle.kcl_audit_streams.specs.Judging.{changed_at, entry_verdict, in_live, exceeds_open_limit, made_verdict};
 ghost use Rattle.kcl_audit_streams.specs.Judging.{merge_verdict, new_stream, put_verdict, split_verdict};
 ghost use Rattle.kcl_audit_streams.specs.Judging.{stream_verdict, streams_after, with_entry};
 ghost use Rattle.kcl_audit_streams.specs.Standing.{live_at};
@@ -54,10 +54,18 @@ fn judge_split(
     high: ShardNo,
 ) -> Result<(), Rule>
     ensures { result ≡ in_live (live_at streams.now no)
-        (λ v. split_verdict v clock shard at (lacks_room streams.now 1) seq low high) }
+        (λ v. split_verdict v clock shard at (exceeds_open_limit streams.now 1) seq low high) }
 {
     let stream = in_stream(streams, no)?;
-    stream.judge_split(clock, shard, at, streams.lacks_room(1), seq, low, high)
+    stream.judge_split(
+        clock,
+        shard,
+        at,
+        streams.exceeds_open_limit(1),
+        seq,
+        low,
+        high,
+    )
 }
 
 /// Judges an entry about a stream. The present time is `clock`. Returns the rule that the entry breaks, or `Ok` if the

@@ -5,7 +5,8 @@ ghost use Rattle.std.specs.List.{filter};
 ghost use Rattle.std.specs.Option.{option_map};
 ghost use Rattle.kds_defs.specs.declared.limits.TheConstants.{MOST_SHARDS, OPEN_SHARDS};
 ghost use Rattle.kcl_audit_streams.specs.Standing.{is_listed_in, live_at};
-ghost use Rattle.kcl_audit_streams.specs.Judging.{changed_at, entry_verdict, in_live, is_named, lacks_room, live_count};
+ghost use Rattle.kcl_audit_streams.specs.Judging.{changed_at, entry_verdict, in_live, is_named, exceeds_open_limit};
+ghost use Rattle.kcl_audit_streams.specs.Judging.{live_count};
 ghost use Rattle.kcl_audit_streams.specs.Judging.{made_refusal, new_stream, with_entry};
 ghost use Rattle.kcl_audit_streams.specs.Living.{is_deletion, is_named_among, open_among};
 ghost use Rattle.kcl_audit_streams.specs.Verdict.{IsFit};
@@ -58,9 +59,9 @@ impl Model for ToldStreams {
 fn live_in(streams: &[ToldStream], no: StreamNo) -> Option<&ToldStream>
     ensures { option_map (λ x. x.now) result ≡ live_at streams.now no }
 {
-    let place = no.0.checked_sub(1)?;
-    if place < streams.len() as u64 && streams[place as usize].is_live() {
-        Some(&streams[place as usize])
+    let index = no.0.checked_sub(1)?;
+    if index < streams.len() as u64 && streams[index as usize].is_live() {
+        Some(&streams[index as usize])
     } else {
         None
     }
@@ -82,7 +83,7 @@ fn is_named(streams: &[ToldStream], numbers: &[StreamNo], name: &Name) -> bool
 
 /// Whether `more` open shards, beside those of the live streams with the numbers `numbers`, would exceed `OPEN_SHARDS`,
 /// the maximum number of open shards over all streams.
-fn lacks_room(streams: &[ToldStream], numbers: &[StreamNo], more: u64) -> bool
+fn exceeds_open_limit(streams: &[ToldStream], numbers: &[StreamNo], more: u64) -> bool
     requires { more ≤ OPEN_SHARDS }
     ensures { result ≡ nat_lt OPEN_SHARDS (open_among streams.now numbers.now + more) }
 {
@@ -139,11 +140,11 @@ impl StreamList {
 
     /// Whether adding `more` open shards would exceed `OPEN_SHARDS`, the maximum number of open shards over all
     /// streams.
-    pub fn lacks_room(&self, more: u64) -> bool
+    pub fn exceeds_open_limit(&self, more: u64) -> bool
         requires { more ≤ OPEN_SHARDS }
-        ensures { result ≡ lacks_room self.now more }
+        ensures { result ≡ exceeds_open_limit self.now more }
     {
-        lacks_room(&self.all, &self.live, more)
+        exceeds_open_limit(&self.all, &self.live, more)
     }
 
     /// Whether a live stream has the name `name`.
@@ -170,7 +171,7 @@ impl StreamList {
         if self.is_named(name) {
             return Some(Refusal::StreamThere);
         }
-        if self.live_count() >= LIVE_STREAMS || self.lacks_room(shards as u64) {
+        if self.live_count() >= LIVE_STREAMS || self.exceeds_open_limit(shards as u64) {
             return Some(Refusal::Full);
         }
         if self.len() == u64::MAX {

@@ -4,7 +4,7 @@ use Rattle.std.specs.Prelude.{ℕ, zero, suc, ◌≡◌, ◌-◌, Bool, false, L
 use Rattle.std.specs.Prelude.{Option, None, IfSome}
 use Rattle.kds_base.specs.declared.lease_key.Checkpoint.{Checkpoint}
 use Rattle.kds_base.specs.declared.lease_key.ShardRef.{ShardRef}
-use Rattle.kds_defs.specs.Leases.{place_of}
+use Rattle.kds_defs.specs.Leases.{start_position}
 use Rattle.kds_defs.specs.Listings.{are_none}
 use Rattle.kcl_book.specs.declared.tenure.PendingRead.{PendingRead}
 use Rattle.kcl_book.specs.declared.tenure.Tenure.{Tenure}
@@ -37,8 +37,8 @@ begun by key start =
       key = key;
       start = start;
       opened = false;
-      reach = place_of start;
-      delivered = place_of start;
+      reach = start_position start;
+      delivered = start_position start;
       pending = [];
       at_end = false;
     }

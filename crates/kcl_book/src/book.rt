@@ -141,7 +141,7 @@ impl Book {
     pub fn read(&mut self, no: TenureNo, reach: u64, end: bool)
         requires there { IsSome (tenure_at self.old.tenures no) }
         requires opened { IfSome (tenure_at self.old.tenures no) (λ t. t.opened ≡ true) }
-        requires room { IfSome (tenure_at self.old.tenures no) (λ t. length t.pending < PENDING_READS) }
+        requires few { IfSome (tenure_at self.old.tenures no) (λ t. length t.pending < PENDING_READS) }
         requires onward { IfSome (tenure_at self.old.tenures no) (λ t. t.reach ≤ reach) }
         ensures { IfSome (tenure_at self.old.tenures no)
             (λ t. self.new ≡ with_tenure no (with_read reach end t) self.old) }

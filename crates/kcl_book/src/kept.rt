@@ -4,7 +4,7 @@
 ghost use Rattle.std.specs.Prelude.{◌≡◌, ◌≢◌, ◌<◌, length, true, false, ℕ};
 ghost use Rattle.kds_base.specs.declared.lease_key.Checkpoint.TheVariants.{At, ShardEnd};
 ghost use Rattle.kds_defs.specs.declared.limits.TheConstants.{PENDING_READS};
-ghost use Rattle.kds_defs.specs.Leases.{place_of};
+ghost use Rattle.kds_defs.specs.Leases.{start_position};
 ghost use Rattle.kds_defs.specs.Listings.{are_none};
 ghost use Rattle.kcl_book.specs.Tenures.{begun, shown, with_given, with_read};
 
@@ -48,9 +48,9 @@ impl Model for KeptTenure {
 }
 
 /// Returns the position at which a tenure begins to read if its first checkpoint is `start`.
-fn first_position(start: &Checkpoint) -> u64
+fn start_position(start: &Checkpoint) -> u64
     requires { (q : ℕ) → start.now ≡ At q → q < u64.MAX }
-    ensures { result ≡ place_of start.now }
+    ensures { result ≡ start_position start.now }
 {
     match start {
         Checkpoint::At(q) => q.0 + 1,
@@ -65,7 +65,7 @@ impl KeptTenure {
         requires { start ≢ At u64.MAX }
         ensures { result ≡ begun by key start }
     {
-        let position = first_position(&start);
+        let position = start_position(&start);
         KeptTenure {
             by,
             key,

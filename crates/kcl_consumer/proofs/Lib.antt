@@ -1,2 +1,2 @@
 mod StandLemmas
-mod RoomLemmas
+mod WaitingLemmas

@@ -18,11 +18,11 @@ use Rattle.kcl_defs.proofs.GivenLemmas.{given_answered, given_called, given_lost
 use Rattle.kcl_consumer.specs.declared.stage.ConsumerStage.{ConsumerStage}
 use Rattle.kcl_consumer.specs.declared.stage.ConsumerStage.TheVariants as stage
 use Rattle.kcl_consumer.specs.Stages.{stage_of}
-use Rattle.kcl_consumer.specs.Standing.{HasCalled, IsAsBefore, Standing, StandsFor}
+use Rattle.kcl_consumer.specs.Standing.{HasCalled, IsAsBefore, ConsumerValue, StandsFor}
 
 -- After its due processor call has returned, a consumer stands for its record with this call added.
 pub called : {P : Type 0} (stands : P → List Call → Type 0) (asks : P → List Stored → Ask
-    → Type 0) (asked : Ask) (old new : Standing P) (past : Past) → HasCalled stands asks asked old new
+    → Type 0) (asked : Ask) (old new : ConsumerValue P) (past : Past) → HasCalled stands asks asked old new
     → StandsFor stands old past → StandsFor stands new (Called asked ∷ past)
 called stands asks asked old new past h s = record {
   stage = h.stage ∙ ap (after_call old.made asked) s.stage
@@ -34,7 +34,9 @@ called stands asks asked old new past h s = record {
       (h.calls (calls_after old.made past) s.calls));
 }
 
-pub kept : {P : Type 0} (stands : P → List Call → Type 0) (asks : P → List Stored → Ask → Type 0) (old new : Standing P)
+-- If the consumer `new` is as `old` was (`IsAsBefore`), it stands for each record for which `old` stands.
+pub kept : {P : Type 0} (stands : P → List Call → Type 0) (asks : P → List Stored → Ask
+    → Type 0) (old new : ConsumerValue P)
     (past : Past) → IsAsBefore stands asks old new → StandsFor stands old past → StandsFor stands new past
 kept stands asks old new past h s = record {
   stage = h.stage ∙ s.stage ∙ ap (λ m. stage_after m past) (sym h.made);
@@ -43,7 +45,10 @@ kept stands asks old new past h s = record {
       (h.calls (calls_after old.made past) s.calls);
 }
 
-pub answered : {P : Type 0} (stands : P → List Call → Type 0) (answer : Result Reply Refusal) (old new : Standing P)
+-- If the consumer `new` is `old` after it took the answer `answer`, it stands for the record of `old` with this answer
+-- added.
+pub answered : {P : Type 0} (stands : P → List Call → Type 0) (answer : Result Reply Refusal)
+    (old new : ConsumerValue P)
     (past : Past) → new.made ≡ old.made → new.stage ≡ after_answer old.made answer old.stage
     → new.given ≡ given_after answer old.stage old.given → new.processor ≡ old.processor → StandsFor stands old past
     → StandsFor stands new (Answered answer ∷ past)
@@ -57,7 +62,10 @@ answered stands answer old new past made stage given processor s = record {
       (subst (λ m. stands old.processor (calls_after m (Answered answer ∷ past))) (sym made) s.calls);
 }
 
-pub lost : {P : Type 0} (stands : P → List Call → Type 0) (old new : Standing P) (past : Past) → new.made ≡ old.made
+-- If the consumer `new` is `old` after it has learnt that its lease is lost, it stands for the record of `old` with
+-- this loss added.
+pub lost : {P : Type 0} (stands : P → List Call → Type 0) (old new : ConsumerValue P) (past : Past)
+    → new.made ≡ old.made
     → new.stage ≡ after_loss old.stage → new.given ≡ old.given → new.processor ≡ old.processor
     → StandsFor stands old past → StandsFor stands new (Losing ∷ past)
 lost stands old new past made stage given processor s = record {
@@ -73,7 +81,7 @@ lost stands old new past made stage given processor s = record {
 -- batches. `asked` is the target of the mark that the processor asked for, and `lost` is true if the lease is known to
 -- be lost.
 abbrev fields : {P : Type 0} → Tenancy → ConsumerStage → ℕ → List Fetched → Option Target → Bool → Option ℕ → P
-    → Standing P
+    → ConsumerValue P
 fields made st reach ahead asked lost given processor =
     record { made = made; stage = stage_of st reach ahead asked lost; given = given; processor = processor }
 

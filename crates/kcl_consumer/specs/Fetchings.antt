@@ -11,7 +11,7 @@ use Rattle.kcl_defs.specs.Consumers.{Stage, Filling, Leaving, fetched, after_rea
 -- The stage after the answer to a Read, which is given in the form in which a consumer uses it. The consumer had read
 -- up to the position `reach`, and the batches `waiting` waited. `limit` is the most records that a Read may return.
 abbrev pub stage_by : ℕ → ℕ → List Fetched → Fetching → Stage
-stage_by limit reach waiting (fetching.Read f place) = fetched limit place waiting f
+stage_by limit reach waiting (fetching.Read f next) = fetched limit next waiting f
 stage_by limit reach waiting fetching.Nothing = Filling reach waiting
 stage_by limit reach waiting (fetching.Left why) = Leaving why
 

@@ -57,7 +57,7 @@ impl Ahead {
 
     /// Whether the ring has a first batch and this batch has records. Such a batch is handed to the processor before it
     /// is reported as processed. An empty batch is never handed to the processor.
-    pub(crate) fn is_handed(&self) -> bool
+    pub(crate) fn was_handed(&self) -> bool
         ensures { result ≡ was_handed self.now }
     {
         match self.ring.front() {

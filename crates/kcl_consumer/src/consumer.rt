@@ -7,8 +7,9 @@ ghost use Rattle.std.specs.Prelude.{Option, Bool};
 ghost use Rattle.kcl_defs.specs.declared.consumer.Ask.{Ask};
 ghost use Rattle.kcl_defs.specs.Consumers.{Past, Answered, Called, Losing, calls_after, Giving, Opening, due_call};
 ghost use Rattle.kcl_defs.specs.Consumers.{over_at, next_command, stage_after, after_answer, after_end, after_open};
-ghost use Rattle.kcl_defs.specs.Consumers.{progress_of, after_loss, first_place, last_number_in, target_of, given};
-ghost use Rattle.kcl_defs.specs.Consumers.{given_after, after_give, after_mark, after_read, told_over, told_refusal};
+ghost use Rattle.kcl_defs.specs.Consumers.{progress_of, after_loss, first_position, last_number_in, target_of, given};
+ghost use Rattle.kcl_defs.specs.Consumers.{given_after, after_give, after_mark, after_read, progress_over};
+ghost use Rattle.kcl_defs.specs.Consumers.{progress_refused};
 ghost use Rattle.kcl_defs.specs.Workers.{is_giving_stage, is_writing};
 ghost use Rattle.kds_defs.specs.Kinds.{is_service};
 ghost use Rattle.kds_defs.specs.Lawful.{IsLawfulCommand, IsLimit};
@@ -22,7 +23,7 @@ ghost use Rattle.kcl_consumer.specs.Standing.{HasCalled, IsAsBefore, StandsFor};
 ghost use Rattle.kcl_consumer.specs.Fetchings.{IsFetching};
 
 use crate::ahead::Ahead;
-use crate::positions::{first_place, last_in};
+use crate::positions::{first_position, last_in};
 use crate::processor::Processor;
 use crate::stage::ConsumerStage;
 use kcl_defs::{Ask, Due, Fetched, Progress, Tenancy, Why};
@@ -96,7 +97,7 @@ fn stage_after_give(ahead: &Ahead, ended: bool, asked: Option<Target>, lost: boo
 
 /// Returns the consumer's stage after the answer to a Give. If the Give was accepted, the first batch is removed from
 /// the ring.
-fn after_giving(
+fn after_give(
     ahead: &mut Ahead,
     asked: Option<Target>,
     lost: bool,
@@ -134,10 +135,10 @@ fn last_after(ahead: &Ahead, given: Option<Seq>, answer: &Answer) -> Option<Seq>
 
 /// Returns the consumer's stage and progress after the answer to the Mark with which the consumer sets the checkpoint
 /// that its processor asked for.
-fn after_marking(ahead: &Ahead, answer: &Answer) -> (ConsumerStage, Progress)
+fn after_mark(ahead: &Ahead, answer: &Answer) -> (ConsumerStage, Progress)
     ensures stage { (reach : ℕ) → stage_of result.0 reach ahead.now None false ≡ after_mark reach ahead.now answer.now }
     ensures kept { IsKept result.0 ahead.now }
-    ensures told { result.1 ≡ told_refusal answer.now }
+    ensures told { result.1 ≡ progress_refused answer.now }
 {
     match answer {
         Ok(_) => (ahead.front_stage(), Progress::Going),
@@ -148,11 +149,11 @@ fn after_marking(ahead: &Ahead, answer: &Answer) -> (ConsumerStage, Progress)
 }
 
 /// Returns the consumer's stage and progress after the answer to its OpenShard.
-fn after_opening(answer: Answer) -> (ConsumerStage, Progress)
+fn after_open(answer: Answer) -> (ConsumerStage, Progress)
     ensures stage { (reach : ℕ) (waiting : List Fetched) (asked : Option Target) (lost : Bool)
         → stage_of result.0 reach waiting asked lost ≡ after_open answer }
     ensures kept { (waiting : List Fetched) → waiting ≡ [] → IsKept result.0 waiting }
-    ensures told { result.1 ≡ told_over (over_at (after_open answer)) }
+    ensures told { result.1 ≡ progress_over (over_at (after_open answer)) }
 {
     let after = match &answer {
         Ok(_) => (ConsumerStage::Starting, Progress::Going),
@@ -168,11 +169,11 @@ fn after_opening(answer: Answer) -> (ConsumerStage, Progress)
 
 /// Returns the consumer's stage and progress after the answer to the Mark with which the consumer sets the checkpoint
 /// to the shard's end.
-fn after_ending(answer: Answer) -> (ConsumerStage, Progress)
+fn after_end(answer: Answer) -> (ConsumerStage, Progress)
     ensures stage { (reach : ℕ) (waiting : List Fetched) (asked : Option Target) (lost : Bool)
         → stage_of result.0 reach waiting asked lost ≡ after_end answer }
     ensures kept { (waiting : List Fetched) → IsKept result.0 waiting }
-    ensures told { result.1 ≡ told_over (over_at (after_end answer)) }
+    ensures told { result.1 ≡ progress_over (over_at (after_end answer)) }
 {
     let after = match &answer {
         Ok(_) => (ConsumerStage::Over(Why::Ended), Progress::Over(Why::Ended)),
@@ -183,9 +184,9 @@ fn after_ending(answer: Answer) -> (ConsumerStage, Progress)
 }
 
 /// Returns the progress of a consumer that gets an answer although it awaits none in its stage. The answer is dropped.
-fn told_over(stage: ConsumerStage, answer: Answer) -> Progress
+fn progress_over(stage: ConsumerStage, answer: Answer) -> Progress
     ensures { (reach : ℕ) (waiting : List Fetched) (asked : Option Target) (lost : Bool)
-        → result ≡ told_over (over_at (stage_of stage reach waiting asked lost)) }
+        → result ≡ progress_over (over_at (stage_of stage reach waiting asked lost)) }
 {
     let_go(answer);
     match stage {
@@ -206,20 +207,20 @@ fn forget(asked: &mut Option<Target>, lost: &mut bool)
 
 /// Returns the consumer's stage and read position after the answer to a Read. `reach` is the read position before the
 /// Read. If the answer has a batch, the batch is added to the ring.
-fn after_reading(ahead: &mut Ahead, limit: u32, reach: u64, answer: Answer) -> (ConsumerStage, u64)
+fn after_read(ahead: &mut Ahead, limit: u32, reach: u64, answer: Answer) -> (ConsumerStage, u64)
     requires { length ahead.old < PENDING_READS }
     ensures stage { stage_of result.0 result.1 ahead.new None false ≡ after_read limit reach ahead.old answer }
     ensures going { over_at (after_read limit reach ahead.old answer) ≡ None }
     ensures kept { IsKept result.0 ahead.new }
 {
     match fetched_of(answer) {
-        Fetching::Read(f, place) => {
+        Fetching::Read(f, next) => {
             let filled = ahead.is_filled(&f, limit);
             ahead.add(f);
             if filled {
-                (ahead.front_stage(), place)
+                (ahead.front_stage(), next)
             } else {
-                (ConsumerStage::Filling, place)
+                (ConsumerStage::Filling, next)
             }
         }
         Fetching::Nothing => (ConsumerStage::Filling, reach),
@@ -244,9 +245,9 @@ pub struct Consumer<P> {
 }
 
 impl<P> Model for Consumer<P> {
-    ghost use Rattle.kcl_consumer.specs.Standing.{Standing};
+    ghost use Rattle.kcl_consumer.specs.Standing.{ConsumerValue};
 
-    ghost Value = { Standing P };
+    ghost Value = { ConsumerValue P };
 
     ghost use Rattle.kcl_consumer.specs.Stages.{stage_of, IsKept};
     ghost use Rattle.kds_defs.specs.Lawful.{IsLimit};
@@ -412,7 +413,7 @@ impl<P: Processor> Consumer<P> {
         match self.stage {
             ConsumerStage::Starting => {
                 self.processor.initialize(self.made.key, self.made.start)?;
-                self.reach = first_place(self.made.start);
+                self.reach = first_position(self.made.start);
                 self.stage = ConsumerStage::Filling;
             }
             ConsumerStage::Holding => {
@@ -449,13 +450,13 @@ impl<P: Processor> Consumer<P> {
     {
         match self.stage {
             ConsumerStage::Opening => {
-                let (stage, progress) = after_opening(answer);
+                let (stage, progress) = after_open(answer);
                 self.stage = stage;
                 progress
             }
             ConsumerStage::Filling => {
                 let limit = self.made.limit;
-                let (stage, reach) = after_reading(&mut self.ahead, limit, self.reach, answer);
+                let (stage, reach) = after_read(&mut self.ahead, limit, self.reach, answer);
                 self.stage = stage;
                 forget(&mut self.asked, &mut self.lost);
                 self.reach = reach;
@@ -463,24 +464,24 @@ impl<P: Processor> Consumer<P> {
             }
             ConsumerStage::Giving => {
                 self.given = last_after(&self.ahead, self.given, &answer);
-                self.stage = after_giving(&mut self.ahead, self.asked, self.lost, &answer);
+                self.stage = after_give(&mut self.ahead, self.asked, self.lost, &answer);
                 forget(&mut self.asked, &mut self.lost);
                 let_go(answer);
                 Progress::Going
             }
             ConsumerStage::Marking(_) => {
-                let (stage, progress) = after_marking(&self.ahead, &answer);
+                let (stage, progress) = after_mark(&self.ahead, &answer);
                 self.stage = stage;
                 forget(&mut self.asked, &mut self.lost);
                 let_go(answer);
                 progress
             }
             ConsumerStage::MarkingEnd => {
-                let (stage, progress) = after_ending(answer);
+                let (stage, progress) = after_end(answer);
                 self.stage = stage;
                 progress
             }
-            stage => told_over(stage, answer),
+            stage => progress_over(stage, answer),
         }
     }
 
@@ -498,7 +499,7 @@ impl<P: Processor> Consumer<P> {
             ConsumerStage::Opening => self.stage = ConsumerStage::Over(Why::NeverOpened),
             ConsumerStage::Starting => self.stage = ConsumerStage::Over(Why::NeverOpened),
             ConsumerStage::Giving => {
-                if self.ahead.is_handed() {
+                if self.ahead.was_handed() {
                     self.lost = true;
                 } else {
                     self.stage = ConsumerStage::Leaving(Why::Lost);

@@ -13,5 +13,5 @@ pub use ahead::Ahead;
 pub use consumer::{Consumer, life};
 pub use kcl_defs::{Ask, Call, Due, Progress, Why};
 pub use laws::never_full;
-pub use positions::{first_place, last_in};
+pub use positions::{first_position, last_in};
 pub use processor::{Maker, Processor};

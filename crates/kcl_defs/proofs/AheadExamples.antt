@@ -28,7 +28,7 @@ waits batch = record { batch = batch; ended = false }
 
 -- The answer to a Read that didn't end the shard: the batch `batch`, and the position `position` after the batch.
 abbrev read : List Stored → ℕ → Event
-read batch place = Answered (Ok (reply.Read batch place false))
+read batch position = Answered (Ok (reply.Read batch position false))
 
 -- After two reads of full batches, both batches wait, and the consumer reads on.
 reading_on : (r : Stored) → stage_after made (read (full r) 5 ∷ read (full r) 3 ∷ started)

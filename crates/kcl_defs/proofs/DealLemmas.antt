@@ -29,12 +29,13 @@ use Rattle.kds_defs.specs.Leases.{with_opened, with_read, with_given, row, check
 use Rattle.kds_defs.specs.LeaseCommands.{take_lease, open_shard, read, give}
 use Rattle.kds_defs.specs.Listings.{ends_at}
 use Rattle.kcl_defs.specs.Lives.{Deal, deals_of, reads_of, reads_in, gives_of, gives_in, give_in}
-use Rattle.kds_defs.specs.Records.{Logged, stored, numbers_of, batch, place_after}
+use Rattle.kds_defs.specs.Records.{Logged, stored, numbers_of, batch, position_after}
 use Rattle.kds_defs.specs.Shards.{shard_at}
 use Rattle.kds_defs.proofs.Counted.{numbers_stored}
 use Rattle.kds_defs.proofs.Leads.{Leads, leads_so, past_none, past_test, past_the_parents}
 use Rattle.kds_defs.proofs.Walk.{Outcome, IsAdded, Alone, Answers, Adds, Creates, Takes, Surveys, each_line, walk}
-use Rattle.kcl_defs.proofs.WorkerLemmas.{begins, was_taken, IsNewTenure, AreNewTenures, IsQuiet}
+use Rattle.kcl_defs.proofs.KnownLemmas.{IsQuiet}
+use Rattle.kcl_defs.proofs.FineLemmas.{AreNewTenures, IsNewTenure, begins, was_taken}
 use Rattle.kcl_defs.specs.WorkerLives.{read_done, AreOfTenure}
 
 -- ---- Lines that change no tenure
@@ -348,13 +349,13 @@ map-append (x ∷ xs) ys = ap (λ l. read_done x ∷ l) (map-append xs ys)
 
 -- The commands of the actor `by` agree with its own tenure `t` (`AgreeWith`) after its accepted read of this tenure.
 agree_read : (by t : ℕ) (deals : List Deal) (T : TenureState) (rs : List Logged) (ended : Bool) (what : Command)
-    (place : ℕ) → (T.by == by) ≡ true
-    → reads_of t what (Ok (reply.Read (map stored rs) place ended)) ≡ record { batch = map stored rs; ended = ended }
+    (next : ℕ) → (T.by == by) ≡ true
+    → reads_of t what (Ok (reply.Read (map stored rs) next ended)) ≡ record { batch = map stored rs; ended = ended }
     ∷ []
-    → gives_of t what (Ok (reply.Read (map stored rs) place ended)) ≡ 0 → AgreeWith by t deals (Some T)
-    → AgreeWith by t (with_answer what (Ok (reply.Read (map stored rs) place ended)) deals)
+    → gives_of t what (Ok (reply.Read (map stored rs) next ended)) ≡ 0 → AgreeWith by t deals (Some T)
+    → AgreeWith by t (with_answer what (Ok (reply.Read (map stored rs) next ended)) deals)
     (Some (with_read (numbers_of rs) ended T))
-agree_read by t deals T rs ended what place own one none h = (
+agree_read by t deals T rs ended what next own one none h = (
   λ e. (
     ap (λ xs. map read_done (reads_in t deals ++ xs)) one
         ∙ map-append (reads_in t deals) (record { batch = map stored rs; ended = ended } ∷ [])
@@ -366,25 +367,25 @@ agree_read by t deals T rs ended what place own one none h = (
   λ e. absurd (apart_tests (T.by == by) own e),
 )
 
-read_at : (by actor which t position limit place : ℕ) (deals : List Deal) (before found : Option TenureState)
+read_at : (by actor which t position limit next : ℕ) (deals : List Deal) (before found : Option TenureState)
     (T : TenureState) (rs : List Logged)
     (ended : Bool) (b : Bool) → (which == t) ≡ b → (b ≡ true → before ≡ Some T) → (T.by == actor) ≡ true
     → (actor == by) ≡ true → AgreeWith by t deals before
-    → AgreeWith by t (with_answer (command.Read which position limit) (Ok (reply.Read (map stored rs) place ended))
+    → AgreeWith by t (with_answer (command.Read which position limit) (Ok (reply.Read (map stored rs) next ended))
     deals)
     (cond b (option_map (with_read (numbers_of rs) ended) before) before)
-read_at by actor which t position limit place deals before found T rs ended true e is a o h =
+read_at by actor which t position limit next deals before found T rs ended true e is a o h =
     let P : Option TenureState → Type 0 = λ x. AgreeWith by t
-    (with_answer (command.Read which position limit) (Ok (reply.Read (map stored rs) place ended)) deals)
+    (with_answer (command.Read which position limit) (Ok (reply.Read (map stored rs) next ended)) deals)
     (option_map (with_read (numbers_of rs) ended) x) in
     subst P (sym (is refl))
-    (agree_read by t deals T rs ended (command.Read which position limit) place (own_actor T.by actor by a o)
+    (agree_read by t deals T rs ended (command.Read which position limit) next (own_actor T.by actor by a o)
     (ap (λ c. cond c (record { batch = map stored rs; ended = ended } ∷ []) []) e) refl
     (subst (λ x. AgreeWith by t deals x) (is refl) h))
-read_at by actor which t position limit place deals before found T rs ended false e is a o h =
+read_at by actor which t position limit next deals before found T rs ended false e is a o h =
     agree_still by t (record {
       what = command.Read which position limit;
-      answer = Ok (reply.Read (map stored rs) place ended);
+      answer = Ok (reply.Read (map stored rs) next ended);
     }) deals before refl
     (ap (λ c. cond c (record { batch = map stored rs; ended = ended } ∷ []) []) e) refl h
 
@@ -418,8 +419,8 @@ read_own by actor c which position limit deals log t own h =
     (λ a. past_test P refused _ _ _
     (λ b. past_test P refused _ _ _ (λ d. past_test P refused _ _ _ (λ f. past_test P refused _ _ _ (λ g.
     let rs = batch log c T.key.stream T.key.shard (reach T) limit in
-    read_at by actor which t position limit (place_after (reach T) (numbers_of rs)) deals (tenure log t) None T rs
-    (ends_at log c T.key.stream T.key.shard (place_after (reach T) (numbers_of rs))) (which == t) refl
+    read_at by actor which t position limit (position_after (reach T) (numbers_of rs)) deals (tenure log t) None T rs
+    (ends_at log c T.key.stream T.key.shard (position_after (reach T) (numbers_of rs))) (which == t) refl
     (λ x. same_tenure log which t T e x) (not-false (T.by == actor) a) own (h t)))))))
 
 -- If the tenure `t` belongs to another actor, the commands of the actor `by` still agree with it (`AgreeWith`) after
@@ -453,7 +454,7 @@ read_other by actor c which position limit deals log t other h =
     (λ b. past_test P refused _ _ _ (λ d. past_test P refused _ _ _ (λ f. past_test P refused _ _ _ (λ g.
     let rs = batch log c T.key.stream T.key.shard (reach T) limit in
     other_at (with_read (numbers_of rs)
-    (ends_at log c T.key.stream T.key.shard (place_after (reach T) (numbers_of rs)))) (λ T. refl) by actor t deals
+    (ends_at log c T.key.stream T.key.shard (position_after (reach T) (numbers_of rs)))) (λ T. refl) by actor t deals
     (tenure log t) T (which == t)
     (λ x. same_tenure log which t T e x) (not-false (T.by == actor) a) other (h t)))))))
 

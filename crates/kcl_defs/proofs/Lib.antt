@@ -2,6 +2,8 @@ pub mod AheadExamples
 pub mod LifeLemmas
 pub mod StepLemmas
 pub mod WorkerExamples
+pub mod KnownLemmas
+pub mod FineLemmas
 pub mod WorkerLemmas
 pub mod DealLemmas
 pub mod SettledLemmas

@@ -349,8 +349,8 @@ stays made waiting reads gives calls h = still (λ rs n. Stands made waiting [] 
 read_answered : (made : Tenancy) (reach : ℕ) (waiting : List Fetched) (answer : Result Reply Refusal)
     (reads : List Fetched) (gives : ℕ) (calls : List Call) → Stands made waiting [] [] reads gives calls
     → Holds made (after_read made.limit reach waiting answer) (reads ++ read_in answer) (gives + 0) calls
-read_answered made reach waiting (Ok (reply.Read batch place ended)) reads gives calls h =
-    fetches made place waiting (record { batch = batch; ended = ended }) reads gives calls h
+read_answered made reach waiting (Ok (reply.Read batch position ended)) reads gives calls h =
+    fetches made position waiting (record { batch = batch; ended = ended }) reads gives calls h
 read_answered made reach waiting (Ok _) reads gives calls h = stays made waiting reads gives calls h
 read_answered made reach waiting (Err refusal.ShardGone) reads gives calls h = no_room made waiting reads gives calls h
 read_answered made reach waiting (Err _) reads gives calls h = no_room made waiting reads gives calls h

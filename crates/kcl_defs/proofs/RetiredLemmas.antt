@@ -24,7 +24,7 @@ use Rattle.kcl_defs.specs.Workers.{Known, Pending, Chore, Surveying, Syncing, Ta
 use Rattle.kcl_defs.specs.Workers.{Freeing, WorkerState, WorkerEvent, Made_call, Gave_command, Got_answer, Stopped}
 use Rattle.kcl_defs.specs.Workers.{Released, Release, released, without_release, WorkerPast, worker_after}
 use Rattle.kcl_defs.specs.Workers.{after_worker_event, deals_after, deals_with, id_of, id_of_held, same_id, with_event}
-use Rattle.kcl_defs.specs.Workers.{happens_to, happens_to_first, is_due_known, settled, is_over, known_of}
+use Rattle.kcl_defs.specs.Workers.{happens_to, happens_to_first, is_due_known, after_retiring, is_over, known_of}
 use Rattle.kcl_defs.specs.Workers.{consumer_command, stage_of_known, counter_of, after_survey, after_renewal}
 use Rattle.kcl_defs.specs.Workers.{after_take, after_chore, absorbed, with_deal, consumed, is_of, still_stands, AtTakes}
 use Rattle.kcl_defs.specs.Workers.{AtRenewals, AtStopping}
@@ -34,9 +34,9 @@ use Rattle.kcl_defs.proofs.SettledLemmas.{Settles, IsSettled, refused_at, was_re
 use Rattle.kcl_defs.proofs.GiveLemmas.{IsGiveTaken, AreGivesTaken, gives_taken}
 use Rattle.kcl_defs.proofs.DealLemmas.{new_tenures}
 use Rattle.kcl_defs.proofs.TenancyLemmas.{all_both, all_tenures, begun_told}
-use Rattle.kcl_defs.proofs.WorkerLemmas.{InStep, AreNewTenures, IsFine, IsOwnCommand, IsWaitingOk, all_append}
-use Rattle.kcl_defs.proofs.WorkerLemmas.{all_event, all_filter, all_first, all_with_known, all_without, fine}
-use Rattle.kcl_defs.proofs.WorkerLemmas.{live_served, new_before}
+use Rattle.kcl_defs.proofs.KnownLemmas.{InStep, all_append, all_event, all_filter, all_first, all_with_known}
+use Rattle.kcl_defs.proofs.FineLemmas.{AreNewTenures, IsFine, IsOwnCommand, IsWaitingOk}
+use Rattle.kcl_defs.proofs.WorkerLemmas.{all_without, fine, live_served, new_before}
 
 -- ---- A Give of a consumer that has a batch to give isn't refused
 
@@ -113,7 +113,7 @@ all_passed p (x ∷ xs) = head (p x) refl (all_passed p xs)
     head false e rest = rest
 
 settle_unrefused : (w : WorkerState) → AreUnrefused w.consumers w.retired
-    → AreUnrefused (settled w).consumers (settled w).retired
+    → AreUnrefused (after_retiring w).consumers (after_retiring w).retired
 settle_unrefused w u = record {
   live = all_filter IsUnrefused (λ k. not (is_over k)) w.consumers u.live;
   over = all_append IsUnrefused w.retired (filter is_over w.consumers) u.over

@@ -134,14 +134,14 @@ still P reads gives h =
 read_answered : (made : Tenancy) (reach : ℕ) (waiting : List Fetched) (answer : Result Reply Refusal)
     (reads : List Fetched) (gives : ℕ) (calls : List Call) → Stands made waiting [] [] reads gives calls
     → Settles made (after_read made.limit reach waiting answer) (reads ++ read_in answer) (gives + 0) calls
-read_answered made reach waiting (Ok (reply.Read batch place ended)) reads gives calls h =
+read_answered made reach waiting (Ok (reply.Read batch position ended)) reads gives calls h =
     choice (is_filled made.limit (length waiting + 1) (record { batch = batch; ended = ended }))
   where
     choice : (b : Bool) → Settles made
-        (if b then front place (waiting ++ (record { batch = batch; ended = ended } ∷ [])) else Filling place
+        (if b then front position (waiting ++ (record { batch = batch; ended = ended } ∷ [])) else Filling position
         (waiting ++ (record { batch = batch; ended = ended } ∷ [])))
         (reads ++ (record { batch = batch; ended = ended } ∷ [])) (gives + 0) calls
-    choice true = fronts made place (waiting ++ (record { batch = batch; ended = ended } ∷ []))
+    choice true = fronts made position (waiting ++ (record { batch = batch; ended = ended } ∷ []))
         (reads ++ (record { batch = batch; ended = ended } ∷ [])) (gives + 0) calls
     choice false = tt
 read_answered made reach waiting (Ok _) reads gives calls h = tt

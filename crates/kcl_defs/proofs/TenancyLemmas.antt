@@ -32,14 +32,14 @@ use Rattle.kcl_defs.specs.Workers.{Known, Pending, Chore, Surveying, Syncing, Ta
 use Rattle.kcl_defs.specs.Workers.{Freeing, WorkerState, WorkerEvent, Made_call, Gave_command, Got_answer, Stopped}
 use Rattle.kcl_defs.specs.Workers.{Released, Release, released, without_release, WorkerPast, worker_after}
 use Rattle.kcl_defs.specs.Workers.{after_worker_event, deals_after, deals_with, id_of, id_of_held, same_id}
-use Rattle.kcl_defs.specs.Workers.{is_due_known, settled, is_over, consumer_command, known_of, pending_of}
+use Rattle.kcl_defs.specs.Workers.{is_due_known, after_retiring, is_over, consumer_command, known_of, pending_of}
 use Rattle.kcl_defs.specs.Workers.{pending_chore, chore_at, after_survey, after_renewal, after_take, after_chore}
 use Rattle.kcl_defs.specs.Workers.{absorbed, with_deal, consumed, is_of, still_stands, AtTakes, AtRenewals, AtStopping}
 use Rattle.kcl_defs.specs.Workers.{happens_to, happens_to_first}
 use Rattle.kcl_defs.specs.WorkerLives.{IsOfTenure, IsToldIn}
 use Rattle.kds_defs.proofs.Leads.{Leads, leads_so, past_none, past_test}
 use Rattle.kcl_defs.proofs.DealLemmas.{unborn}
-use Rattle.kcl_defs.proofs.WorkerLemmas.{all_append, all_event, all_filter, all_first, all_map, all_with_known}
+use Rattle.kcl_defs.proofs.KnownLemmas.{all_append, all_event, all_filter, all_first, all_map, all_with_known}
 use Rattle.kcl_defs.proofs.WorkerLemmas.{all_without}
 
 -- ---- A tenure of the journal keeps its actor, its key and its starting checkpoint
@@ -215,7 +215,7 @@ one_more deal deals xs h = all_map (IsBegun deals) (IsBegun (deal ∷ deals)) xs
 
 settle_begun : (deals : List Deal) (w : WorkerState) → AllByRecursion (IsBegun deals) w.consumers
     → AllByRecursion (IsBegun deals) w.retired
-    → IsTakeWaiting w.waiting → AreBegun deals (settled w)
+    → IsTakeWaiting w.waiting → AreBegun deals (after_retiring w)
 settle_begun deals w live over waits = record {
   live = all_filter (IsBegun deals) (λ k. not (is_over k)) w.consumers live;
   over = all_append (IsBegun deals) w.retired (filter is_over w.consumers) over
@@ -246,7 +246,7 @@ chore_waits made w (Some (Freeing h)) = tt
 survey_begun : (made : WorkerMade) (now : ℕ) (answer : Result Reply Refusal) (deals : List Deal) (w : WorkerState)
     → w.waiting ≡ None
     → AllByRecursion (IsBegun deals) w.consumers → AllByRecursion (IsBegun deals) w.retired
-    → AreBegun deals (settled (after_survey made now answer w))
+    → AreBegun deals (after_retiring (after_survey made now answer w))
 survey_begun made now (Ok (reply.Survey shards rows)) deals w none live over =
     settle_begun deals (after_survey made now (Ok (reply.Survey shards rows)) w)
     (all_event (IsBegun deals) (is_of (filter (λ h. not (still_stands rows h)) w.held)) Losing w.consumers (λ k b. b)
@@ -261,7 +261,7 @@ take_begun : (made : WorkerMade) (now : ℕ) (step : TakeStep) (what : Command) 
     → w.waiting ≡ None → ((counter : ℕ) × (owner : ℕ) × (what ≡ command.Take step.key counter owner))
     → AllByRecursion (IsBegun deals) w.consumers
     → AllByRecursion (IsBegun deals) w.retired
-    → AreBegun (record { what = what; answer = answer } ∷ deals) (settled (after_take made now step answer w))
+    → AreBegun (record { what = what; answer = answer } ∷ deals) (after_retiring (after_take made now step answer w))
 take_begun made now step what (Ok (reply.Taken tenure counter start)) deals w none is live over =
     let deal : Deal = record { what = what; answer = Ok (reply.Taken tenure counter start) } in
     let k : Known = record {
@@ -290,7 +290,7 @@ take_begun made now step what (Err r) deals w none is live over =
 renewal_begun : (now : ℕ) (h : Held) (answer : Result Reply Refusal) (deals : List Deal) (w : WorkerState)
     → w.waiting ≡ None
     → AllByRecursion (IsBegun deals) w.consumers → AllByRecursion (IsBegun deals) w.retired
-    → AreBegun deals (settled (after_renewal now h answer w))
+    → AreBegun deals (after_retiring (after_renewal now h answer w))
 renewal_begun now h (Ok (reply.Counter counter)) deals w none live over =
     settle_begun deals (after_renewal now h (Ok (reply.Counter counter)) w) live over
     (subst IsTakeWaiting (sym none) tt)
@@ -310,7 +310,7 @@ chore_begun : (made : WorkerMade) (now : ℕ) (answer : Result Reply Refusal) (d
     (what : Command) (w : WorkerState)
     → w.waiting ≡ None → IsTakeOf chore what → AllByRecursion (IsBegun deals) w.consumers
     → AllByRecursion (IsBegun deals) w.retired
-    → AreBegun (record { what = what; answer = answer } ∷ deals) (settled (after_chore made now answer chore w))
+    → AreBegun (record { what = what; answer = answer } ∷ deals) (after_retiring (after_chore made now answer chore w))
 chore_begun made now answer deals Surveying what w none is live over =
     let deal : Deal = record { what = what; answer = answer } in
     survey_begun made now answer (deal ∷ deals) w none (one_more deal deals w.consumers live)

@@ -1,8 +1,8 @@
 //! The open shards of a drill's stream, computed from the drill's own commands. A drill is a self-test whose input is
 //! generated from a number.
 ghost use Rattle.std.specs.Prelude.{◌≡◌, ◌+◌, ◌-◌, true, ◌==◌, ◌<◌, IfOk, OnOk, OnErr, [], ◌^◌, Some};
-ghost use Rattle.kds_base.specs.Span.{follows, is_inside};
-ghost use Rattle.kcl_drill.specs.Generated.{first_open, is_lowest, lowest, next_to, without, after_split, after_merge};
+ghost use Rattle.kds_base.specs.Span.{is_followed_by, is_inside};
+ghost use Rattle.kcl_drill.specs.Generated.{first_open, is_lowest, lowest, next_to, all_but, after_split, after_merge};
 
 use crate::limits::FIRST_SHARDS;
 use kds_base::{Memory, Range};
@@ -39,15 +39,15 @@ fn is_lowest_of(all: &[OpenShard], x: &OpenShard) -> bool
 }
 
 /// Whether the range `s` starts right after the range `r` ends.
-fn is_next(r: &Range, s: &Range) -> bool
-    ensures { result ≡ follows r.now s.now }
+fn is_followed_by(r: &Range, s: &Range) -> bool
+    ensures { result ≡ is_followed_by r.now s.now }
 {
     r.end < s.start && s.start - r.end == 1
 }
 
 /// Returns the shards in `all` whose number isn't `no`.
 fn all_but(alloc: Global, all: &[OpenShard], no: u64) -> Result<Vec<OpenShard>, Memory>
-    ensures { IfOk result (λ others. others.items ≡ without no all.now) }
+    ensures { IfOk result (λ others. others.items ≡ all_but no all.now) }
 {
     let mut others = Vec::new(alloc);
     for x in all {
@@ -106,7 +106,10 @@ impl OpenShards {
     pub fn next_to(&self, range: &Range) -> Option<OpenShard>
         ensures { result ≡ next_to range.now self.now.all }
     {
-        self.all.iter().copied().find(|y| is_next(range, &y.range))
+        self.all
+            .iter()
+            .copied()
+            .find(|y| is_followed_by(range, &y.range))
     }
 }
 
@@ -116,7 +119,7 @@ impl OpenShards {
     /// out, nothing changes.
     pub fn split(&mut self, alloc: Global, x: OpenShard, at: u128) -> Result<(), Memory>
         requires inside { is_inside x.range at ≡ true }
-        requires room { self.old.next + 1 < 2 ^ 64 - 1 }
+        requires unspent { self.old.next + 1 < 2 ^ 64 - 1 }
         ensures ok { OnOk result (self.new ≡ after_split self.old x at) }
         ensures err { OnErr result (self.new ≡ self.old) }
     {
@@ -142,8 +145,8 @@ impl OpenShards {
     /// Preconditions: the range of `y` starts right after that of `x` ends, and another shard number fits into 64 bits.
     /// If memory runs out, nothing changes.
     pub fn merge(&mut self, alloc: Global, x: OpenShard, y: OpenShard) -> Result<(), Memory>
-        requires adjacent { follows x.range y.range ≡ true }
-        requires room { self.old.next < 2 ^ 64 - 1 }
+        requires adjacent { is_followed_by x.range y.range ≡ true }
+        requires unspent { self.old.next < 2 ^ 64 - 1 }
         ensures ok { OnOk result (self.new ≡ after_merge self.old x y) }
         ensures err { OnErr result (self.new ≡ self.old) }
     {

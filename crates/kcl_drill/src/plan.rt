@@ -3,7 +3,7 @@
 ghost use Rattle.std.specs.Prelude.{◌≡◌, ◌<◌, IfOk, IfSome};
 ghost use Rattle.kds_defs.specs.declared.command.Command.{Command};
 ghost use Rattle.kds_defs.specs.Lawful.{IsLawfulCommand};
-ghost use Rattle.kcl_drill.specs.Generated.{is_bit_0, middle, merge_lowest, plan, command_of};
+ghost use Rattle.kcl_drill.specs.Generated.{is_bit_clear, middle, merge_lowest, plan, command_of};
 ghost use Rattle.kcl_drill.specs.Coming.{IsPossible};
 
 use crate::limits::{MOST_OPEN, RESHARD_EVERY};
@@ -31,7 +31,7 @@ pub fn middle_of(r: &Range) -> u128
 
 /// Whether bit 40 of `x` is 0. The lowest bit is bit 0.
 fn is_bit_40_clear(x: u64) -> bool
-    ensures { result ≡ is_bit_0 40 x }
+    ensures { result ≡ is_bit_clear 40 x }
 {
     (x >> 40) % 2 == 0
 }

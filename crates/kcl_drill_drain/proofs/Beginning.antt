@@ -22,14 +22,14 @@ use Rattle.kds_defs.specs.Journal.{Journal}
 use Rattle.kds_defs.specs.Keys.{same_key}
 use Rattle.kds_defs.specs.LeaseCommands.{open_shard}
 use Rattle.kds_defs.specs.RowWrites.{least}
-use Rattle.kds_defs.specs.Leases.{is_end, place_of, row, taken_count, taken_row}
+use Rattle.kds_defs.specs.Leases.{is_end, start_position, row, taken_count, taken_row}
 use Rattle.kds_defs.specs.Records.{Logged, next_number}
 use Rattle.kds_defs.specs.Shards.{start_of}
 use Rattle.kds_defs.specs.StreamCommands.{last_number}
-use Rattle.kcl_defs.specs.Consumers.{first_place}
+use Rattle.kcl_defs.specs.Consumers.{first_position}
 use Rattle.kcl_drill.specs.Summed.{last_checkpoint}
 use Rattle.kcl_laws.specs.Recorded.{HasFrom, RiseBetween}
-use Rattle.kcl_drill_summary.specs.Counting.{row_in}
+use Rattle.kcl_drill_summary.specs.Counting.{row_among}
 use Rattle.kcl_drill_summary.proofs.BatchLemmas.{IsUp, from, left_all}
 use Rattle.kcl_drill_summary.proofs.CountLemmas.{up_rising}
 use Rattle.kcl_drill_laws.specs.Holding.{Holding, Holds, IsOpenedSo, IsTakenSo, MayOpen, MayTake, begun_from}
@@ -95,7 +95,7 @@ module _ (w : Spot) (at : ℕ) (spot : IsSpot w at) (laws : HasLaws w.history (c
 
   -- If the rows of the keys before this one are drained and the others wait, this key's row is the one of the survey.
   seen_row : (now : Journal) (r : Row) → AreDrainedTo w.history w.keys w.among w.index now
-      → row_in w.among w.key ≡ Some r → (row now w.key ≡ Some r) × IsFresh w.history w.key r
+      → row_among w.among w.key ≡ Some r → (row now w.key ≡ Some r) × IsFresh w.history w.key r
   seen_row now r drained seen =
       let f = drained.waits w.index w.key (omega arith) spot.here in
       let e : f.now ≡ r = same_some f.now r (sym f.seen ∙ seen) in
@@ -105,12 +105,12 @@ module _ (w : Spot) (at : ℕ) (spot : IsSpot w at) (laws : HasLaws w.history (c
   -- Afterwards `IsTaken` holds for the new tenure.
   pub taken : (stands stands' : List Turn → Type 0) (by counter : ℕ) (key : ShardRef) (r : Row)
       (a : Result Reply Refusal) → TakeLaw → at < 2 ^ 62 → w.key ≡ key → r.counter ≡ counter
-      → row_in w.among w.key ≡ Some r → is_end r.checkpoint ≡ false
+      → row_among w.among w.key ≡ Some r → is_end r.checkpoint ≡ false
       → (l : Leads stands by at w.history (AreDrainedTo w.history w.keys w.among w.index))
       → Answered stands stands' (turn_of by at (command.Take key counter 1)) a
       → (t n : ℕ) × (a ≡ Ok (reply.Taken t n r.checkpoint))
       × Leads stands' by at w.history
-      (IsTaken w by r (record { tenure = t; place = first_place r.checkpoint; counter = n }))
+      (IsTaken w by r (record { tenure = t; position = first_position r.checkpoint; counter = n }))
   taken stands stands' by counter key r a law below same_k same_n seen going l answers =
       let now = journal (l.more ++ w.history) in
       let f = seen_row now r l.so seen in
@@ -123,7 +123,7 @@ module _ (w : Spot) (at : ℕ) (spot : IsSpot w at) (laws : HasLaws w.history (c
       let asked' = subst (λ k. Answered stands stands' (turn_of by at (command.Take k r.counter 1)) a) (sym same_k)
       asked in
       let held : DrainTenure =
-      record { tenure = taken_count now + 1; place = first_place r.checkpoint; counter = r.counter + 1 } in
+      record { tenure = taken_count now + 1; position = first_position r.checkpoint; counter = r.counter + 1 } in
       let one = led stands stands' by at w.history (command.Take w.key r.counter 1) a
       (AreDrainedTo w.history w.keys w.among w.index) (IsTaken w by r held)
       (Accepted (taken_line now (clock_at w at) by w.key r 1 ∷ [])
@@ -137,7 +137,7 @@ module _ (w : Spot) (at : ℕ) (spot : IsSpot w at) (laws : HasLaws w.history (c
         drained = l.so;
         number = refl;
         counter = refl;
-        place = refl;
+        position = refl;
         fresh = f.1;
       }) in
       (taken_count now + 1, r.counter + 1, one.0, one.1)
@@ -152,7 +152,8 @@ module _ (w : Spot) (at : ℕ) (spot : IsSpot w at) (laws : HasLaws w.history (c
   ends_so floor ShardEnd ends is =
       ap (λ b. if b then ShardEnd else last_checkpoint (records_of (journal w.history) w.key)) is
 
-  pub at_end : (stands : List Turn → Type 0) (by : ℕ) (r : Row) → row_in w.among w.key ≡ Some r
+  -- If the row of the key is at SHARD_END, it is drained without a turn.
+  pub at_end : (stands : List Turn → Type 0) (by : ℕ) (r : Row) → row_among w.among w.key ≡ Some r
       → is_end r.checkpoint ≡ true → Leads stands by at w.history (AreDrainedTo w.history w.keys w.among w.index)
       → IsDrainedHere stands w by at
   at_end stands by r seen ends l =
@@ -215,23 +216,23 @@ module _ (w : Spot) (at : ℕ) (spot : IsSpot w at) (laws : HasLaws w.history (c
   -- `cp` is at the shard's last record. The least number that may be marked isn't above this position or the shard's
   -- start, whichever is greater.
   record Begins (floor : ℕ) (cp : Checkpoint) : Type 0 where
-    place : place_of cp ≡ first_place cp
-    settled : left_of (journal w.history) (clock_at w at) w.key (place_of cp) ≡ []
+    position : start_position cp ≡ first_position cp
+    settled : left_of (journal w.history) (clock_at w at) w.key (start_position cp) ≡ []
         → cp ≡ last_checkpoint (records_of (journal w.history) w.key)
-    low : least cp floor ≤ max (place_of cp) (start_of (shard_of (journal w.history) w.key))
+    low : least cp floor ≤ max (start_position cp) (start_of (shard_of (journal w.history) w.key))
 
   -- If the checkpoint is one from which the shard can be drained (`IsStart`) and isn't SHARD_END, then `Begins` holds.
   begins : (floor : ℕ) (cp : Checkpoint) → is_end cp ≡ false
       → IsStart (shard_of (journal w.history) w.key) (records_of (journal w.history) w.key) floor cp → Begins floor cp
   begins floor TrimHorizon going is = record {
-    place = refl;
+    position = refl;
     settled = λ none. settled_horizon _ (records_of (journal w.history) w.key) up (sym (left_is 0) ∙ none);
     low = omega arith;
   }
   begins floor (At q) going is =
       let m = below_next q _ _ (records_of (journal w.history) w.key) (laws.drawn w.key.stream w.key.shard) is in
       record {
-        place = small q (next_number (journal w.history) w.key.stream) m (laws.fits w.key.stream);
+        position = small q (next_number (journal w.history) w.key.stream) m (laws.fits w.key.stream);
         settled = λ none. settled_at q _ (records_of (journal w.history) w.key) up is (sym (left_is (q + 1)) ∙ none);
         low = omega arith;
       }
@@ -272,7 +273,7 @@ module _ (w : Spot) (at : ℕ) (spot : IsSpot w at) (laws : HasLaws w.history (c
       (Stands w by x) (Accepted (opened_line before c by ∷ []) reply.Done) refl (below, tt) answers l
       decided (subst (λ log. Stands w by x (opened_line before c by ∷ log)) (sym t.is) stands_so) in
       let b = begins r.floor r.checkpoint going t.fresh.start in
-      let fewer = fewer_from (place_of r.checkpoint) (records_of (journal w.history) w.key) in
+      let fewer = fewer_from (start_position r.checkpoint) (records_of (journal w.history) w.key) in
       record {
         now = x;
         leads = one.1;
@@ -283,9 +284,9 @@ module _ (w : Spot) (at : ℕ) (spot : IsSpot w at) (laws : HasLaws w.history (c
           settled = b.settled;
           low = b.low;
           budget = within r.counter (length w.history) _ _ (length (records_of (journal w.history) w.key)) t.fresh.few
-              (ap length (left_is (place_of r.checkpoint))) fewer;
+              (ap length (left_is (start_position r.checkpoint))) fewer;
         };
-        is = record { tenure = sym t.number; place = b.place ∙ sym t.place; counter = sym t.counter };
+        is = record { tenure = sym t.number; position = b.position ∙ sym t.position; counter = sym t.counter };
       }
     where
       within : (n h left some all : ℕ) → n ≤ h → left ≡ some → some ≤ all → n + 1 + left ≤ h + 1 + all

@@ -26,16 +26,17 @@ Place : {A : Type 0} → List A → List A → ℕ → A → Type 0
 Place xs ys i x = ((i < length xs) × (slice_get xs i ≡ Some x))
     ⊎ ((j : ℕ) × (i ≡ length xs + j) × (slice_get ys j ≡ Some x))
 
-place_next : {A : Type 0} (y x : A) (xs ys : List A) (i : ℕ) → Place xs ys i x → Place (y ∷ xs) ys (suc i) x
+index_next : {A : Type 0} (y x : A) (xs ys : List A) (i : ℕ) → Place xs ys i x → Place (y ∷ xs) ys (suc i) x
 unfolding Place
-place_next y x xs ys i (inl at) = inl (omega (arith, at.0), at.1)
-place_next y x xs ys i (inr at) = inr (at.0, omega (arith, at.1), at.2)
+index_next y x xs ys i (inl at) = inl (omega (arith, at.0), at.1)
+index_next y x xs ys i (inr at) = inr (at.0, omega (arith, at.1), at.2)
 
-place : {A : Type 0} (xs ys : List A) (i : ℕ) (x : A) → slice_get (xs ++ ys) i ≡ Some x → Place xs ys i x
+-- An element of two lists together is in one of them (`Place`).
+index_in_both : {A : Type 0} (xs ys : List A) (i : ℕ) (x : A) → slice_get (xs ++ ys) i ≡ Some x → Place xs ys i x
 unfolding Place
-place [] ys i x is = inr (i, omega arith, is)
-place (y ∷ xs) ys zero x is = inl (omega arith, is)
-place (y ∷ xs) ys (suc i) x is = place_next y x xs ys i (place xs ys i x is)
+index_in_both [] ys i x is = inr (i, omega arith, is)
+index_in_both (y ∷ xs) ys zero x is = inl (omega arith, is)
+index_in_both (y ∷ xs) ys (suc i) x is = index_next y x xs ys i (index_in_both xs ys i x is)
 
 -- An element of the first list is at the same index in both lists together.
 in_left : {A : Type 0} (xs ys : List A) (i : ℕ) (x : A) → slice_get xs i ≡ Some x → slice_get (xs ++ ys) i ≡ Some x
@@ -171,7 +172,7 @@ module _ (log : Journal) (numbered : (s : ℕ) → AreNumbered 0 (shards log s))
   key_of_streams [] i key live is = absurd cc
   key_of_streams (s ∷ ss) i key live is =
       either (λ j there. key_of_streams ss j key live.1 there)
-      (place (refs_of s (shards log s)) (keys_in log ss) i key is)
+      (index_in_both (refs_of s (shards log s)) (keys_in log ss) i key is)
     where
       either : ((j : ℕ) → slice_get (keys_in log ss) j ≡ Some key → IsKeyOf log key)
           → Place (refs_of s (shards log s)) (keys_in log ss) i key → IsKeyOf log key
@@ -185,7 +186,7 @@ module _ (log : Journal) (numbered : (s : ℕ) → AreNumbered 0 (shards log s))
   from_streams [] n i key up is = absurd cc
   from_streams (s ∷ ss) n i key up is =
       either up.0 (λ j there. from_streams ss (s + 1) j key up.1 there)
-      (place (refs_of s (shards log s)) (keys_in log ss) i key is)
+      (index_in_both (refs_of s (shards log s)) (keys_in log ss) i key is)
     where
       either : n ≤ s → ((j : ℕ) → slice_get (keys_in log ss) j ≡ Some key → s + 1 ≤ key.stream)
           → Place (refs_of s (shards log s)) (keys_in log ss) i key → n ≤ key.stream
@@ -200,7 +201,8 @@ module _ (log : Journal) (numbered : (s : ℕ) → AreNumbered 0 (shards log s))
   unfolding Place
   older_in [] i p key below is = absurd cc
   older_in (s ∷ ss) i p key below is =
-      either (λ j there. older_in ss j p key below there) (place (refs_of s (shards log s)) (keys_in log ss) i key is)
+      either (λ j there. older_in ss j p key below there)
+      (index_in_both (refs_of s (shards log s)) (keys_in log ss) i key is)
     where
       either : ((k : ℕ) → slice_get (keys_in log ss) k ≡ Some key → (j : ℕ) × (j < k)
           × (slice_get (keys_in log ss) j ≡ Some (ref key.stream p)))
@@ -230,8 +232,9 @@ module _ (log : Journal) (numbered : (s : ℕ) → AreNumbered 0 (shards log s))
   unlike_in [] n i j a b up below is is' = absurd cc
   unlike_in (s ∷ ss) n i j a b up below is is' =
       either (λ p q lt there there'. unlike_in ss (s + 1) p q a b up.1 lt there there')
-      (λ q there'. from_streams ss (s + 1) q b up.1 there') (place (refs_of s (shards log s)) (keys_in log ss) i a is)
-      (place (refs_of s (shards log s)) (keys_in log ss) j b is')
+      (λ q there'. from_streams ss (s + 1) q b up.1 there')
+      (index_in_both (refs_of s (shards log s)) (keys_in log ss) i a is)
+      (index_in_both (refs_of s (shards log s)) (keys_in log ss) j b is')
     where
       other_shard : (p q m k : ℕ) → m ≡ 0 + p → k ≡ 0 + q → p < q → ((m == k) ≡ false) × ((k == m) ≡ false)
       other_shard p q m k e e' lt = (grind (arith, nat_tests), grind (arith, nat_tests))

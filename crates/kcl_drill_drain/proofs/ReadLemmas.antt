@@ -27,7 +27,7 @@ use Rattle.kds_defs.specs.LeaseCommands.{give, mark, read, read_reply}
 use Rattle.kds_defs.specs.RowWrites.{least}
 use Rattle.kds_defs.specs.Leases.{ReadDone, is_key, marked_row, row, taken_count}
 use Rattle.kds_defs.specs.Listings.{are_none, is_closed_at}
-use Rattle.kds_defs.specs.Records.{Logged, batch, beginning, numbers_of, place_after, stored}
+use Rattle.kds_defs.specs.Records.{Logged, batch, beginning, numbers_of, position_after, stored}
 use Rattle.kds_defs.specs.Shards.{start_of}
 use Rattle.kds_defs.specs.StreamCommands.{last_number}
 use Rattle.kcl_defs.specs.Consumers.{last_number_in}
@@ -55,7 +55,7 @@ use Rattle.kcl_drill_drain.proofs.Beginning.{left_is, not_last, up}
 -- if fewer reads wait to be given than may, and the shard is listed.
 abbrev pub ReadLaw : Type 0
 ReadLaw = (log : Journal) (c limit : ℕ) (x : Holding) → Holds log x → length x.waiting < PENDING_READS
-    → is_listed_key log c x.key ≡ true → read log c x.by x.tenure x.place limit ≡ read_here log c x limit
+    → is_listed_key log c x.key ≡ true → read log c x.by x.tenure x.position limit ≡ read_here log c x limit
 
 -- The second of these laws: after the line of the read `r`, the tenure is as `after_read` says.
 abbrev pub ReadState : Type 0
@@ -105,11 +105,12 @@ gave w at stands stands' by tenure x r a law state below waits same l answers =
     let now = journal (l.more ++ w.history) in
     let c = clock_at w at in
     let s = l.so in
-    let decided : give now c by tenure ≡ Accepted (given_line c x ∷ []) (reply.Given (place_after x.done r.numbers)) =
+    let decided : give now c by tenure
+    ≡ Accepted (given_line c x ∷ []) (reply.Given (position_after x.done r.numbers)) =
     ap (λ n. give now c n tenure) (sym s.own) ∙ ap (λ n. give now c x.by n) (sym same)
     ∙ law now c x r [] s.holds waits in
     (led stands stands' by at w.history (command.Give tenure) a (Stands w by x) (Stands w by (after_give x r []))
-    (Accepted (given_line c x ∷ []) (reply.Given (place_after x.done r.numbers))) refl (
+    (Accepted (given_line c x ∷ []) (reply.Given (position_after x.done r.numbers))) refl (
       below,
       tt,
     ) answers l decided
@@ -132,10 +133,10 @@ module _ (w : Spot) (at : ℕ) (spot : IsSpot w at) (laws : HasLaws w.history (c
       ≡ Accepted (read_line (clock_at w at) x READ (read_at w at x) ∷ []) (reply_at w at x)
   read_is now x is of_key =
       let c = clock_at w at in
-      ap (λ (k : ShardRef). read_reply now c x.by x.tenure READ k (batch now c k.stream k.shard x.place READ)
-      (place_after x.place (numbers_of (batch now c k.stream k.shard x.place READ)))) of_key
-      ∙ ap (λ bs. read_reply now c x.by x.tenure READ w.key bs (place_after x.place (numbers_of bs)))
-      (same_batch w.history c now is w.key.stream w.key.shard x.place READ)
+      ap (λ (k : ShardRef). read_reply now c x.by x.tenure READ k (batch now c k.stream k.shard x.position READ)
+      (position_after x.position (numbers_of (batch now c k.stream k.shard x.position READ)))) of_key
+      ∙ ap (λ bs. read_reply now c x.by x.tenure READ w.key bs (position_after x.position (numbers_of bs)))
+      (same_batch w.history c now is w.key.stream w.key.shard x.position READ)
       ∙ ap (λ b. Accepted (plain_line c x.by (entry.Read x.tenure READ b (numbers_of (batch_at w at x))) ∷ [])
       (reply.Read (map stored (batch_at w at x)) (reach_at w at x) b))
       (same_ends w.history c now is w.key.stream w.key.shard (reach_at w at x))
@@ -149,7 +150,7 @@ module _ (w : Spot) (at : ℕ) (spot : IsSpot w at) (laws : HasLaws w.history (c
   pub read_so : (stands stands' : List Turn → Type 0) (by : ℕ) (x : Holding) (held : DrainTenure)
       (a : Result Reply Refusal) → ReadLaw → ReadState → at < 2 ^ 62 → IsReady w at x → IsHeld x held
       → (l : Leads stands by at w.history (Stands w by x))
-      → Answered stands stands' (turn_of by at (command.Read held.tenure held.place READ)) a
+      → Answered stands stands' (turn_of by at (command.Read held.tenure held.position READ)) a
       → (a ≡ Ok (reply_at w at x)) × Leads stands' by at w.history (Stands w by (read_then w at x))
   read_so stands stands' by x held a law state below ready is l answers =
       let now = journal (l.more ++ w.history) in
@@ -158,14 +159,14 @@ module _ (w : Spot) (at : ℕ) (spot : IsSpot w at) (laws : HasLaws w.history (c
       let there = over stands by at w.history (Stands w by x) laws l in
       let open_now : is_listed_key now c x.key ≡ true =
       ap (is_listed_key now c) s.of_key ∙ listed w at spot laws now there in
-      let decided : read now c by held.tenure held.place READ
+      let decided : read now c by held.tenure held.position READ
       ≡ Accepted (read_line c x READ (read_at w at x) ∷ []) (reply_at w at x) =
-      ap (λ n. read now c n held.tenure held.place READ) (sym s.own)
-      ∙ ap (λ n. read now c x.by n held.place READ) (sym is.tenure)
-      ∙ ap (λ n. read now c x.by x.tenure n READ) (sym is.place)
+      ap (λ n. read now c n held.tenure held.position READ) (sym s.own)
+      ∙ ap (λ n. read now c x.by n held.position READ) (sym is.tenure)
+      ∙ ap (λ n. read now c x.by x.tenure n READ) (sym is.position)
       ∙ law now c READ x s.holds (no_wait (length x.waiting) (ap length ready.none_waits)) open_now
       ∙ read_is now x there s.of_key in
-      led stands stands' by at w.history (command.Read held.tenure held.place READ) a (Stands w by x)
+      led stands stands' by at w.history (command.Read held.tenure held.position READ) a (Stands w by x)
       (Stands w by (read_then w at x)) (Accepted (read_line c x READ (read_at w at x) ∷ []) (reply_at w at x)) refl
       (below, (omega arith, omega arith)) answers l decided
       (record {
@@ -179,7 +180,7 @@ module _ (w : Spot) (at : ℕ) (spot : IsSpot w at) (laws : HasLaws w.history (c
   pub read_result : {E : Type 0} (stands stands' : List Turn → Type 0) (by : ℕ) (x : Holding) (held : DrainTenure)
       (r : Result (Result Reply Refusal) E) → ReadLaw → ReadState → at < 2 ^ 62 → IsReady w at x → IsHeld x held
       → (l : Leads stands by at w.history (Stands w by x))
-      → Answers stands stands' (turn_of by at (command.Read held.tenure held.place READ)) r
+      → Answers stands stands' (turn_of by at (command.Read held.tenure held.position READ)) r
       → IfOk r (λ a. (a ≡ Ok (reply_at w at x)) × Leads stands' by at w.history (Stands w by (read_then w at x)))
   read_result stands stands' by x held (Ok a) law state below ready is l answers =
       read_so stands stands' by x held a law state below ready is l answers
@@ -228,10 +229,10 @@ module _ (w : Spot) (at : ℕ) (spot : IsSpot w at) (laws : HasLaws w.history (c
   -- empty and the position stays. `Records`: the last record of the batch has the number `q`, and the position rises.
   -- The tenure may mark `q` once the read is given, and is then ready for its next read.
   pub data Brought (x : Holding) : Type 0 where
-    Nothing : left_of (journal w.history) (clock_at w at) w.key x.place ≡ [] → last_at w at x ≡ None
-        → reach_at w at x ≡ x.place → Brought x
+    Nothing : left_of (journal w.history) (clock_at w at) w.key x.position ≡ [] → last_at w at x ≡ None
+        → reach_at w at x ≡ x.position → Brought x
     Records : (q : ℕ) → last_at w at x ≡ Some q → IsReady w at (after_mark (given_then w at x) (target.At q))
-        → MayMark (given_then w at x) (target.At q) → x.place < reach_at w at x → Brought x
+        → MayMark (given_then w at x) (target.At q) → x.position < reach_at w at x → Brought x
 
   not_less : (q n : ℕ) → n ≡ q + 1 → nat_le n q ≡ false
   not_less q n is = grind (arith, nat_tests)
@@ -243,25 +244,26 @@ module _ (w : Spot) (at : ℕ) (spot : IsSpot w at) (laws : HasLaws w.history (c
   brought_by : (x : Holding) (bs : List Logged) → batch_at w at x ≡ bs → IsReady w at x → Brought x
   brought_by x [] is ready =
       let all = records_of (journal w.history) w.key in
-      let none : beginning READ BATCH_BYTES (from x.place all) ≡ [] =
-      ap (beginning READ BATCH_BYTES) (sym (left_is w at spot laws x.place)) ∙ is in
-      let stop : nat_lt x.place (place_after x.place (numbers_of (beginning READ BATCH_BYTES (from x.place all))))
-      ≡ false = ap (λ ys. nat_lt x.place (place_after x.place (numbers_of ys))) none
-      ∙ not_under x.place x.place (omega arith) in
-      Nothing (left_is w at spot laws x.place
-      ∙ stuck 999 x.place (from x.place all) (up_from x.place _ all (up w at spot laws))
-      (sized_from x.place all (laws.sized w.key.stream w.key.shard)) stop)
-      (ap (λ ys. last_number_in (map stored ys)) is) (ap (λ ys. place_after x.place (numbers_of ys)) is)
+      let none : beginning READ BATCH_BYTES (from x.position all) ≡ [] =
+      ap (beginning READ BATCH_BYTES) (sym (left_is w at spot laws x.position)) ∙ is in
+      let stop : nat_lt x.position
+      (position_after x.position (numbers_of (beginning READ BATCH_BYTES (from x.position all))))
+      ≡ false = ap (λ ys. nat_lt x.position (position_after x.position (numbers_of ys))) none
+      ∙ not_under x.position x.position (omega arith) in
+      Nothing (left_is w at spot laws x.position
+      ∙ stuck 999 x.position (from x.position all) (up_from x.position _ all (up w at spot laws))
+      (sized_from x.position all (laws.sized w.key.stream w.key.shard)) stop)
+      (ap (λ ys. last_number_in (map stored ys)) is) (ap (λ ys. position_after x.position (numbers_of ys)) is)
   brought_by x (b ∷ bs) is ready =
       let all = records_of (journal w.history) w.key in
       let start = start_of (shard_of (journal w.history) w.key) in
-      let same : batch_at w at x ≡ beginning READ BATCH_BYTES (from x.place all) =
-      ap (beginning READ BATCH_BYTES) (left_is w at spot laws x.place) in
-      let f = batched READ BATCH_BYTES start x.place all b bs (up w at spot laws) (sym same ∙ is) in
+      let same : batch_at w at x ≡ beginning READ BATCH_BYTES (from x.position all) =
+      ap (beginning READ BATCH_BYTES) (left_is w at spot laws x.position) in
+      let f = batched READ BATCH_BYTES start x.position all b bs (up w at spot laws) (sym same ∙ is) in
       let q = last_seq b bs in
-      let reach : reach_at w at x ≡ q + 1 = ap (λ ys. place_after x.place (numbers_of ys)) same ∙ f.reach in
-      let done : place_after x.done (numbers_of (batch_at w at x)) ≡ reach_at w at x =
-      ap (λ p. place_after p (numbers_of (batch_at w at x))) ready.given in
+      let reach : reach_at w at x ≡ q + 1 = ap (λ ys. position_after x.position (numbers_of ys)) same ∙ f.reach in
+      let done : position_after x.done (numbers_of (batch_at w at x)) ≡ reach_at w at x =
+      ap (λ p. position_after p (numbers_of (batch_at w at x))) ready.given in
       let left : left_of (journal w.history) (clock_at w at) w.key (reach_at w at x) ≡ from (q + 1) all =
       left_is w at spot laws (reach_at w at x) ∙ ap (λ p. from p all) reach in
       Records q (ap (λ ys. last_number_in (map stored ys)) same ∙ f.number)
@@ -271,15 +273,15 @@ module _ (w : Spot) (at : ℕ) (spot : IsSpot w at) (laws : HasLaws w.history (c
         going = refl;
         settled = λ none. f.settled (sym left ∙ none);
         low = under q (reach_at w at x) start reach;
-        budget = less x.counter (length (from (q + 1) all)) (length (from x.place all)) _ _ _ (ap length left)
-            (ap length (left_is w at spot laws x.place)) f.fewer ready.budget;
+        budget = less x.counter (length (from (q + 1) all)) (length (from x.position all)) _ _ _ (ap length left)
+            (ap length (left_is w at spot laws x.position)) f.fewer ready.budget;
       }) (
         ready.going,
         not_less q _ (done ∙ reach),
         not_under q (least x.checkpoint x.floor)
-            (over_low (least x.checkpoint x.floor) (max x.place start) q ready.low f.above),
+            (over_low (least x.checkpoint x.floor) (max x.position start) q ready.low f.above),
       )
-      (beyond x.place start q (reach_at w at x) f.above reach)
+      (beyond x.position start q (reach_at w at x) f.above reach)
     where
       beyond : (p start q n : ℕ) → max p start ≤ q → n ≡ q + 1 → p < n
       beyond p start q n le is = omega arith
@@ -341,9 +343,10 @@ module _ (w : Spot) (at : ℕ) (spot : IsSpot w at) (laws : HasLaws w.history (c
   none_closed true b e h = absurd (apart b e h)
   none_closed false b e h = refl
 
-  -- If a read returned nothing and didn't end the shard, the shard is open, and its row has its final checkpoint.
-  pub stopped_final : (x : Holding) → IsReady w at x → left_of (journal w.history) (clock_at w at) w.key x.place ≡ []
-      → reach_at w at x ≡ x.place → ended_at w at x ≡ false → final_of (journal w.history) w.key ≡ x.checkpoint
+  -- If no record is left to read, and the read doesn't end the shard, then the row's checkpoint is the one of a shard
+  -- that was read to its end (`final_of`).
+  pub stopped_final : (x : Holding) → IsReady w at x → left_of (journal w.history) (clock_at w at) w.key x.position ≡ []
+      → reach_at w at x ≡ x.position → ended_at w at x ≡ false → final_of (journal w.history) w.key ≡ x.checkpoint
   stopped_final x ready none reach is =
       let left : left_of (journal w.history) (clock_at w at) w.key (reach_at w at x) ≡ [] =
       ap (left_of (journal w.history) (clock_at w at) w.key) reach ∙ none in
@@ -370,9 +373,9 @@ module _ (w : Spot) (at : ℕ) (spot : IsSpot w at) (laws : HasLaws w.history (c
   tenure_kept None x = refl
   tenure_kept (Some q) x = refl
 
-  place_kept : (o : Option ℕ) (x : Holding) → (marked_at o x).place ≡ x.place
-  place_kept None x = refl
-  place_kept (Some q) x = refl
+  position_kept : (o : Option ℕ) (x : Holding) → (marked_at o x).position ≡ x.position
+  position_kept None x = refl
+  position_kept (Some q) x = refl
 
   ended_kept : (o : Option ℕ) (x : Holding) → (marked_at o x).ended ≡ x.ended
   ended_kept None x = refl
@@ -420,7 +423,7 @@ module _ (w : Spot) (at : ℕ) (spot : IsSpot w at) (laws : HasLaws w.history (c
 
   -- If the read moved the tenure's position on, the tenure is ready for its next read after the mark (`ReadsOn`).
   pub goes_on : (stands : List Turn → Type 0) (by : ℕ) (held : DrainTenure) (x : Holding) → IsReady w at x
-      → x.place < held.place → IsHeld (marked_then w at x) held
+      → x.position < held.position → IsHeld (marked_then w at x) held
       → Leads stands by at w.history (Stands w by (marked_then w at x)) → ReadsOn stands w by at held
   goes_on stands by held x ready above is l =
       record { now = marked_then w at x; leads = l; ready = by_brought (brought x ready); is = is }
@@ -430,14 +433,14 @@ module _ (w : Spot) (at : ℕ) (spot : IsSpot w at) (laws : HasLaws w.history (c
 
       by_brought : Brought x → IsReady w at (marked_then w at x)
       by_brought (Nothing left none reach) =
-          absurd (no x.place held.place (marked_then w at x).place (reach_at w at x) above
-          (place_kept (last_at w at x) (given_then w at x)) reach is.place)
+          absurd (no x.position held.position (marked_then w at x).position (reach_at w at x) above
+          (position_kept (last_at w at x) (given_then w at x)) reach is.position)
       by_brought (Records q at_q next may beyond) =
           subst (λ o. IsReady w at (marked_at o (given_then w at x))) (sym at_q) next
 
   -- If the read didn't move the tenure's position on, and didn't end the shard, the key's row is drained.
   pub stops : (stands : List Turn → Type 0) (by : ℕ) (held : DrainTenure) (x : Holding) → IsReady w at x
-      → held.place ≤ x.place → ended_at w at x ≡ false → IsHeld (marked_then w at x) held
+      → held.position ≤ x.position → ended_at w at x ≡ false → IsHeld (marked_then w at x) held
       → Leads stands by at w.history (Stands w by (marked_then w at x)) → IsDrainedHere stands w by at
   stops stands by held x ready le ended is l = by_brought (brought x ready)
     where
@@ -449,8 +452,8 @@ module _ (w : Spot) (at : ℕ) (spot : IsSpot w at) (laws : HasLaws w.history (c
           drained_at stands by (marked_then w at x) l (stopped_final x ready left reach ended
           ∙ sym (ap (λ o. (marked_at o (given_then w at x)).checkpoint) none))
       by_brought (Records q at_q next may beyond) =
-          absurd (no x.place held.place (marked_then w at x).place (reach_at w at x) le
-          (place_kept (last_at w at x) (given_then w at x)) beyond is.place)
+          absurd (no x.position held.position (marked_then w at x).position (reach_at w at x) le
+          (position_kept (last_at w at x) (given_then w at x)) beyond is.position)
 
   -- After the next read of a tenure that is ready, this read is the only one that waits to be given.
   pub waits_for : (x : Holding) → IsReady w at x → (read_then w at x).waiting ≡ read_at w at x ∷ []
@@ -460,9 +463,9 @@ module _ (w : Spot) (at : ℕ) (spot : IsSpot w at) (laws : HasLaws w.history (c
   -- the position after the batch, and `n` the counter after the mark.
   pub held_then : (x : Holding) (held : DrainTenure) (reach n : ℕ) → IsHeld x held → reach ≡ reach_at w at x
       → n ≡ (marked_then w at x).counter
-      → IsHeld (marked_then w at x) (record { tenure = held.tenure; place = reach; counter = n })
+      → IsHeld (marked_then w at x) (record { tenure = held.tenure; position = reach; counter = n })
   held_then x held reach n is same counter = record {
     tenure = tenure_kept (last_at w at x) (given_then w at x) ∙ is.tenure;
-    place = place_kept (last_at w at x) (given_then w at x) ∙ sym same;
+    position = position_kept (last_at w at x) (given_then w at x) ∙ sym same;
     counter = sym counter;
   }

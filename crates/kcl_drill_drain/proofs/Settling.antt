@@ -8,13 +8,13 @@ use Rattle.std.proofs.lemmas.List.{append-nil, length-append}
 use Rattle.std.proofs.lemmas.Bool.{cond_both}
 use Rattle.kds_base.specs.declared.lease_key.Checkpoint.TheVariants.{TrimHorizon, At}
 use Rattle.kds_base.proofs.Facts.{le_so, above_so}
-use Rattle.kds_defs.specs.Records.{Logged, beginning, numbers_of, place_after, stored}
+use Rattle.kds_defs.specs.Records.{Logged, beginning, numbers_of, position_after, stored}
 use Rattle.kds_defs.specs.declared.reply.Stored.{Stored}
 use Rattle.kds_defs.proofs.Counted.{length_stored}
 use Rattle.kcl_defs.specs.Consumers.{last_number_in}
 use Rattle.kcl_drill.specs.Summed.{last_checkpoint}
 use Rattle.kcl_laws.specs.Recorded.{HasFrom}
-use Rattle.kcl_drill_summary.proofs.BatchLemmas.{IsUp, from, all_from, up_weaker, up_from, up_kept, parts, place_up}
+use Rattle.kcl_drill_summary.proofs.BatchLemmas.{IsUp, from, all_from, up_weaker, up_from, up_kept, parts, position_up}
 use Rattle.kcl_drill_summary.proofs.BatchLemmas.{from_twice}
 
 -- ---- When the drain of a row begins
@@ -67,19 +67,19 @@ last_from p m (r ∷ rs) x xs up are =
     from_head p r rs x xs (nat_le p r.seq) refl up.1 (λ so. last_from p (r.seq + 1) rs x xs up.1 so)
     (λ none. ap (from p) none) are
 
--- If a batch isn't empty and nothing is left after it, its last record is the last record of all.
-settled_batch : (limit room place m : ℕ) (rs : List Logged) (x : Logged) (xs : List Logged) → IsUp m rs
-    → beginning limit room (from place rs) ≡ x ∷ xs
-    → from (place_after place (numbers_of (beginning limit room (from place rs)))) rs ≡ []
-    → last_checkpoint (beginning limit room (from place rs)) ≡ last_checkpoint rs
-settled_batch limit room place m rs x xs up is none =
-    let ls = from place rs in
+-- If a batch isn't empty, and no record is left after it, then its last record is the last one of the shard.
+settled_batch : (limit room position m : ℕ) (rs : List Logged) (x : Logged) (xs : List Logged) → IsUp m rs
+    → beginning limit room (from position rs) ≡ x ∷ xs
+    → from (position_after position (numbers_of (beginning limit room (from position rs)))) rs ≡ []
+    → last_checkpoint (beginning limit room (from position rs)) ≡ last_checkpoint rs
+settled_batch limit room position m rs x xs up is none =
+    let ls = from position rs in
     let bs = beginning limit room ls in
-    let next = place_after place (numbers_of bs) in
-    let up' = up_from place m rs up in
-    let rest : from next ls ≡ [] = from_twice place next rs (place_up limit room place ls up') ∙ none in
-    let all : ls ≡ bs = parts limit room place ls up' ∙ ap (λ ys. bs ++ ys) rest ∙ append-nil bs in
-    ap last_checkpoint is ∙ sym (last_from place m rs x xs up (all ∙ is))
+    let next = position_after position (numbers_of bs) in
+    let up' = up_from position m rs up in
+    let rest : from next ls ≡ [] = from_twice position next rs (position_up limit room position ls up') ∙ none in
+    let all : ls ≡ bs = parts limit room position ls up' ∙ ap (λ ys. bs ++ ys) rest ∙ append-nil bs in
+    ap last_checkpoint is ∙ sym (last_from position m rs x xs up (all ∙ is))
 
 -- ---- The last record of a batch that isn't empty
 
@@ -113,7 +113,8 @@ unfolding last_seq
 checkpoint_is x [] = refl
 checkpoint_is x (y ∷ ys) = checkpoint_is y ys
 
-reach_is : (p : ℕ) (x : Logged) (xs : List Logged) → place_after p (numbers_of (x ∷ xs)) ≡ last_seq x xs + 1
+-- The position after a batch that isn't empty is one above the number of its last record.
+reach_is : (p : ℕ) (x : Logged) (xs : List Logged) → position_after p (numbers_of (x ∷ xs)) ≡ last_seq x xs + 1
 unfolding last_seq
 reach_is p x [] = refl
 reach_is p x (y ∷ ys) = reach_is (x.seq + 1) y ys
@@ -133,12 +134,15 @@ up_beginning (suc limit) room p (r ∷ rs) up =
     cond_both (nat_le r.bytes room) (r ∷ beginning limit (room - r.bytes) rs) [] (IsUp p) (λ fits. (up.0, rest))
     (λ full. tt)
 
-pub record IsBatchTo (start place : ℕ) (rs bs : List Logged) (q : ℕ) : Type 0 where
+-- `bs` is a batch of the records `rs` from the position `position` on, and `q` is the number of its last record. So the
+-- position after it is `q` + 1, and `q` is at or above `position` and the shard's start. If no record is left after the
+-- batch, the checkpoint at `q` is the one at the shard's last record. Fewer records are left after it than before.
+pub record IsBatchTo (start position : ℕ) (rs bs : List Logged) (q : ℕ) : Type 0 where
   pub number : last_number_in (map stored bs) ≡ Some q
-  pub reach : place_after place (numbers_of bs) ≡ q + 1
-  pub above : max place start ≤ q
+  pub reach : position_after position (numbers_of bs) ≡ q + 1
+  pub above : max position start ≤ q
   pub settled : from (q + 1) rs ≡ [] → At q ≡ last_checkpoint rs
-  pub fewer : length (from (q + 1) rs) + 1 ≤ length (from place rs)
+  pub fewer : length (from (q + 1) rs) + 1 ≤ length (from position rs)
 
 fewer_by : (ls bs rest : List Logged) (x : Logged) (xs : List Logged) → ls ≡ bs ++ rest → bs ≡ x ∷ xs
     → length rest + 1 ≤ length ls
@@ -147,31 +151,32 @@ fewer_by ls bs rest x xs are is =
     let m : length bs ≡ suc (length xs) = ap length is in
     omega arith
 
-both_above : (place start q : ℕ) → place ≤ q → start ≤ q → max place start ≤ q
-both_above place start q le le' = omega arith
+both_above : (position start q : ℕ) → position ≤ q → start ≤ q → max position start ≤ q
+both_above position start q le le' = omega arith
 
-pub batched : (limit room start place : ℕ) (rs : List Logged) (x : Logged) (xs : List Logged) → IsUp start rs
-    → beginning limit room (from place rs) ≡ x ∷ xs
-    → IsBatchTo start place rs (beginning limit room (from place rs)) (last_seq x xs)
-batched limit room start place rs x xs up is =
-    let ls = from place rs in
+-- A batch that isn't empty is one up to its last record (`IsBatchTo`).
+pub batched : (limit room start position : ℕ) (rs : List Logged) (x : Logged) (xs : List Logged) → IsUp start rs
+    → beginning limit room (from position rs) ≡ x ∷ xs
+    → IsBatchTo start position rs (beginning limit room (from position rs)) (last_seq x xs)
+batched limit room start position rs x xs up is =
+    let ls = from position rs in
     let bs = beginning limit room ls in
     let q = last_seq x xs in
-    let up' = up_from place start rs up in
-    let reach : place_after place (numbers_of bs) ≡ q + 1 =
-    ap (λ ys. place_after place (numbers_of ys)) is ∙ reach_is place x xs in
-    let first = subst (IsUp place) is (up_beginning limit room place ls up') in
-    let later = subst (IsUp start) is (up_beginning limit room start ls (up_kept place start rs up)) in
-    let rest : from (place_after place (numbers_of bs)) ls ≡ from (q + 1) rs =
-    from_twice place (place_after place (numbers_of bs)) rs (place_up limit room place ls up')
+    let up' = up_from position start rs up in
+    let reach : position_after position (numbers_of bs) ≡ q + 1 =
+    ap (λ ys. position_after position (numbers_of ys)) is ∙ reach_is position x xs in
+    let first = subst (IsUp position) is (up_beginning limit room position ls up') in
+    let later = subst (IsUp start) is (up_beginning limit room start ls (up_kept position start rs up)) in
+    let rest : from (position_after position (numbers_of bs)) ls ≡ from (q + 1) rs =
+    from_twice position (position_after position (numbers_of bs)) rs (position_up limit room position ls up')
     ∙ ap (λ p. from p rs) reach in
     record {
       number = ap (λ ys. last_number_in (map stored ys)) is ∙ number_is x xs;
       reach = reach;
-      above = both_above place start q (above_is place x xs first) (above_is start x xs later);
+      above = both_above position start q (above_is position x xs first) (above_is start x xs later);
       settled = λ none. sym (ap last_checkpoint is ∙ checkpoint_is x xs)
-          ∙ settled_batch limit room place start rs x xs up is (ap (λ p. from p rs) reach ∙ none);
-      fewer = fewer_by ls bs (from (q + 1) rs) x xs (parts limit room place ls up' ∙ ap (λ ys. bs ++ ys) rest) is;
+          ∙ settled_batch limit room position start rs x xs up is (ap (λ p. from p rs) reach ∙ none);
+      fewer = fewer_by ls bs (from (q + 1) rs) x xs (parts limit room position ls up' ∙ ap (λ ys. bs ++ ys) rest) is;
     }
 
 -- At most as many records are left from a position on as there are records.

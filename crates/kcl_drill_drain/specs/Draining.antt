@@ -48,7 +48,7 @@ records_of log key = records log key.stream key.shard
 
 -- The records of the key's shard that are left at the clock `c`: untrimmed, and at or above the position.
 abbrev pub left_of : Journal → ℕ → ShardRef → ℕ → List Logged
-left_of log c key place = left_from log c key.stream key.shard place
+left_of log c key position = left_from log c key.stream key.shard position
 
 -- ---- The row of a key, before and after its drain
 

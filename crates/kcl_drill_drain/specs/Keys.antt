@@ -9,7 +9,7 @@ use Rattle.kds_defs.specs.Journal.{Journal}
 use Rattle.kds_defs.specs.Leases.{row, taken_count}
 use Rattle.kds_defs.specs.Listings.{listed_in}
 use Rattle.kds_defs.specs.Streams.{live_streams}
-use Rattle.kcl_drill_summary.specs.Counting.{row_in}
+use Rattle.kcl_drill_summary.specs.Counting.{row_among}
 use Rattle.kcl_drill_drain.specs.Draining.{IsDone, IsFresh}
 
 -- The keys of the shards that are listed at the greater of the history's clock and `at`, in their order.
@@ -25,7 +25,7 @@ HasRow log key = (r : Row) × (row log key ≡ Some r)
 -- tenures began as `h`, the history before the drain, has turns.
 pub record AreMade (h : List Turn) (keys : List ShardRef) (among : List Row) (i : ℕ) (log : Journal) : Type 0 where
   pub fresh : (key : ShardRef) (r : Row) → row log key ≡ Some r → IsFresh h key r
-  pub kept : (key : ShardRef) (r : Row) → row_in among key ≡ Some r → HasRow log key
+  pub kept : (key : ShardRef) (r : Row) → row_among among key ≡ Some r → HasRow log key
   pub made : (j : ℕ) (key : ShardRef) → j < i → slice_get keys j ≡ Some key → HasRow log key
   pub few : taken_count log ≤ length h
 
@@ -34,7 +34,7 @@ pub record AreMade (h : List Turn) (keys : List ShardRef) (among : List Row) (i 
 pub record Waits (h : List Turn) (among : List Row) (log : Journal) (key : ShardRef) : Type 0 where
   pub now : Row
   pub there : row log key ≡ Some now
-  pub seen : row_in among key ≡ Some now
+  pub seen : row_among among key ≡ Some now
   pub fresh : IsFresh h key now
 
 -- The drain has drained the rows of the first `i` keys, and those of the other keys wait (`Waits`). Since the history

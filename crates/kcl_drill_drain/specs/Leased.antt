@@ -16,8 +16,14 @@ pub record HasLeased (stands : List Turn → Type 0) (by at : ℕ) (h : List Tur
   pub stands_now : stands (more ++ h)
   pub are : AreLeased by at more
 
--- The machine stands for the history `h` with further turns on leases after it. They bring the clock to the moment
--- `at`, and `P` holds for the journal that they leave.
+-- `stood` says which histories the machine stood for before a call, and `stands` after it. If it had then answered only
+-- turns on leases since some history (`HasLeased`), the same is true now.
+abbrev pub KeepsLeased : (List Turn → Type 0) → (List Turn → Type 0) → ℕ → ℕ → Type 0
+KeepsLeased stood stands by at = (h : List Turn) → HasLeased stood by at h → HasLeased stands by at h
+
+-- The machine has answered the history `h` and then only lawful turns on leases, of the actor `by` at the moment `at`.
+-- `P` is true of the journal after them, and their clock is the greater of that of `h` and `at`. Without any turn, that
+-- of `h` must be at least `at`.
 pub record Leads (stands : List Turn → Type 0) (by at : ℕ) (h : List Turn) (P : Journal → Type 0) : Type 0 where
   pub more : List Turn
   pub stands_now : stands (more ++ h)

@@ -13,9 +13,9 @@ use Rattle.kds_defs.specs.Journal.{Journal}
 use Rattle.kds_defs.specs.RowWrites.{least}
 use Rattle.kds_defs.specs.Leases.{ReadDone, is_end, row, taken_count}
 use Rattle.kds_defs.specs.Listings.{ends_at}
-use Rattle.kds_defs.specs.Records.{Logged, batch, numbers_of, place_after, stored}
+use Rattle.kds_defs.specs.Records.{Logged, batch, numbers_of, position_after, stored}
 use Rattle.kds_defs.specs.Shards.{start_of}
-use Rattle.kcl_defs.specs.Consumers.{first_place, last_number_in}
+use Rattle.kcl_defs.specs.Consumers.{first_position, last_number_in}
 use Rattle.kcl_drill.specs.Summed.{last_checkpoint}
 use Rattle.kcl_drill_laws.specs.Holding.{Holding, Holds, after_give, after_mark, after_read, taken_line}
 use Rattle.kcl_drill_drain.specs.declared.held.DrainTenure.{DrainTenure}
@@ -64,7 +64,7 @@ pub record IsTaken (w : Spot) (by : ℕ) (r : Row) (held : DrainTenure) (log : J
   pub drained : AreDrainedTo w.history w.keys w.among w.index before
   pub number : held.tenure ≡ taken_count before + 1
   pub counter : held.counter ≡ r.counter + 1
-  pub place : held.place ≡ first_place r.checkpoint
+  pub position : held.position ≡ first_position r.checkpoint
   pub fresh : IsFresh w.history w.key r
 
 -- The tenure of this key, which is the actor's, and its row are as `x` says (`Holds`), and the other keys are as they
@@ -81,18 +81,18 @@ pub record Stands (w : Spot) (by : ℕ) (x : Holding) (log : Journal) : Type 0 w
 -- low enough for one mark per record that is left (`budget`).
 pub record IsReady (w : Spot) (at : ℕ) (x : Holding) : Type 0 where
   pub none_waits : x.waiting ≡ []
-  pub given : x.done ≡ x.place
+  pub given : x.done ≡ x.position
   pub going : is_end x.checkpoint ≡ false
-  pub settled : left_of (journal w.history) (clock_at w at) w.key x.place ≡ []
+  pub settled : left_of (journal w.history) (clock_at w at) w.key x.position ≡ []
       → x.checkpoint ≡ last_checkpoint (records_of (journal w.history) w.key)
-  pub low : least x.checkpoint x.floor ≤ max x.place (start_of (shard_of (journal w.history) w.key))
-  pub budget : x.counter + length (left_of (journal w.history) (clock_at w at) w.key x.place)
+  pub low : least x.checkpoint x.floor ≤ max x.position (start_of (shard_of (journal w.history) w.key))
+  pub budget : x.counter + length (left_of (journal w.history) (clock_at w at) w.key x.position)
       ≤ length w.history + 1 + length (records_of (journal w.history) w.key)
 
 -- `held`, which the code keeps, has the number and the position of the tenure `x` and the counter of its row.
 pub record IsHeld (x : Holding) (held : DrainTenure) : Type 0 where
   pub tenure : x.tenure ≡ held.tenure
-  pub place : x.place ≡ held.place
+  pub position : x.position ≡ held.position
   pub counter : x.counter ≡ held.counter
 
 -- The machine has answered turns on leases since the history before the drain, after which the tenure `held` of this
@@ -112,11 +112,11 @@ IsDrainedHere stands w by at = Leads stands by at w.history (AreDrainedTo w.hist
 
 -- The batch that a read at the position of the tenure `x` returns.
 abbrev pub batch_at : Spot → ℕ → Holding → List Logged
-batch_at w at x = batch (journal w.history) (clock_at w at) w.key.stream w.key.shard x.place READ
+batch_at w at x = batch (journal w.history) (clock_at w at) w.key.stream w.key.shard x.position READ
 
 -- The position after this batch.
 abbrev pub reach_at : Spot → ℕ → Holding → ℕ
-reach_at w at x = place_after x.place (numbers_of (batch_at w at x))
+reach_at w at x = position_after x.position (numbers_of (batch_at w at x))
 
 -- Whether this read ends the shard: it is closed, and no record is left after the batch.
 abbrev pub ended_at : Spot → ℕ → Holding → Bool

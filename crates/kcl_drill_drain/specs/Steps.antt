@@ -13,7 +13,7 @@ use Rattle.kds_defs.specs.declared.reply.Row.{Row}
 use Rattle.kds_defs.specs.Histories.{journal}
 use Rattle.kds_defs.specs.Leases.{ReadDone, is_end, rows}
 use Rattle.kds_defs.specs.StreamCommands.{last_number}
-use Rattle.kcl_drill_summary.specs.Counting.{row_in}
+use Rattle.kcl_drill_summary.specs.Counting.{row_among}
 use Rattle.kcl_drill_laws.specs.Holding.{Holding, MayMark, after_give, after_mark}
 use Rattle.kcl_drill_drain.specs.declared.held.DrainTenure.{DrainTenure}
 use Rattle.kcl_drill_drain.specs.declared.reading.Fetch.{Fetch}
@@ -30,7 +30,7 @@ use Rattle.kcl_drill_drain.specs.Standing.{ended_at, given_then, last_at, marked
 abbrev pub Takes : {E : Type 0} → (List Turn → Type 0) → (List Turn → Type 0) → ℕ → ℕ → ShardRef → ℕ
     → Result (Option DrainTenure) E → Type 0
 Takes stands stands' by at key counter result =
-    (w : Spot) (r : Row) → IsSpot w at → w.key ≡ key → r.counter ≡ counter → row_in w.among w.key ≡ Some r
+    (w : Spot) (r : Row) → IsSpot w at → w.key ≡ key → r.counter ≡ counter → row_among w.among w.key ≡ Some r
     → is_end r.checkpoint ≡ false
     → Leads stands by at w.history (AreDrainedTo w.history w.keys w.among w.index)
     → IfOk result (λ o. (held : DrainTenure) × (o ≡ Some held) × Leads stands' by at w.history (IsTaken w by r held))
@@ -40,7 +40,7 @@ Takes stands stands' by at key counter result =
 abbrev pub Opens : {E : Type 0} → (List Turn → Type 0) → (List Turn → Type 0) → ℕ → ℕ → DrainTenure
     → Result (Unit {0}) E → Type 0
 Opens stands stands' by at held result =
-    (w : Spot) (r : Row) → IsSpot w at → row_in w.among w.key ≡ Some r → is_end r.checkpoint ≡ false
+    (w : Spot) (r : Row) → IsSpot w at → row_among w.among w.key ≡ Some r → is_end r.checkpoint ≡ false
     → Leads stands by at w.history (IsTaken w by r held) → OnOk result (ReadsOn stands' w by at held)
 
 -- The step reads at the position of the tenure `held`, if this tenure is ready for a read. The answer in `result` has
@@ -91,8 +91,8 @@ Advances stands w by at (Some held) = ReadsOn stands w by at held
 -- (`Advances`).
 abbrev pub Settles : {E : Type 0} → (List Turn → Type 0) → (List Turn → Type 0) → ℕ → ℕ → ℕ → DrainTenure → Bool
     → Result (Option DrainTenure) E → Type 0
-Settles stands stands' by at place held ended result =
-    (w : Spot) (x : Holding) → IsSpot w at → IsReady w at x → x.place ≡ place → ended_at w at x ≡ ended
+Settles stands stands' by at position held ended result =
+    (w : Spot) (x : Holding) → IsSpot w at → IsReady w at x → x.position ≡ position → ended_at w at x ≡ ended
     → IsHeld (marked_then w at x) held
     → Leads stands by at w.history (Stands w by (marked_then w at x)) → IfOk result (Advances stands' w by at)
 
@@ -124,7 +124,7 @@ ReadsToEnd stands stands' by at held result = (w : Spot) → IsSpot w at → Rea
 abbrev pub DrainsTaken : {E : Type 0} → (List Turn → Type 0) → (List Turn → Type 0) → ℕ → ℕ → ShardRef → ℕ
     → Result (Unit {0}) E → Type 0
 DrainsTaken stands stands' by at key counter result =
-    (w : Spot) (r : Row) → IsSpot w at → w.key ≡ key → r.counter ≡ counter → row_in w.among w.key ≡ Some r
+    (w : Spot) (r : Row) → IsSpot w at → w.key ≡ key → r.counter ≡ counter → row_among w.among w.key ≡ Some r
     → is_end r.checkpoint ≡ false
     → Leads stands by at w.history (AreDrainedTo w.history w.keys w.among w.index)
     → OnOk result (IsDrainedHere stands' w by at)
@@ -134,7 +134,7 @@ DrainsTaken stands stands' by at key counter result =
 abbrev pub DrainsRow : {E : Type 0} → (List Turn → Type 0) → (List Turn → Type 0) → ℕ → ℕ → ShardRef → Option Row
     → Result (Unit {0}) E → Type 0
 DrainsRow stands stands' by at key row result =
-    (w : Spot) → IsSpot w at → w.key ≡ key → row_in w.among w.key ≡ row
+    (w : Spot) → IsSpot w at → w.key ≡ key → row_among w.among w.key ≡ row
     → Leads stands by at w.history (AreDrainedTo w.history w.keys w.among w.index)
     → OnOk result (IsDrainedHere stands' w by at)
 
@@ -159,7 +159,7 @@ MakesKeys stands stands' by at keys among result =
 abbrev pub MakesRow : {E : Type 0} → (List Turn → Type 0) → (List Turn → Type 0) → ℕ → ℕ → ShardRef → Option Row
     → Result (Unit {0}) E → Type 0
 MakesRow stands stands' by at key seen result =
-    (w : Spot) → IsSpot w at → w.key ≡ key → row_in w.among w.key ≡ seen
+    (w : Spot) → IsSpot w at → w.key ≡ key → row_among w.among w.key ≡ seen
     → Leads stands by at w.history (AreMade w.history w.keys w.among w.index)
     → OnOk result (Leads stands' by at w.history (AreMade w.history w.keys w.among (w.index + 1)))
 

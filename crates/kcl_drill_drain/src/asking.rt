@@ -1,10 +1,9 @@
 //! Sends one command on leases to the machine. The command, together with its sender and its time, is called a turn.
 //! The sender is given as a number, the actor.
-ghost use Rattle.std.specs.Prelude.{◌≡◌, ◌<◌, ◌^◌, List, false};
-ghost use Rattle.kds_defs.specs.declared.command.Turn.{Turn as Asked};
+ghost use Rattle.std.specs.Prelude.{◌≡◌, ◌<◌, ◌^◌, false};
 ghost use Rattle.kds_defs.specs.Kinds.{is_service};
 ghost use Rattle.kds_defs.specs.Lawful.{IsLawfulCommand};
-ghost use Rattle.kcl_drill_drain.specs.Leased.{Answers, HasLeased, turn_of};
+ghost use Rattle.kcl_drill_drain.specs.Leased.{Answers, KeepsLeased, turn_of};
 
 use kds_base::{Memory, Moment};
 use kds_defs::{Answer, Command, Machine, Turn};
@@ -22,8 +21,7 @@ pub fn ask<M: Machine>(
     requires lawful { IsLawfulCommand what }
     ensures ok { Answers (M.stands_for machine.old) (M.stands_for machine.new) (turn_of by at what) result }
     ensures moment { at < 2 ^ 62 }
-    ensures leased { (h : List Asked) → HasLeased (M.stands_for machine.old) by at h
-        → HasLeased (M.stands_for machine.new) by at h }
+    ensures leased { KeepsLeased (M.stands_for machine.old) (M.stands_for machine.new) by at }
 {
     let _ms = at.ms();
     machine.apply(Turn { by, at, what })

@@ -3,7 +3,7 @@
 ghost use Rattle.std.specs.Prelude.{◌≡◌, List, OnOk};
 ghost use Rattle.kds_defs.specs.declared.command.Turn.{Turn as Asked};
 ghost use Rattle.kcl_drill_drain.specs.Draining.{CanDrain};
-ghost use Rattle.kcl_drill_drain.specs.Leased.{HasDrained, HasLeased};
+ghost use Rattle.kcl_drill_drain.specs.Leased.{HasDrained, HasLeased, KeepsLeased};
 ghost use Rattle.kcl_drill_drain.specs.Steps.{Drains, Makes};
 
 use crate::asking::ask;
@@ -22,8 +22,7 @@ fn make_missing<M: Machine>(
     survey: &Answer,
 ) -> Result<(), Memory>
     ensures ok { Makes (M.stands_for machine.old) (M.stands_for machine.new) by at survey.now result }
-    ensures leased { (h : List Asked) → HasLeased (M.stands_for machine.old) by at h
-        → HasLeased (M.stands_for machine.new) by at h }
+    ensures leased { KeepsLeased (M.stands_for machine.old) (M.stands_for machine.new) by at }
 {
     match survey {
         Ok(Reply::Survey { shards, rows }) => {
@@ -42,8 +41,7 @@ fn drain_listed<M: Machine>(
     survey: &Answer,
 ) -> Result<(), Memory>
     ensures ok { Drains (M.stands_for machine.old) (M.stands_for machine.new) by at survey.now result }
-    ensures leased { (h : List Asked) → HasLeased (M.stands_for machine.old) by at h
-        → HasLeased (M.stands_for machine.new) by at h }
+    ensures leased { KeepsLeased (M.stands_for machine.old) (M.stands_for machine.new) by at }
 {
     match survey {
         Ok(Reply::Survey { shards, rows }) => {

@@ -8,6 +8,6 @@ pub const READ: u32 = 1_000;
 #[derive(Clone, Copy)]
 pub struct DrainTenure {
     pub tenure: TenureNo,
-    pub place: u64,
+    pub position: u64,
     pub counter: u64,
 }

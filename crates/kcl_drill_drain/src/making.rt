@@ -1,8 +1,7 @@
 //! Makes a row in the lease table for each listed shard that has no row yet. A shard is listed if ListShards returns
 //! it. A survey is the machine's answer with all listed shards and all rows.
-ghost use Rattle.std.specs.Prelude.{◌≡◌, List};
-ghost use Rattle.kds_defs.specs.declared.command.Turn.{Turn as Asked};
-ghost use Rattle.kcl_drill_drain.specs.Leased.{HasLeased};
+ghost use Rattle.std.specs.Prelude.{◌≡◌};
+ghost use Rattle.kcl_drill_drain.specs.Leased.{KeepsLeased};
 ghost use Rattle.kcl_drill_drain.specs.Steps.{MakesKeys, MakesRow};
 
 use crate::asking::ask;
@@ -21,8 +20,7 @@ fn make_row<M: Machine>(
     seen: Option<Row>,
 ) -> Result<(), Memory>
     ensures ok { MakesRow (M.stands_for machine.old) (M.stands_for machine.new) by at key seen result }
-    ensures leased { (h : List Asked) → HasLeased (M.stands_for machine.old) by at h
-        → HasLeased (M.stands_for machine.new) by at h }
+    ensures leased { KeepsLeased (M.stands_for machine.old) (M.stands_for machine.new) by at }
 {
     laws::drain_laws();
     if seen.is_none() {
@@ -41,8 +39,7 @@ pub fn make_keys<M: Machine>(
     among: &[Row],
 ) -> Result<(), Memory>
     ensures ok { MakesKeys (M.stands_for machine.old) (M.stands_for machine.new) by at keys.now among.now result }
-    ensures leased { (h : List Asked) → HasLeased (M.stands_for machine.old) by at h
-        → HasLeased (M.stands_for machine.new) by at h }
+    ensures leased { KeepsLeased (M.stands_for machine.old) (M.stands_for machine.new) by at }
 {
     for key in keys {
         make_row(machine, by, at, *key, row_among(among, key))?;

@@ -1,10 +1,9 @@
 //! Reads one shard to its end, batch by batch. A tenure is one worker's hold on the shard's lease.
 ghost use Rattle.std.specs.Prelude.{ℕ, ◌≡◌, ◌<◌, Bool, List, Some, Ok, IfOk, IfSome};
-ghost use Rattle.kds_defs.specs.declared.command.Turn.{Turn as Asked};
 ghost use Rattle.kds_defs.specs.declared.reply.Reply.TheVariants as reply;
 ghost use Rattle.kds_defs.specs.declared.reply.Stored.{Stored};
 ghost use Rattle.kcl_defs.specs.Consumers.{last_number_in};
-ghost use Rattle.kcl_drill_drain.specs.Leased.{HasLeased};
+ghost use Rattle.kcl_drill_drain.specs.Leased.{KeepsLeased};
 ghost use Rattle.kcl_drill_drain.specs.Steps.{Delivers, MarksLast, ReadsToEnd, Settles, StepsOn};
 
 use crate::held::DrainTenure;
@@ -41,8 +40,8 @@ fn process(tally: &mut Tally, batch: &[Stored]) -> Result<Option<Seq>, Memory>
 /// Passes the batch in `answer`, the answer to a read, to the processor. Returns the result of the read, or `None` if
 /// `answer` isn't the reply to a read.
 fn process_answer(tally: &mut Tally, answer: &Answer) -> Result<Option<Fetch>, Memory>
-    ensures { (batch : List Stored) (place : ℕ) (ended : Bool) → answer.now ≡ Ok (reply.Read batch place ended)
-        → IfOk result (λ f. f ≡ Some (record { last = last_number_in batch; reach = place; ended = ended })) }
+    ensures { (batch : List Stored) (position : ℕ) (ended : Bool) → answer.now ≡ Ok (reply.Read batch position ended)
+        → IfOk result (λ f. f ≡ Some (record { last = last_number_in batch; reach = position; ended = ended })) }
 {
     match answer {
         Ok(Reply::Read { batch, reach, end }) => {
@@ -67,8 +66,7 @@ fn mark_last<M: Machine>(
     last: Option<Seq>,
 ) -> Result<u64, Memory>
     ensures ok { MarksLast (M.stands_for machine.old) (M.stands_for machine.new) by at held.now last result }
-    ensures leased { (h : List Asked) → HasLeased (M.stands_for machine.old) by at h
-        → HasLeased (M.stands_for machine.new) by at h }
+    ensures leased { KeepsLeased (M.stands_for machine.old) (M.stands_for machine.new) by at }
 {
     laws::drain_laws();
     match last {
@@ -85,20 +83,19 @@ fn finish_or_continue<M: Machine>(
     machine: &mut M,
     by: u32,
     at: Moment,
-    place: u64,
+    position: u64,
     held: DrainTenure,
     ended: bool,
 ) -> Result<Option<DrainTenure>, Memory>
-    ensures ok { Settles (M.stands_for machine.old) (M.stands_for machine.new) by at place held ended result }
-    ensures leased { (h : List Asked) → HasLeased (M.stands_for machine.old) by at h
-        → HasLeased (M.stands_for machine.new) by at h }
-    ensures rises { IfOk result (λ o. IfSome o (λ next. place < next.place)) }
+    ensures ok { Settles (M.stands_for machine.old) (M.stands_for machine.new) by at position held ended result }
+    ensures leased { KeepsLeased (M.stands_for machine.old) (M.stands_for machine.new) by at }
+    ensures rises { IfOk result (λ o. IfSome o (λ next. position < next.position)) }
 {
     laws::drain_laws();
     if ended {
         mark(machine, by, at, &held, Target::End)?;
         Ok(None)
-    } else if held.place > place {
+    } else if held.position > position {
         Ok(Some(held))
     } else {
         Ok(None)
@@ -115,19 +112,18 @@ fn deliver<M: Machine>(
     fetch: &Fetch,
 ) -> Result<Option<DrainTenure>, Memory>
     ensures ok { Delivers (M.stands_for machine.old) (M.stands_for machine.new) by at held.now fetch.now result }
-    ensures leased { (h : List Asked) → HasLeased (M.stands_for machine.old) by at h
-        → HasLeased (M.stands_for machine.new) by at h }
-    ensures rises { IfOk result (λ o. IfSome o (λ next. held.now.place < next.place)) }
+    ensures leased { KeepsLeased (M.stands_for machine.old) (M.stands_for machine.new) by at }
+    ensures rises { IfOk result (λ o. IfSome o (λ next. held.now.position < next.position)) }
 {
     laws::drain_laws();
     give(machine, by, at, held)?;
     let counter = mark_last(machine, by, at, held, fetch.last)?;
     let next = DrainTenure {
         tenure: held.tenure,
-        place: fetch.reach,
+        position: fetch.reach,
         counter,
     };
-    finish_or_continue(machine, by, at, held.place, next, fetch.ended)
+    finish_or_continue(machine, by, at, held.position, next, fetch.ended)
 }
 
 /// Makes one read, processes its records, reports them as processed, and sets the checkpoint. Returns the tenure for
@@ -140,9 +136,8 @@ fn read_batch<M: Machine>(
     tally: &mut Tally,
 ) -> Result<Option<DrainTenure>, Memory>
     ensures ok { StepsOn (M.stands_for machine.old) (M.stands_for machine.new) by at held.now result }
-    ensures leased { (h : List Asked) → HasLeased (M.stands_for machine.old) by at h
-        → HasLeased (M.stands_for machine.new) by at h }
-    ensures rises { IfOk result (λ o. IfSome o (λ next. held.now.place < next.place)) }
+    ensures leased { KeepsLeased (M.stands_for machine.old) (M.stands_for machine.new) by at }
+    ensures rises { IfOk result (λ o. IfSome o (λ next. held.now.position < next.position)) }
 {
     let answer = read(machine, by, at, held)?;
     match process_answer(tally, &answer)? {
@@ -159,8 +154,7 @@ pub fn read_on<M: Machine>(
     from: DrainTenure,
 ) -> Result<(), Memory>
     ensures ok { ReadsToEnd (M.stands_for machine.old) (M.stands_for machine.new) by at from result }
-    ensures leased { (h : List Asked) → HasLeased (M.stands_for machine.old) by at h
-        → HasLeased (M.stands_for machine.new) by at h }
+    ensures leased { KeepsLeased (M.stands_for machine.old) (M.stands_for machine.new) by at }
 {
     let mut tally = Tally::new();
     let mut held = from;

@@ -1,8 +1,6 @@
 //! Takes the leases of shards one after another, and reads each of these shards to its end. A row is a lease in the
 //! lease table.
-ghost use Rattle.std.specs.Prelude.{List};
-ghost use Rattle.kds_defs.specs.declared.command.Turn.{Turn as Asked};
-ghost use Rattle.kcl_drill_drain.specs.Leased.{HasLeased};
+ghost use Rattle.kcl_drill_drain.specs.Leased.{KeepsLeased};
 ghost use Rattle.kcl_drill_drain.specs.Steps.{DrainsKeys, DrainsRow, DrainsTaken};
 
 use crate::laws;
@@ -21,8 +19,7 @@ fn drain_taken<M: Machine>(
     counter: u64,
 ) -> Result<(), Memory>
     ensures ok { DrainsTaken (M.stands_for machine.old) (M.stands_for machine.new) by at key counter result }
-    ensures leased { (h : List Asked) → HasLeased (M.stands_for machine.old) by at h
-        → HasLeased (M.stands_for machine.new) by at h }
+    ensures leased { KeepsLeased (M.stands_for machine.old) (M.stands_for machine.new) by at }
 {
     match take(machine, by, at, key, counter)? {
         Some(held) => {
@@ -43,8 +40,7 @@ fn drain_row<M: Machine>(
     row: Option<Row>,
 ) -> Result<(), Memory>
     ensures ok { DrainsRow (M.stands_for machine.old) (M.stands_for machine.new) by at key row result }
-    ensures leased { (h : List Asked) → HasLeased (M.stands_for machine.old) by at h
-        → HasLeased (M.stands_for machine.new) by at h }
+    ensures leased { KeepsLeased (M.stands_for machine.old) (M.stands_for machine.new) by at }
 {
     laws::drain_laws();
     match row {
@@ -69,8 +65,7 @@ pub fn drain_keys<M: Machine>(
     among: &[Row],
 ) -> Result<(), Memory>
     ensures ok { DrainsKeys (M.stands_for machine.old) (M.stands_for machine.new) by at keys.now among.now result }
-    ensures leased { (h : List Asked) → HasLeased (M.stands_for machine.old) by at h
-        → HasLeased (M.stands_for machine.new) by at h }
+    ensures leased { KeepsLeased (M.stands_for machine.old) (M.stands_for machine.new) by at }
 {
     for key in keys {
         drain_row(machine, by, at, *key, row_among(among, key))?;

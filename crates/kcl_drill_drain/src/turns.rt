@@ -1,24 +1,23 @@
 //! The commands of one tenure, a worker's hold on a lease. They take the lease, open its shard, read the records,
 //! report them as processed, and set the checkpoint.
-ghost use Rattle.std.specs.Prelude.{ℕ, ◌≡◌, List, Some, Ok};
+ghost use Rattle.std.specs.Prelude.{ℕ, ◌≡◌, Some, Ok};
 ghost use Rattle.kds_base.specs.declared.lease_key.Checkpoint.{Checkpoint};
-ghost use Rattle.kds_defs.specs.declared.command.Turn.{Turn as Asked};
 ghost use Rattle.kds_defs.specs.declared.reply.Reply.TheVariants as reply;
-ghost use Rattle.kcl_defs.specs.Consumers.{first_place};
-ghost use Rattle.kcl_drill_drain.specs.Leased.{HasLeased};
+ghost use Rattle.kcl_defs.specs.Consumers.{first_position};
+ghost use Rattle.kcl_drill_drain.specs.Leased.{KeepsLeased};
 ghost use Rattle.kcl_drill_drain.specs.Steps.{Gives, Marks, Opens, Reads, Takes};
 
 use crate::asking::ask;
 use crate::held::{DrainTenure, READ};
 use crate::laws;
-use kcl_consumer::first_place;
+use kcl_consumer::first_position;
 use kds_base::{Memory, Moment, ShardRef, WorkerNo};
 use kds_defs::{Answer, Command, Machine, Reply, Target};
 
 /// Returns the new tenure in the answer to the command Take. Returns `None` if the lease wasn't taken.
 fn taken_of(answer: &Answer) -> Option<DrainTenure>
     ensures { (t n : ℕ) (start : Checkpoint) → answer.now ≡ Ok (reply.Taken t n start)
-        → result ≡ Some (record { tenure = t; place = first_place start; counter = n }) }
+        → result ≡ Some (record { tenure = t; position = first_position start; counter = n }) }
 {
     match answer {
         Ok(
@@ -29,7 +28,7 @@ fn taken_of(answer: &Answer) -> Option<DrainTenure>
             },
         ) => Some(DrainTenure {
             tenure: *tenure,
-            place: first_place(*start),
+            position: first_position(*start),
             counter: *counter,
         }),
         _ => None,
@@ -57,8 +56,7 @@ pub fn take<M: Machine>(
     counter: u64,
 ) -> Result<Option<DrainTenure>, Memory>
     ensures ok { Takes (M.stands_for machine.old) (M.stands_for machine.new) by at key counter result }
-    ensures leased { (h : List Asked) → HasLeased (M.stands_for machine.old) by at h
-        → HasLeased (M.stands_for machine.new) by at h }
+    ensures leased { KeepsLeased (M.stands_for machine.old) (M.stands_for machine.new) by at }
 {
     laws::drain_laws();
     kcl_drill_laws::held_answers();
@@ -81,8 +79,7 @@ pub fn open<M: Machine>(
     held: &DrainTenure,
 ) -> Result<(), Memory>
     ensures ok { Opens (M.stands_for machine.old) (M.stands_for machine.new) by at held.now result }
-    ensures leased { (h : List Asked) → HasLeased (M.stands_for machine.old) by at h
-        → HasLeased (M.stands_for machine.new) by at h }
+    ensures leased { KeepsLeased (M.stands_for machine.old) (M.stands_for machine.new) by at }
 {
     laws::drain_laws();
     kcl_drill_laws::held_answers();
@@ -100,15 +97,14 @@ pub fn read<M: Machine>(
     held: &DrainTenure,
 ) -> Result<Answer, Memory>
     ensures ok { Reads (M.stands_for machine.old) (M.stands_for machine.new) by at held.now result }
-    ensures leased { (h : List Asked) → HasLeased (M.stands_for machine.old) by at h
-        → HasLeased (M.stands_for machine.new) by at h }
+    ensures leased { KeepsLeased (M.stands_for machine.old) (M.stands_for machine.new) by at }
 {
     laws::drain_laws();
     kcl_drill_laws::held_answers();
     kcl_drill_laws::held_states();
     let what = Command::Read {
         tenure: held.tenure,
-        position: held.place,
+        position: held.position,
         limit: READ,
     };
     ask(machine, by, at, what)
@@ -122,8 +118,7 @@ pub fn give<M: Machine>(
     held: &DrainTenure,
 ) -> Result<(), Memory>
     ensures ok { Gives (M.stands_for machine.old) (M.stands_for machine.new) by at held.now result }
-    ensures leased { (h : List Asked) → HasLeased (M.stands_for machine.old) by at h
-        → HasLeased (M.stands_for machine.new) by at h }
+    ensures leased { KeepsLeased (M.stands_for machine.old) (M.stands_for machine.new) by at }
 {
     kcl_drill_laws::held_answers();
     kcl_drill_laws::held_states();
@@ -142,8 +137,7 @@ pub fn mark<M: Machine>(
     to: Target,
 ) -> Result<u64, Memory>
     ensures ok { Marks (M.stands_for machine.old) (M.stands_for machine.new) by at held.now to result }
-    ensures leased { (h : List Asked) → HasLeased (M.stands_for machine.old) by at h
-        → HasLeased (M.stands_for machine.new) by at h }
+    ensures leased { KeepsLeased (M.stands_for machine.old) (M.stands_for machine.new) by at }
 {
     laws::drain_laws();
     kcl_drill_laws::held_answers();

@@ -19,12 +19,12 @@ use Rattle.kds_defs.specs.LeaseCommands.{with_tenure, with_held, take_lease, ope
 use Rattle.kds_defs.specs.RowWrites.{least}
 use Rattle.kds_defs.specs.Leases.{TenureState, ReadDone, row, tenure, tenure_in, counter_in, checkpoint_in, floor_in}
 use Rattle.kds_defs.specs.Leases.{reads_end, reach, delivered, pending, given_reads, last_ended, is_end, taken_count}
-use Rattle.kds_defs.specs.Records.{batch, numbers_of, place_after}
+use Rattle.kds_defs.specs.Records.{batch, numbers_of, position_after}
 use Rattle.kds_defs.specs.StreamCommands.{last_number}
 use Rattle.kds_defs.proofs.Decisions.{passed_if, with_some}
 use Rattle.kcl_drill_laws.specs.Holding.{ArePast, HasCome, HasRow, Holding, Holds, MayMark, MayTake, given_line}
 use Rattle.kcl_drill_laws.specs.Holding.{marked_line, opened_line, read_here, taken_line}
-use Rattle.kcl_drill_laws.proofs.Come.{begun_row, begun_tenure, given_place}
+use Rattle.kcl_drill_laws.proofs.Come.{begun_row, begun_tenure, given_position}
 
 -- ---- Tests in the decisions
 
@@ -67,7 +67,7 @@ own_held log x next has held =
 -- If the shard is listed, and fewer reads wait to be given than may, a Read at the tenure's position is accepted with
 -- the batch there (`read_here`).
 pub read_answered : (log : Journal) (c limit : ℕ) (x : Holding) → Holds log x → length x.waiting < PENDING_READS
-    → is_listed_key log c x.key ≡ true → read log c x.by x.tenure x.place limit ≡ read_here log c x limit
+    → is_listed_key log c x.key ≡ true → read log c x.by x.tenure x.position limit ≡ read_here log c x limit
 read_answered log c limit x holds few listed =
     let has = holds.tenure in
     let T = has.state in
@@ -77,23 +77,24 @@ read_answered log c limit x holds few listed =
     ∙ ap not listed)
     ∙ passed_if refusal.TooManyPending (nat_le 8 (pending T)) _ (ap (nat_le 8) (waiting_is log x has)
     ∙ few_wait (length x.waiting) few)
-    ∙ passed_if (refusal.OutOfPlace (reach T)) (not (x.place == reach T)) _ (same_not x.place (reach T) (sym has.up_to))
+    ∙ passed_if (refusal.OutOfPlace (reach T)) (not (x.position == reach T)) _
+    (same_not x.position (reach T) (sym has.up_to))
     ∙ ap (λ p. read_reply log c x.by x.tenure limit T.key (batch log c T.key.stream T.key.shard p limit)
-    (place_after p (numbers_of (batch log c T.key.stream T.key.shard p limit)))) has.up_to
-    ∙ ap (λ k. read_reply log c x.by x.tenure limit k (batch log c k.stream k.shard x.place limit)
-    (place_after x.place (numbers_of (batch log c k.stream k.shard x.place limit)))) has.of_key
+    (position_after p (numbers_of (batch log c T.key.stream T.key.shard p limit)))) has.up_to
+    ∙ ap (λ k. read_reply log c x.by x.tenure limit k (batch log c k.stream k.shard x.position limit)
+    (position_after x.position (numbers_of (batch log c k.stream k.shard x.position limit)))) has.of_key
 
 -- The Give of the first read that waits to be given is accepted, and returns the position after this read.
 pub give_answered : (log : Journal) (c : ℕ) (x : Holding) (r : ReadDone) (rest : List ReadDone) → Holds log x
     → x.waiting ≡ r ∷ rest
-    → give log c x.by x.tenure ≡ Accepted (given_line c x ∷ []) (reply.Given (place_after x.done r.numbers))
+    → give log c x.by x.tenure ≡ Accepted (given_line c x ∷ []) (reply.Given (position_after x.done r.numbers))
 give_answered log c x r rest holds first =
     let has = holds.tenure in
     own_tenure log x _ has
     ∙ passed_if refusal.NothingPending (pending has.state == 0) _
     (some_wait (pending has.state) (length rest) (waiting_is log x has ∙ ap length first))
-    ∙ ap (λ p. Accepted (given_line c x ∷ []) (reply.Given p)) (given_place has.state r rest (has.waits ∙ first)
-    ∙ ap (λ p. place_after p r.numbers) has.given_to)
+    ∙ ap (λ p. Accepted (given_line c x ∷ []) (reply.Given p)) (given_position has.state r rest (has.waits ∙ first)
+    ∙ ap (λ p. position_after p r.numbers) has.given_to)
 
 -- If the tenure may mark its row at the target `to`, and the row's counter isn't the last number, the Mark is accepted.
 pub mark_answered : (log : Journal) (c : ℕ) (x : Holding) (to : Target) → Holds log x → MayMark x to

@@ -10,19 +10,21 @@ use Rattle.kds_defs.specs.declared.command.Target.{Target}
 use Rattle.kds_defs.specs.declared.reply.Row.{Row}
 use Rattle.kds_defs.specs.Journal.{Journal}
 use Rattle.kds_defs.specs.Leases.{TenureState, ReadDone, checkpoint_in, delivered, given_reads, is_key, key_of}
-use Rattle.kds_defs.specs.Leases.{last_ended, marked_row, new_tenure, place_after_reads, place_of, row, taken_count}
+use Rattle.kds_defs.specs.Leases.{last_ended, marked_row, new_tenure, position_after_reads, start_position, row}
+use Rattle.kds_defs.specs.Leases.{taken_count}
 use Rattle.kds_defs.specs.Leases.{taken_row, tenure, with_given, with_opened, with_read}
-use Rattle.kds_defs.specs.Records.{place_after}
+use Rattle.kds_defs.specs.Records.{position_after}
 use Rattle.kds_defs.proofs.Keys.{key_itself}
 use Rattle.kcl_drill_laws.specs.Holding.{Holding, Holds, after_give, after_mark, after_read, begun_from, given_line}
 use Rattle.kcl_drill_laws.specs.Holding.{marked_line, opened_line, read_line, taken_line}
 
 -- ---- Lists of reads
 
-places_append : (p : ℕ) (rs : List ReadDone) (r : ReadDone)
-    → place_after_reads p (rs ++ r ∷ []) ≡ place_after (place_after_reads p rs) r.numbers
-places_append p [] r = refl
-places_append p (q ∷ rs) r = places_append (place_after p q.numbers) rs r
+-- The position after some reads and one more is the position after this one, from that after the others on.
+positions_append : (p : ℕ) (rs : List ReadDone) (r : ReadDone)
+    → position_after_reads p (rs ++ r ∷ []) ≡ position_after (position_after_reads p rs) r.numbers
+positions_append p [] r = refl
+positions_append p (q ∷ rs) r = positions_append (position_after p q.numbers) rs r
 
 -- The last read of a list says whether the list ended the shard.
 last_one : (rs : List ReadDone) (r : ReadDone) → last_ended (rs ++ r ∷ []) ≡ r.ended
@@ -64,10 +66,11 @@ one_more_given T r rest is =
     let e : T.given + 1 ≡ suc T.given = omega arith in
     ap (λ n. take n T.reads) e ∙ take_more T.given T.reads r rest is
 
-pub given_place : (T : TenureState) (r : ReadDone) (rest : List ReadDone) → drop T.given T.reads ≡ r ∷ rest
-    → delivered (with_given T) ≡ place_after (delivered T) r.numbers
-given_place T r rest is = ap (place_after_reads (place_of T.start)) (one_more_given T r rest is)
-    ∙ places_append (place_of T.start) (given_reads T) r
+-- If `r` is the first read that isn't given, then after a give the delivered position is the one after `r`.
+pub given_position : (T : TenureState) (r : ReadDone) (rest : List ReadDone) → drop T.given T.reads ≡ r ∷ rest
+    → delivered (with_given T) ≡ position_after (delivered T) r.numbers
+given_position T r rest is = ap (position_after_reads (start_position T.start)) (one_more_given T r rest is)
+    ∙ positions_append (start_position T.start) (given_reads T) r
 
 -- ---- A take and an opening
 
@@ -139,8 +142,8 @@ read_holds log c limit x r holds =
         own = has.own;
         of_key = has.of_key;
         opened = has.opened;
-        up_to = places_append (place_of T.start) T.reads r ∙ ap (λ p. place_after p r.numbers) has.up_to;
-        given_to = ap (place_after_reads (place_of T.start)) (take-append-le T.given T.reads (r ∷ []) has.some)
+        up_to = positions_append (start_position T.start) T.reads r ∙ ap (λ p. position_after p r.numbers) has.up_to;
+        given_to = ap (position_after_reads (start_position T.start)) (take-append-le T.given T.reads (r ∷ []) has.some)
             ∙ has.given_to;
         some = omega (arith, has.some, length_push T.reads r);
         waits = drop-append-le T.given T.reads (r ∷ []) has.some ∙ ap (λ qs. qs ++ r ∷ []) has.waits;
@@ -174,7 +177,7 @@ give_holds log c x r rest holds first =
         of_key = has.of_key;
         opened = has.opened;
         up_to = has.up_to;
-        given_to = given_place T r rest is ∙ ap (λ p. place_after p r.numbers) has.given_to;
+        given_to = given_position T r rest is ∙ ap (λ p. position_after p r.numbers) has.given_to;
         some = let n = some_more T.given T.reads r rest is in omega arith;
         waits = ap (λ n. drop n T.reads) e ∙ drop_more T.given T.reads r rest is;
         last = ap last_ended (one_more_given T r rest is) ∙ last_one (given_reads T) r;

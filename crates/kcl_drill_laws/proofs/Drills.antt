@@ -15,7 +15,7 @@ use Rattle.kds_defs.specs.Histories.{clock}
 use Rattle.kds_defs.specs.Kinds.{is_service}
 use Rattle.kds_turn.specs.declared.view.Account.{Account}
 use Rattle.kds_turn.specs.Known.{is_by, turns_by}
-use Rattle.kds_turn.specs.Passes.{Standing}
+use Rattle.kds_turn.specs.Passes.{PassValue}
 use Rattle.kcl_live.specs.Records.{AreOnLeasesAt}
 use Rattle.kcl_drill.specs.declared.limits.TheConstants.{FIRST_SHARDS}
 use Rattle.kcl_drill.specs.declared.plan.Plan.{Plan}
@@ -139,14 +139,15 @@ few_begun by n cs own e =
 
 -- ---- A drill whose threads may have ended early
 
-begun : (cs : List Command) (p : Standing) → HasAsked cs p → HasBegun cs p
+-- If a pass made all of the commands `cs`, it made them up to some command.
+begun : (cs : List Command) (p : PassValue) → HasAsked cs p → HasBegun cs p
 begun cs p asked = (
   length cs,
   subst (λ made. HasAsked made p) (sym (take_all (length cs) cs (le_refl (length cs)))) asked,
 )
 
--- If the root and the feeder made all commands, they made a prefix of them.
-pub fed_so_far : (number records : ℕ) (root feeder : Standing) → HasFed number records root feeder
+-- If the root and the feeder made all of their commands, they made them up to some command (`HasFedSoFar`).
+pub fed_so_far : (number records : ℕ) (root feeder : PassValue) → HasFed number records root feeder
     → HasFedSoFar number records root feeder
 fed_so_far number records root feeder fed = record {
   of_root = begun (take 1 (generated number records)) root fed.of_root;
@@ -154,7 +155,8 @@ fed_so_far number records root feeder fed = record {
   after = λ some. fed.after;
 }
 
-pub is_short_stopped : (number records : ℕ) (root feeder : Standing) (members : List Account) (h : List Turn)
+-- The history of a drill whose threads may have ended early has fewer than 2^32 turns.
+pub is_short_stopped : (number records : ℕ) (root feeder : PassValue) (members : List Account) (h : List Turn)
     → IsStopped number records root feeder members h
     → length h < 2 ^ 32
 is_short_stopped number records root feeder members h is =
@@ -175,7 +177,8 @@ none_before n front seen none =
     ap length (sym (filter-append (is_by n) front seen) ∙ none) in
     nil_from_length (turns_by n seen) (omega (arith, total, length-append (turns_by n front) (turns_by n seen)))
 
-module _ (number records : ℕ) (root feeder : Standing) (members : List Account) (h : List Turn)
+-- In this module, `h` is the history of a drill whose threads ended without an error (`IsClosed`).
+module _ (number records : ℕ) (root feeder : PassValue) (members : List Account) (h : List Turn)
     (is : IsClosed number records root feeder members h) where
   -- The command of the root, which makes the stream.
   abbrev create : Command

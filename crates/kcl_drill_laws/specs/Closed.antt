@@ -15,7 +15,7 @@ use Rattle.kds_defs.specs.Leases.{origin_of, row}
 use Rattle.kds_defs.specs.Lawful.{IsHistory, IsLawful}
 use Rattle.kds_turn.specs.declared.view.Account.{Account}
 use Rattle.kds_turn.specs.Known.{Continues, account}
-use Rattle.kds_turn.specs.Passes.{Standing, AreAllBy, IsSplitInto}
+use Rattle.kds_turn.specs.Passes.{PassValue, AreAllBy, IsSplitInto}
 use Rattle.kcl_live.specs.Records.{AreOnLeasesAt}
 use Rattle.kcl_drill_threads.specs.Feeding.{HasFed, HasFedSoFar}
 use Rattle.kcl_drill.specs.declared.limits.TheConstants.{MEMBER_TURNS, MOST_RECORDS, MOST_WORKERS, RECORDS_A_TURN, TICK}
@@ -45,13 +45,15 @@ pub record IsMemberAccount (records : ℕ) (a : Account) : Type 0 where
   pub most : IsFew records a
   pub horizon : AreDrillTurns a.turns
 
--- The accounts of all passes of a drill.
-abbrev pub all_accounts : Standing → Standing → List Account → List Account
+-- The accounts of all passes of a drill: those of the root and of the feeder, and those of the members.
+abbrev pub all_accounts : PassValue → PassValue → List Account → List Account
 all_accounts root feeder members = account root.by root.own ∷ account feeder.by feeder.own ∷ members
 
--- The root and the feeder made the generator's commands, the members ran, and the history has their turns and no
--- others.
-pub record IsClosed (number records : ℕ) (root feeder : Standing) (members : List Account) (h : List Turn) :
+-- `h` is the history of the drill with the number `number` and `records` records, after all its threads ended without
+-- an error. The root made the first command of the generator and the feeder the others, and each member's account is as
+-- it should be (`IsMemberAccount`). `h` has the turns of all these accounts and no others. It is lawful, and goes on
+-- from what the feeder has seen. The records and the members are at most as many as a drill may have.
+pub record IsClosed (number records : ℕ) (root feeder : PassValue) (members : List Account) (h : List Turn) :
     Type 0 where
   pub limit : records ≤ MOST_RECORDS
   pub few : length members ≤ MOST_WORKERS
@@ -63,9 +65,10 @@ pub record IsClosed (number records : ℕ) (root feeder : Standing) (members : L
   pub all : AreAllBy (all_accounts root feeder members) h
   pub own : IsSplitInto (all_accounts root feeder members) h
 
--- The root and the feeder each made a prefix of their commands, the members had no more turns than `IsFew` allows, and
--- the history has their turns and no others.
-pub record IsStopped (number records : ℕ) (root feeder : Standing) (members : List Account) (h : List Turn) :
+-- `h` is the history of such a drill whose threads may have ended early. The root and the feeder each made their
+-- commands up to some command, each member's account has few enough turns (`IsFew`), and `h` has the turns of all these
+-- accounts and no others.
+pub record IsStopped (number records : ℕ) (root feeder : PassValue) (members : List Account) (h : List Turn) :
     Type 0 where
   pub limit : records ≤ MOST_RECORDS
   pub few : length members ≤ MOST_WORKERS

@@ -15,8 +15,8 @@ use Rattle.kds_defs.specs.Keys.{is_listed_key}
 use Rattle.kds_defs.specs.LeaseCommands.{give, mark, open_shard, past_parents, read, read_reply, take_lease}
 use Rattle.kds_defs.specs.RowWrites.{least}
 use Rattle.kds_defs.specs.Leases.{ReadDone, TenureState, checkpoint_at, delivered, given_reads, is_end, key_of}
-use Rattle.kds_defs.specs.Leases.{last_ended, place_of, reach, row, taken_count, tenure}
-use Rattle.kds_defs.specs.Records.{batch, numbers_of, place_after}
+use Rattle.kds_defs.specs.Leases.{last_ended, start_position, reach, row, taken_count, tenure}
+use Rattle.kds_defs.specs.Records.{batch, numbers_of, position_after}
 use Rattle.kds_defs.specs.Shards.{shard_at}
 use Rattle.kds_defs.specs.StreamCommands.{last_number}
 
@@ -27,7 +27,7 @@ pub record Holding : Type 0 where
   pub by : ℕ
   pub key : ShardRef
   pub tenure : ℕ
-  pub place : ℕ
+  pub position : ℕ
   pub done : ℕ
   pub waiting : List ReadDone
   pub ended : Bool
@@ -53,7 +53,7 @@ pub record HasCome (log : Journal) (x : Holding) : Type 0 where
   pub own : state.by ≡ x.by
   pub of_key : state.key ≡ x.key
   pub opened : state.opened ≡ true
-  pub up_to : reach state ≡ x.place
+  pub up_to : reach state ≡ x.position
   pub given_to : delivered state ≡ x.done
   pub some : state.given ≤ length state.reads
   pub waits : drop state.given state.reads ≡ x.waiting
@@ -112,8 +112,8 @@ marked_line c x to = plain_line c x.by (entry.Marked x.tenure (x.counter + 1) to
 -- this position.
 abbrev pub read_here : Journal → ℕ → Holding → ℕ → Decision
 read_here log c x limit =
-    read_reply log c x.by x.tenure limit x.key (batch log c x.key.stream x.key.shard x.place limit)
-    (place_after x.place (numbers_of (batch log c x.key.stream x.key.shard x.place limit)))
+    read_reply log c x.by x.tenure limit x.key (batch log c x.key.stream x.key.shard x.position limit)
+    (position_after x.position (numbers_of (batch log c x.key.stream x.key.shard x.position limit)))
 
 -- ---- The answers to the commands
 
@@ -136,12 +136,12 @@ IsOpenedSo log c d by owner key r =
 
 -- A Read of the tenure at its position is accepted with the batch there, as `read_here` defines.
 abbrev pub IsReadSo : Journal → ℕ → Holding → ℕ → Type 0
-IsReadSo log c x limit = read log c x.by x.tenure x.place limit ≡ read_here log c x limit
+IsReadSo log c x limit = read log c x.by x.tenure x.position limit ≡ read_here log c x limit
 
 -- The Give of the read `r`, the first that waits, is accepted, and returns the position after this read.
 abbrev pub IsGivenSo : Journal → ℕ → Holding → ReadDone → Type 0
 IsGivenSo log c x r =
-    give log c x.by x.tenure ≡ Accepted (given_line c x ∷ []) (reply.Given (place_after x.done r.numbers))
+    give log c x.by x.tenure ≡ Accepted (given_line c x ∷ []) (reply.Given (position_after x.done r.numbers))
 
 -- The Mark of the row at the target `to` is accepted, and raises the row's counter by one.
 abbrev pub IsMarkedSo : Journal → ℕ → Holding → Target → Type 0
@@ -158,8 +158,8 @@ begun_from log by key r =
       by = by;
       key = key;
       tenure = taken_count log + 1;
-      place = place_of r.checkpoint;
-      done = place_of r.checkpoint;
+      position = start_position r.checkpoint;
+      done = start_position r.checkpoint;
       waiting = [];
       ended = false;
       counter = r.counter + 1;
@@ -169,11 +169,11 @@ begun_from log by key r =
 
 -- The tenure `x` after the read `r`, which is the last of those that wait to be given.
 abbrev pub after_read : Holding → ReadDone → Holding
-after_read x r = record x { place = place_after x.place r.numbers; waiting = x.waiting ++ (r ∷ []) }
+after_read x r = record x { position = position_after x.position r.numbers; waiting = x.waiting ++ (r ∷ []) }
 
 -- The tenure `x` after the read `r` was given, and the reads `rest` still wait to be given.
 abbrev pub after_give : Holding → ReadDone → List ReadDone → Holding
-after_give x r rest = record x { done = place_after x.done r.numbers; waiting = rest; ended = r.ended }
+after_give x r rest = record x { done = position_after x.done r.numbers; waiting = rest; ended = r.ended }
 
 -- The tenure `x` after its row was marked at the target `to`.
 abbrev pub after_mark : Holding → Target → Holding

@@ -5,7 +5,7 @@ ghost use Rattle.std.specs.Prelude.{ℕ, ◌≡◌, ◌++◌, ◌<◌, ◌≤◌
 ghost use Rattle.kds_defs.specs.declared.command.Turn.{Turn};
 ghost use Rattle.kds_defs.specs.Histories.{clock, journal};
 ghost use Rattle.kds_turn.specs.declared.view.Account.{Account};
-ghost use Rattle.kds_turn.specs.Passes.{Standing};
+ghost use Rattle.kds_turn.specs.Passes.{PassValue};
 ghost use Rattle.kcl_defs.specs.declared.consumer.WorkerMade.{WorkerMade};
 ghost use Rattle.kcl_defs.specs.Workers.{WorkerPast};
 ghost use Rattle.kcl_live.specs.Records.{turns_in};
@@ -22,13 +22,13 @@ use kcl_laws::rows;
 /// each lease starts at the trim horizon. The latest time in the history is less than 24 hours after moment 0. The
 /// history has fewer than 2^32 commands.
 pub fn closed()
-    ensures fed { (number records : ℕ) (root feeder : Standing) (members : List Account) (h : List Turn)
+    ensures fed { (number records : ℕ) (root feeder : PassValue) (members : List Account) (h : List Turn)
         → IsClosed number records root feeder members h → IsFed number records root.by feeder.by h }
-    ensures drill { (number records : ℕ) (root feeder : Standing) (members : List Account) (h : List Turn)
+    ensures drill { (number records : ℕ) (root feeder : PassValue) (members : List Account) (h : List Turn)
         → IsClosed number records root feeder members h → IsDrill h number records }
-    ensures horizon { (number records : ℕ) (root feeder : Standing) (members : List Account) (h : List Turn)
+    ensures horizon { (number records : ℕ) (root feeder : PassValue) (members : List Account) (h : List Turn)
         → IsClosed number records root feeder members h → AreFromHorizon (journal h) }
-    ensures short { (number records : ℕ) (root feeder : Standing) (members : List Account) (h : List Turn)
+    ensures short { (number records : ℕ) (root feeder : PassValue) (members : List Account) (h : List Turn)
         → IsClosed number records root feeder members h → length h < 2 ^ 32 }
 {
     kcl_drill::one_order();
@@ -37,7 +37,7 @@ pub fn closed()
 
 /// The history of a drill has fewer than 2^32 commands, even if some threads of the drill stopped early.
 pub fn stopped()
-    ensures { (number records : ℕ) (root feeder : Standing) (members : List Account) (h : List Turn)
+    ensures { (number records : ℕ) (root feeder : PassValue) (members : List Account) (h : List Turn)
         → IsStopped number records root feeder members h → length h < 2 ^ 32 }
 {}
 

@@ -6,7 +6,7 @@ use mathlib.Core.Logic.{dite}
 use native.Mathlib.Decide.{ℕ_discrete}
 use Rattle.kds_turn.specs.declared.view.Account.{Account}
 use Rattle.kds_turn.specs.Known.{account, times}
-use Rattle.kds_turn.specs.Passes.{Place, Standing}
+use Rattle.kds_turn.specs.Passes.{HallValue, PassValue}
 use Rattle.kds_turn.proofs.Turns.{has_one}
 use Rattle.kcl_drill_laws.specs.Closed.{all_accounts}
 use Rattle.kcl_live.specs.declared.crew.Member.{Member}
@@ -17,8 +17,8 @@ abbrev pub CountFrom : ℕ → List Account → Type 0
 CountFrom from [] = Unit {0}
 CountFrom from (a ∷ xs) = (a.by ≡ from) × CountFrom (from + 1) xs
 
-module _ {M P F G : Type 0} (hall : Place) where
-  -- No other pass was joined into a worker's pass.
+module _ {M P F G : Type 0} (hall : HallValue) where
+  -- If no other pass was joined into a worker's pass, each worker has just one account.
   pub each_alone : (from : ℕ) (ms : List (Member M P F G)) → HavePasses hall from ms
       → flat_map accounts_in ms ≡ map account_in ms
   each_alone from [] are = refl
@@ -61,8 +61,9 @@ has_some from n (a ∷ xs) are least most =
     (λ ne. let more = has_some (from + 1) n xs are.1 (omega arith) (omega arith) in
     omega arith)
 
--- The numbers are 1, 2 and those of the workers.
-pub has_each : (root feeder : Standing) (xs : List Account) → root.by ≡ 1 → feeder.by ≡ 2 → CountFrom 3 xs
+-- The root has the number 1, the feeder the number 2, and the workers have the numbers after these. So each number from
+-- 1 to the number of passes has an account.
+pub has_each : (root feeder : PassValue) (xs : List Account) → root.by ≡ 1 → feeder.by ≡ 2 → CountFrom 3 xs
     → (n : ℕ) → 0 < n → n ≤ length xs + 2 → 0 < times n (all_accounts root feeder xs)
 has_each root feeder xs first second are n least most =
     dite (ℕ_discrete 1 n)

@@ -9,7 +9,7 @@ use Rattle.kds_defs.specs.Histories.{journal}
 use Rattle.kds_defs.specs.Lawful.{IsHistory}
 use Rattle.kds_turn.specs.declared.view.Account.{Account}
 use Rattle.kds_turn.specs.Known.{Continues, account, times}
-use Rattle.kds_turn.specs.Passes.{AreAllBy, HasAll, IsSplitInto, Place, Standing, accounts_of}
+use Rattle.kds_turn.specs.Passes.{AreAllBy, HasAll, IsSplitInto, HallValue, PassValue, accounts_of}
 use Rattle.kcl_drill_laws.specs.Closed.{AreFromHorizon, IsClosed, IsFew, IsMemberAccount, IsStopped, all_accounts}
 use Rattle.kcl_drill.specs.Fed.{IsDrill}
 use Rattle.kcl_live.specs.declared.crew.Member.{Member}
@@ -22,16 +22,16 @@ use Rattle.kcl_drill_run.proofs.Accounts.{count_accounts, counted, each_alone, h
 -- Two laws that the lemmas take as given: if no thread failed (`IsClosed`), the history is that of the drill, and each
 -- row was made with the origin TRIM_HORIZON.
 pub record HasLaws : Type 0 where
-  pub drill : (number records : ℕ) (root feeder : Standing) (members : List Account) (h : List Turn)
+  pub drill : (number records : ℕ) (root feeder : PassValue) (members : List Account) (h : List Turn)
       → IsClosed number records root feeder members h
       → IsDrill h number records
-  pub horizon : (number records : ℕ) (root feeder : Standing) (members : List Account) (h : List Turn)
+  pub horizon : (number records : ℕ) (root feeder : PassValue) (members : List Account) (h : List Turn)
       → IsClosed number records root feeder members h
       → AreFromHorizon (journal h)
 
 -- A third law: the history of a drill whose threads have ended, perhaps early, has fewer than 2^32 turns.
 abbrev pub StoppedIsShort : Type 0
-StoppedIsShort = (number records : ℕ) (root feeder : Standing) (members : List Account) (h : List Turn)
+StoppedIsShort = (number records : ℕ) (root feeder : PassValue) (members : List Account) (h : List Turn)
     → IsStopped number records root feeder members h
     → length h < 2 ^ 32
 
@@ -49,9 +49,11 @@ short_members h last (m ∷ ms) more short are = (
   short_members h last ms more short are.1,
 )
 
-module _ (hall : Place) (number records : ℕ) (p : Participants) (is : HaveStopped hall number records p)
-    (last : Standing) (taken : HasTaken p last) where
-  -- The workers' accounts.
+-- In this module, the threads have ended, perhaps early (`HaveStopped`), and `last` is the pass into which all others
+-- were joined (`HasTaken`).
+module _ (hall : HallValue) (number records : ℕ) (p : Participants) (is : HaveStopped hall number records p)
+    (last : PassValue) (taken : HasTaken p last) where
+  -- The accounts of the workers.
   abbrev xs : List Account
   xs = map account_in p.members.items
 
@@ -104,7 +106,9 @@ module _ (hall : Place) (number records : ℕ) (p : Participants) (is : HaveStop
         members = short_members h last.seen p.members.items seen is_short taken.seen_members;
       }
 
-module _ (hall : Place) (number records : ℕ) (p : Participants) (ran : HaveRun hall number records p) (last : Standing)
+-- In this module, no thread failed (`HaveRun`), and `h` is the history of the closed hall.
+module _ (hall : HallValue) (number records : ℕ) (p : Participants) (ran : HaveRun hall number records p)
+    (last : PassValue)
     (taken : HasTaken p last)
     (h : List Turn) (lawful : IsHistory h) (seen : Continues h last.seen) (all : AreAllBy (accounts_of last) h)
     (own : IsSplitInto (accounts_of last) h) where

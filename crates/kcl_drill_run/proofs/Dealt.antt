@@ -7,13 +7,14 @@ use Rattle.std.specs.List.{remove}
 use Rattle.kcl_live.specs.declared.crew.Member.{Member}
 use Rattle.kcl_proc.specs.declared.stock.Kind.{Kind}
 use Rattle.kcl_proc.specs.declared.stock.Stock.{Stock}
-use Rattle.kds_turn.specs.Passes.{Place, Standing, new_pass}
+use Rattle.kds_turn.specs.Passes.{HallValue, PassValue, new_pass}
 use Rattle.kcl_drill_run.specs.Participants.{AreDealt, AreMembersOf, IsMemberOf, new_passes}
 use Rattle.kcl_drill_run.specs.declared.participants.Participants.{Participants}
 
 module _ {M G : Type 0} where
-  -- `AreMembersOf` holds with one more worker and its pass.
-  pub one_more : (name : ℕ) (ps : List Standing) (ms : List (Member M Stock Kind G)) (p : Standing)
+  -- If there is one worker for each pass, there still is after one more worker with its pass was added. Its name is the
+  -- next number.
+  pub one_more : (name : ℕ) (ps : List PassValue) (ms : List (Member M Stock Kind G)) (p : PassValue)
       (m : Member M Stock Kind G) → AreMembersOf name ps ms
       → IsMemberOf (name + length ms) p m → AreMembersOf name (ps ++ p ∷ []) (ms ++ m ∷ [])
   one_more name [] [] p m are is = let e : name + 0 ≡ name = omega arith in (subst (λ n. IsMemberOf n p m) e is, tt)
@@ -23,7 +24,8 @@ module _ {M G : Type 0} where
       let e : name + suc (length ms) ≡ name + 1 + length ms = omega arith in
       (are.0, one_more (name + 1) ps ms p m are.1 (subst (λ n. IsMemberOf n p m) e is))
 
-  pub as_many : (name : ℕ) (ps : List Standing) (ms : List (Member M Stock Kind G)) → AreMembersOf name ps ms
+  -- If there is one worker for each pass, there are as many workers as passes.
+  pub as_many : (name : ℕ) (ps : List PassValue) (ms : List (Member M Stock Kind G)) → AreMembersOf name ps ms
       → length ms ≡ length ps
   as_many name [] [] are = refl
   as_many name [] (y ∷ ms) are = absurd are
@@ -32,30 +34,36 @@ module _ {M G : Type 0} where
 
 -- ---- The first two passes and the others
 
-first_two : (hall : Place) (n : ℕ) → new_passes hall 1 (n + 2) ≡ new_pass hall.id 1 ∷ new_pass hall.id 2
+-- The passes with the numbers from 1 to `n` + 2 are the first, the second, and those from 3 on.
+first_two : (hall : HallValue) (n : ℕ) → new_passes hall 1 (n + 2) ≡ new_pass hall.id 1 ∷ new_pass hall.id 2
     ∷ new_passes hall 3 n
 first_two hall n = let e : n + 2 ≡ suc (suc n) = omega arith in ap (new_passes hall 1) e
 
-pub count_new : (hall : Place) (from n : ℕ) → length (new_passes hall from n) ≡ n
+-- There are `n` new passes with the `n` numbers from `from` on.
+pub count_new : (hall : HallValue) (from n : ℕ) → length (new_passes hall from n) ≡ n
 count_new hall from zero = refl
 count_new hall from (suc n) = ap suc (count_new hall (from + 1) n)
 
--- The first element, which is `x`, was taken out, and `left` are the others.
-pub record IsTaken (from left : List Standing) (x : Standing) : Type 0 where
+-- `x` was taken from the front of the list `from`, and `left` is the rest of the list.
+pub record IsTaken (from left : List PassValue) (x : PassValue) : Type 0 where
   pub value : x ≡ slice_index_or from 0 x
   pub left_are : left ≡ remove from 0
 
-module _ (hall : Place) (workers : ℕ) (all some rest : List Standing)
+-- In this module, `all` are the new passes of a hall for the root, the feeder and `workers` workers. The root's pass is
+-- taken first, then the feeder's.
+module _ (hall : HallValue) (workers : ℕ) (all some rest : List PassValue)
     (new : all ≡ new_passes hall 1 (workers + 2)) where
   -- The passes are the first, the second, and those from 3 on.
   are_all : all ≡ new_pass hall.id 1 ∷ new_pass hall.id 2 ∷ new_passes hall 3 workers
   are_all = new ∙ first_two hall workers
 
-  module _ (root : Standing) (first : IsTaken all some root) where
+  module _ (root : PassValue) (first : IsTaken all some root) where
+    -- After the root's pass was taken, the second and those from 3 on are left.
     are_some : some ≡ new_pass hall.id 2 ∷ new_passes hall 3 workers
     are_some = first.left_are ∙ ap (λ xs. remove xs 0) are_all
 
-    module _ (feeder : Standing) (second : IsTaken some rest feeder) where
+    module _ (feeder : PassValue) (second : IsTaken some rest feeder) where
+      -- After the feeder's pass was taken too, those from 3 on are left.
       are_rest : rest ≡ new_passes hall 3 workers
       are_rest = second.left_are ∙ ap (λ xs. remove xs 0) are_some
 

@@ -16,7 +16,7 @@ use Rattle.kcl_drill.specs.Apart.{LEAST_RETENTION}
 use Rattle.kcl_drill.specs.Fed.{IsDrill}
 use Rattle.kcl_drill.specs.Summed.{AreDrained, drill_text, summary_text}
 use Rattle.kcl_drill_summary.specs.Counting.{AreAbove, CanSum}
-use Rattle.kcl_drill_summary.specs.Reading.{HasRead}
+use Rattle.kcl_drill_summary.specs.Reads.{HasRead}
 use Rattle.kcl_drill_laws.specs.Closed.{AreFromHorizon, AreLeased}
 use Rattle.kcl_drill_drain.specs.Draining.{CanDrain}
 use Rattle.kcl_drill_drain.specs.Leased.{HasDrained}

@@ -5,7 +5,7 @@ use Rattle.std.specs.Prelude.{IfErr}
 use Rattle.std.specs.List.{AllByRecursion}
 use Rattle.kds_turn.specs.declared.pass.TurnErr.{TurnErr}
 use Rattle.kds_turn.specs.declared.pass.TurnErr.TheVariants as failed
-use Rattle.kds_turn.specs.Passes.{Standing}
+use Rattle.kds_turn.specs.Passes.{PassValue}
 use Rattle.kcl_drill_threads.specs.Asking.{IsAskErr}
 use Rattle.kcl_drill_threads.specs.Feeding.{IsCrowdErr, IsFeedErr}
 use Rattle.kcl_drill_threads.specs.Running.{HaveEnded}
@@ -22,19 +22,24 @@ no_memory e = absurd cc
 
 -- ---- The root and the feeder
 
-ask_full : (before p : Standing) → IsAskErr before p failed.Spent → IsFull p
+-- If a command of the root failed with Spent, the root's pass is full.
+ask_full : (before p : PassValue) → IsAskErr before p failed.Spent → IsFull p
 ask_full before p (inl memory) = absurd (no_memory memory.0)
 ask_full before p (inr turn) = turn.0 refl
 
-feed_full : (p : Standing) → IsFeedErr p failed.Spent → IsFull p
+-- If the feeder failed with Spent, its pass is full.
+feed_full : (p : PassValue) → IsFeedErr p failed.Spent → IsFull p
 feed_full p (inl memory) = absurd (no_memory memory.0)
 feed_full p (inr turn) = turn.0 refl
 
-crowd_spent : (before root feeder : Standing) → IsCrowdErr before root feeder failed.Spent → IsFull root ⊎ IsFull feeder
+-- If the root or the feeder failed with Spent, one of their passes is full.
+crowd_spent : (before root feeder : PassValue) → IsCrowdErr before root feeder failed.Spent
+    → IsFull root ⊎ IsFull feeder
 crowd_spent before root feeder (inl asked) = inl (ask_full before root asked.2)
 crowd_spent before root feeder (inr fed) = inr (feed_full feeder fed.1)
 
-pub crowd_full : (before : Standing) (p : Participants) (e : TurnErr) → IsCrowdErr before p.root p.feeder e
+-- If the root or the feeder failed with Spent, at least one pass of the drill is full (`AreFull`).
+pub crowd_full : (before : PassValue) (p : Participants) (e : TurnErr) → IsCrowdErr before p.root p.feeder e
     → e ≡ failed.Spent → AreFull p
 crowd_full before p e err is =
     either (crowd_spent before p.root p.feeder (subst (IsCrowdErr before p.root p.feeder) is err))
@@ -70,7 +75,8 @@ module _ {M P F G : Type 0} (stands : P → List Call → Type 0) (turns : ℕ) 
 
 -- ---- Passes that have seen few turns
 
-few_not_full : (p : Standing) → IsShort p → IsFull p → ⊥
+-- A pass that has seen fewer than 2^32 turns isn't full.
+few_not_full : (p : PassValue) → IsShort p → IsFull p → ⊥
 few_not_full p short full = absurd (omega arith)
 
 -- If the passes of all workers have seen fewer than 2^32 turns each, none of them is full.

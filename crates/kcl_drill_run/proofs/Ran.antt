@@ -19,7 +19,7 @@ use Rattle.kcl_live.specs.declared.crew.Member.{Member}
 use Rattle.kcl_proc.specs.Stocks.{StandsFor as StockStandsFor}
 use Rattle.kcl_proc.specs.declared.stock.Kind.{Kind}
 use Rattle.kcl_proc.specs.declared.stock.Stock.{Stock}
-use Rattle.kds_turn.specs.Passes.{Place, Standing, new_pass}
+use Rattle.kds_turn.specs.Passes.{HallValue, PassValue, new_pass}
 use Rattle.kcl_drill_run.specs.Ends.{AllEnded}
 use Rattle.kcl_drill_run.specs.Participants.{AreDealt, AreMembersOf, IsMemberOf, new_passes}
 use Rattle.kcl_drill_run.specs.Running.{HasPass, HavePasses, HaveRun, HaveStopped, account_in}
@@ -48,14 +48,14 @@ then_err (Err e) P Q f p = f e p
 
 -- ---- The workers
 
-module _ {M G : Type 0} (hall : Place) where
-  -- The workers may be run.
+module _ {M G : Type 0} (hall : HallValue) where
+  -- New workers with new passes of the hall are ready to run (`IsReady`).
   pub all_ready : (name from n : ℕ) (ms : List (Member M Stock Kind G)) → AreMembersOf name (new_passes hall from n) ms
       → All (IsReady StockStandsFor hall) ms
   all_ready name from n [] are k d below = absurd (omega arith)
   all_ready name from zero (m ∷ ms) are k d below = absurd are
   all_ready name from (suc n) (m ∷ ms) are zero d below =
-      (ap (λ (p : Standing). p.hall) are.0.pass_is, ap (λ (p : Standing). p.own) are.0.pass_is, are.0.stands)
+      (ap (λ (p : PassValue). p.hall) are.0.pass_is, ap (λ (p : PassValue). p.own) are.0.pass_is, are.0.stands)
   all_ready name from (suc n) (m ∷ ms) are (suc k) d below =
       all_ready (name + 1) (from + 1) n ms are.1 k d (omega arith)
 
@@ -71,19 +71,19 @@ module _ {M G : Type 0} (hall : Place) where
         → HasPass hall from a × IsFew records (account_in a)
     one_passed name from b a is (inl ended) = (
       record {
-        at = ended.kept.0 ∙ ap (λ (p : Standing). p.hall) is.pass_is;
-        by = ended.kept.1 ∙ ap (λ (p : Standing). p.by) is.pass_is;
-        alone = ended.kept.2 ∙ ap (λ (p : Standing). p.joined) is.pass_is;
+        at = ended.kept.0 ∙ ap (λ (p : PassValue). p.hall) is.pass_is;
+        by = ended.kept.1 ∙ ap (λ (p : PassValue). p.by) is.pass_is;
+        alone = ended.kept.2 ∙ ap (λ (p : PassValue). p.joined) is.pass_is;
       },
       ended.most,
     )
     one_passed name from b a is (inr same) =
         let pass : a.pass ≡ new_pass hall.id from = ap (λ (m : Member M Stock Kind G). m.pass) same ∙ is.pass_is in
-        let none : length a.pass.own ≡ 0 = ap (λ (p : Standing). length p.own) pass in (
+        let none : length a.pass.own ≡ 0 = ap (λ (p : PassValue). length p.own) pass in (
           record {
-            at = ap (λ (p : Standing). p.hall) pass;
-            by = ap (λ (p : Standing). p.by) pass;
-            alone = ap (λ (p : Standing). p.joined) pass;
+            at = ap (λ (p : PassValue). p.hall) pass;
+            by = ap (λ (p : PassValue). p.by) pass;
+            alone = ap (λ (p : PassValue). p.joined) pass;
           },
           omega arith,
         )
@@ -138,7 +138,9 @@ module _ {M G : Type 0} (hall : Place) where
 
 -- ---- All threads
 
-module _ (hall : Place) (number records : ℕ) (before after : Participants) (dealt : AreDealt hall before)
+-- In this module, the passes of the hall were dealt out to the participants `before`, and `after` are these after the
+-- threads have ended.
+module _ (hall : HallValue) (number records : ℕ) (before after : Participants) (dealt : AreDealt hall before)
     (limit : records ≤ 1000000)
     (root : IsKept before.root after.root) (feeder : IsKept before.feeder after.feeder)
     (same : length after.members.items ≡ length before.members.items) where
@@ -153,13 +155,13 @@ module _ (hall : Place) (number records : ℕ) (before after : Participants) (de
       record {
         limit = limit;
         at = (
-          root.hall ∙ ap (λ (p : Standing). p.hall) dealt.root,
-          feeder.hall ∙ ap (λ (p : Standing). p.hall) dealt.feeder,
+          root.hall ∙ ap (λ (p : PassValue). p.hall) dealt.root,
+          feeder.hall ∙ ap (λ (p : PassValue). p.hall) dealt.feeder,
         );
-        by = (root.by ∙ ap (λ (p : Standing). p.by) dealt.root, feeder.by ∙ ap (λ (p : Standing). p.by) dealt.feeder);
+        by = (root.by ∙ ap (λ (p : PassValue). p.by) dealt.root, feeder.by ∙ ap (λ (p : PassValue). p.by) dealt.feeder);
         alone = (
-          root.joined ∙ ap (λ (p : Standing). p.joined) dealt.root,
-          feeder.joined ∙ ap (λ (p : Standing). p.joined) dealt.feeder,
+          root.joined ∙ ap (λ (p : PassValue). p.joined) dealt.root,
+          feeder.joined ∙ ap (λ (p : PassValue). p.joined) dealt.feeder,
         );
         begun = begun;
         passes = passed.0;

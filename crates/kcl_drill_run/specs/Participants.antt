@@ -10,29 +10,30 @@ use Rattle.kcl_proc.specs.declared.stock.Kind.{Kind}
 use Rattle.kcl_proc.specs.declared.stock.Kind.TheVariants as kind
 use Rattle.kcl_proc.specs.declared.stock.Stock.{Stock}
 use Rattle.kcl_worker.specs.Standing.{StandsFor}
-use Rattle.kds_turn.specs.Passes.{Place, Standing, new_pass}
+use Rattle.kds_turn.specs.Passes.{HallValue, PassValue, new_pass}
 use Rattle.kcl_drill_run.specs.declared.participants.Participants.{Participants}
 
--- The member is the worker of the name `name` as it is made, with the pass `pass`. Its processors tally, and it reads
--- each shard from its beginning.
-pub record IsMemberOf {M G : Type 0} (name : ℕ) (pass : Standing) (m : Member M Stock Kind G) : Type 0 where
+-- The member is a new worker with the name `name` and the pass `pass`. It has the usual settings, by which it reads
+-- each shard from its beginning. Its processors count records and bytes (`Tally`).
+pub record IsMemberOf {M G : Type 0} (name : ℕ) (pass : PassValue) (m : Member M Stock Kind G) : Type 0 where
   pub pass_is : m.pass ≡ pass
   pub made : m.worker.made ≡ record { name = name; settings = usual_settings }
   pub tallies : m.worker.maker ≡ kind.Tally
   pub stands : StandsFor StockStandsFor m.worker []
 
--- There is a worker for each pass. The workers' names are the numbers from `name` on.
-abbrev pub AreMembersOf : {M G : Type 0} → ℕ → List Standing → List (Member M Stock Kind G) → Type 0
+-- There is one worker for each of the passes, in their order. Their names are the numbers from `name` on.
+abbrev pub AreMembersOf : {M G : Type 0} → ℕ → List PassValue → List (Member M Stock Kind G) → Type 0
 AreMembersOf name [] [] = Unit {0}
 AreMembersOf name (p ∷ ps) (m ∷ ms) = IsMemberOf name p m × AreMembersOf (name + 1) ps ms
 AreMembersOf name _ _ = ⊥
 
--- The new passes of a hall with `count` numbers from `from` on.
-abbrev pub new_passes : Place → ℕ → ℕ → List Standing
+-- The new passes of the hall with the `count` numbers from `from` on.
+abbrev pub new_passes : HallValue → ℕ → ℕ → List PassValue
 new_passes hall from count = map (new_pass hall.id) (range_with_len from count)
 
--- The root has the hall's first pass, the feeder the second, and each worker another one.
-pub record AreDealt (hall : Place) (p : Participants) : Type 0 where
+-- The passes of the hall are dealt out: the root has the first one, the feeder the second, and each worker one of the
+-- others, in order. The hall has no further pass, and there are at most `MOST_WORKERS` workers.
+pub record AreDealt (hall : HallValue) (p : Participants) : Type 0 where
   pub root : p.root ≡ new_pass hall.id 1
   pub feeder : p.feeder ≡ new_pass hall.id 2
   pub members : AreMembersOf 1 (new_passes hall 3 (length p.members.items)) p.members.items

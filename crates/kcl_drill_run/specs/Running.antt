@@ -7,7 +7,7 @@ use Rattle.kds_defs.specs.declared.command.Turn.{Turn}
 use Rattle.kds_defs.specs.Histories.{journal}
 use Rattle.kds_turn.specs.declared.view.Account.{Account}
 use Rattle.kds_turn.specs.Known.{Continues, account}
-use Rattle.kds_turn.specs.Passes.{Place, Standing, accounts_of}
+use Rattle.kds_turn.specs.Passes.{HallValue, PassValue, accounts_of}
 use Rattle.kcl_drill_laws.specs.Closed.{AreFromHorizon, IsFew, IsMemberAccount}
 use Rattle.kcl_drill_threads.specs.Feeding.{HasFed, HasFedSoFar, IsCrowdErr}
 use Rattle.kcl_drill.specs.declared.limits.TheConstants.{MOST_RECORDS, MOST_WORKERS}
@@ -22,20 +22,21 @@ use Rattle.kcl_drill_run.specs.declared.participants.Participants.{Participants}
 abbrev pub account_in : {M P F G : Type 0} → Member M P F G → Account
 account_in m = account m.pass.by m.pass.own
 
--- The worker's pass is the hall's with the number `n`, and no other pass was joined into it.
-pub record HasPass {M P F G : Type 0} (hall : Place) (n : ℕ) (m : Member M P F G) : Type 0 where
+-- The worker's pass is the one of the hall with the number `n`, and no other pass was joined into it.
+pub record HasPass {M P F G : Type 0} (hall : HallValue) (n : ℕ) (m : Member M P F G) : Type 0 where
   pub at : m.pass.hall ≡ hall.id
   pub by : m.pass.by ≡ n
   pub alone : m.pass.joined ≡ []
 
--- The workers' passes are the hall's with the numbers from `from` on.
-abbrev pub HavePasses : {M P F G : Type 0} → Place → ℕ → List (Member M P F G) → Type 0
+-- The workers' passes are those of the hall with the numbers from `from` on, in order (`HasPass`).
+abbrev pub HavePasses : {M P F G : Type 0} → HallValue → ℕ → List (Member M P F G) → Type 0
 HavePasses hall from [] = Unit {0}
 HavePasses hall from (m ∷ ms) = HasPass hall from m × HavePasses hall (from + 1) ms
 
--- The root and the feeder each made a prefix of their commands, and the workers had no more turns than `IsFew` allows.
--- The hall has their passes and no others.
-pub record HaveStopped (hall : Place) (number records : ℕ) (p : Participants) : Type 0 where
+-- The threads of the drill with the number `number` and `records` records have ended, perhaps early. The root and the
+-- feeder each made their commands up to some command, each worker made few enough turns (`IsFew`), and the passes are
+-- those that were dealt out. The hall has no further pass.
+pub record HaveStopped (hall : HallValue) (number records : ℕ) (p : Participants) : Type 0 where
   pub limit : records ≤ MOST_RECORDS
   pub at : (p.root.hall ≡ hall.id) × (p.feeder.hall ≡ hall.id)
   pub by : (p.root.by ≡ 1) × (p.feeder.by ≡ 2)
@@ -46,8 +47,9 @@ pub record HaveStopped (hall : Place) (number records : ℕ) (p : Participants) 
   pub all : hall.passes ≡ length p.members.items + 2
   pub few : length p.members.items ≤ MOST_WORKERS
 
--- The root and the feeder made all of the generator's commands, and the workers ran to their ends.
-pub record HaveRun (hall : Place) (number records : ℕ) (p : Participants) : Type 0 where
+-- The threads have ended without an error: the root and the feeder made all commands of the generator, and each worker
+-- made the turns of its whole run (`IsMemberAccount`).
+pub record HaveRun (hall : HallValue) (number records : ℕ) (p : Participants) : Type 0 where
   pub stopped : HaveStopped hall number records p
   pub fed : HasFed number records p.root p.feeder
   pub made : AllByRecursion (λ m. IsMemberAccount records (account_in m)) p.members.items
@@ -59,8 +61,8 @@ HaveFailed before after e = IsCrowdErr before.root after.root after.feeder e ⊎
 
 -- ---- How many turns a pass has seen
 
--- The pass has seen as many turns as can be counted.
-abbrev pub IsFull : Standing → Type 0
+-- The pass has seen 2^64 - 1 turns, which are as many as can be counted.
+abbrev pub IsFull : PassValue → Type 0
 IsFull p = length p.seen + 1 ≡ 2 ^ 64
 
 -- The pass of at least one of the workers is full (`IsFull`).
@@ -73,7 +75,7 @@ abbrev pub AreFull : Participants → Type 0
 AreFull p = IsFull p.root ⊎ IsFull p.feeder ⊎ SomeIsFull p.members.items
 
 -- The pass has seen fewer than 2^32 turns.
-abbrev pub IsShort : Standing → Type 0
+abbrev pub IsShort : PassValue → Type 0
 IsShort p = length p.seen < 2 ^ 32
 
 -- The passes of the root, the feeder and each worker have seen fewer than 2^32 turns each.
@@ -88,9 +90,9 @@ pub record AreShort (p : Participants) : Type 0 where
 abbrev pub accounts_in : {M P F G : Type 0} → Member M P F G → List Account
 accounts_in m = accounts_of m.pass
 
--- The pass `last` is the root's, which has taken in the feeder's and then those of the workers, and has seen what they
--- had seen.
-pub record HasTaken (p : Participants) (last : Standing) : Type 0 where
+-- `last` is the pass of the root after the feeder's pass and then those of the workers were joined into it. It has seen
+-- all turns that each of them had seen.
+pub record HasTaken (p : Participants) (last : PassValue) : Type 0 where
   pub by : last.by ≡ p.root.by
   pub own : last.own ≡ p.root.own
   pub joined : last.joined ≡ p.root.joined ++ (accounts_of p.feeder ++ flat_map accounts_in p.members.items)

@@ -7,7 +7,7 @@ use Rattle.std.specs.List.{AllByRecursion, filter}
 use Rattle.std.proofs.lemmas.Bool.Decides.{nat_tests}
 use Rattle.std.proofs.lemmas.Bool.{cond_both}
 use Rattle.kds_base.proofs.Facts.{all_filter, le_so, is_le, is_above, above_so}
-use Rattle.kds_defs.specs.Records.{Logged, beginning, left_among, logged, numbers_of, place_after, stored}
+use Rattle.kds_defs.specs.Records.{Logged, beginning, left_among, logged, numbers_of, position_after, stored}
 use Rattle.kcl_laws.specs.Recorded.{IsSized}
 use Rattle.kcl_drill_summary.specs.Counting.{AreAbove}
 use Rattle.kcl_drill.specs.Summed.{bytes_of}
@@ -55,50 +55,54 @@ all_from p (r ∷ rs) up =
     ap (λ b. cond b (r ∷ from p rs) (from p rs)) (is_le p r.seq up.0)
     ∙ ap (λ xs. r ∷ xs) (all_from p rs (up_weaker p (r.seq + 1) rs (omega (arith, up.0)) up.1))
 
-pub place_up : (limit room p : ℕ) (rs : List Logged) → IsUp p rs
-    → p ≤ place_after p (numbers_of (beginning limit room rs))
-place_up zero room p rs up = omega arith
-place_up (suc limit) room p [] up = omega arith
-place_up (suc limit) room p (r ∷ rs) up =
-    let rest = place_up limit (room - r.bytes) (r.seq + 1) rs up.1 in
+-- If the numbers of records rise from `p` on, the position after a batch from their front is at or above `p`.
+pub position_up : (limit room p : ℕ) (rs : List Logged) → IsUp p rs
+    → p ≤ position_after p (numbers_of (beginning limit room rs))
+position_up zero room p rs up = omega arith
+position_up (suc limit) room p [] up = omega arith
+position_up (suc limit) room p (r ∷ rs) up =
+    let rest = position_up limit (room - r.bytes) (r.seq + 1) rs up.1 in
     cond_both (nat_le r.bytes room) (r ∷ beginning limit (room - r.bytes) rs) []
-    (λ bs. p ≤ place_after p (numbers_of bs))
+    (λ bs. p ≤ position_after p (numbers_of bs))
     (λ fits. omega (arith, up.0, rest)) (λ full. omega arith)
 
 part_head : (p : ℕ) (r : Logged) (rs bs : List Logged) (b : Bool) → p ≤ r.seq → IsUp (r.seq + 1) rs
-    → r.seq + 1 ≤ place_after (r.seq + 1) (numbers_of bs) → rs ≡ bs ++ from (place_after (r.seq + 1) (numbers_of bs)) rs
-    → r ∷ rs ≡ (if b then r ∷ bs else []) ++ from (place_after p (numbers_of (if b then r ∷ bs else []))) (r ∷ rs)
+    → r.seq + 1 ≤ position_after (r.seq + 1) (numbers_of bs)
+    → rs ≡ bs ++ from (position_after (r.seq + 1) (numbers_of bs)) rs
+    → r ∷ rs ≡ (if b then r ∷ bs else []) ++ from (position_after p (numbers_of (if b then r ∷ bs else []))) (r ∷ rs)
 part_head p r rs bs true le up above rest =
-    let place = place_after (r.seq + 1) (numbers_of bs) in
+    let position = position_after (r.seq + 1) (numbers_of bs) in
     ap (λ xs. r ∷ xs) rest
-    ∙ ap (λ b. r ∷ (bs ++ cond b (r ∷ from place rs) (from place rs)))
-    (sym (is_above place r.seq (omega arith)))
+    ∙ ap (λ b. r ∷ (bs ++ cond b (r ∷ from position rs) (from position rs)))
+    (sym (is_above position r.seq (omega arith)))
 part_head p r rs bs false le up above rest = sym (all_from p (r ∷ rs) (le, up))
 
 -- If the numbers of records rise from `p` on, they are a batch from their front, and then the records from the position
 -- after it on.
 pub parts : (limit room p : ℕ) (rs : List Logged) → IsUp p rs
-    → rs ≡ beginning limit room rs ++ from (place_after p (numbers_of (beginning limit room rs))) rs
+    → rs ≡ beginning limit room rs ++ from (position_after p (numbers_of (beginning limit room rs))) rs
 parts zero room p rs up = sym (all_from p rs up)
 parts (suc limit) room p [] up = refl
 parts (suc limit) room p (r ∷ rs) up =
     part_head p r rs (beginning limit (room - r.bytes) rs) (nat_le r.bytes room) up.0 up.1
-    (place_up limit (room - r.bytes) (r.seq + 1) rs up.1) (parts limit (room - r.bytes) (r.seq + 1) rs up.1)
+    (position_up limit (room - r.bytes) (r.seq + 1) rs up.1) (parts limit (room - r.bytes) (r.seq + 1) rs up.1)
 
-twice_head : (p place : ℕ) (r : Logged) (rs : List Logged) → p ≤ place → (b d : Bool) → nat_le p r.seq ≡ b
-    → nat_le place r.seq ≡ d → from place (from p rs) ≡ from place rs
-    → from place (cond b (r ∷ from p rs) (from p rs)) ≡ cond d (r ∷ from place rs) (from place rs)
-twice_head p place r rs le true true is at so =
-    ap (λ b. cond b (r ∷ from place (from p rs)) (from place (from p rs))) at ∙ ap (λ xs. r ∷ xs) so
-twice_head p place r rs le true false is at so =
-    ap (λ b. cond b (r ∷ from place (from p rs)) (from place (from p rs))) at ∙ so
-twice_head p place r rs le false true is at so = absurd (omega (arith, le, le_so place r.seq at, above_so p r.seq is))
-twice_head p place r rs le false false is at so = so
+twice_head : (p position : ℕ) (r : Logged) (rs : List Logged) → p ≤ position → (b d : Bool) → nat_le p r.seq ≡ b
+    → nat_le position r.seq ≡ d → from position (from p rs) ≡ from position rs
+    → from position (cond b (r ∷ from p rs) (from p rs)) ≡ cond d (r ∷ from position rs) (from position rs)
+twice_head p position r rs le true true is at so =
+    ap (λ b. cond b (r ∷ from position (from p rs)) (from position (from p rs))) at ∙ ap (λ xs. r ∷ xs) so
+twice_head p position r rs le true false is at so =
+    ap (λ b. cond b (r ∷ from position (from p rs)) (from position (from p rs))) at ∙ so
+twice_head p position r rs le false true is at so =
+    absurd (omega (arith, le, le_so position r.seq at, above_so p r.seq is))
+twice_head p position r rs le false false is at so = so
 
-pub from_twice : (p place : ℕ) (rs : List Logged) → p ≤ place → from place (from p rs) ≡ from place rs
-from_twice p place [] le = refl
-from_twice p place (r ∷ rs) le =
-    twice_head p place r rs le (nat_le p r.seq) (nat_le place r.seq) refl refl (from_twice p place rs le)
+-- Of the records from `p` on, those from a later position on are those of all records from this position on.
+pub from_twice : (p position : ℕ) (rs : List Logged) → p ≤ position → from position (from p rs) ≡ from position rs
+from_twice p position [] le = refl
+from_twice p position (r ∷ rs) le =
+    twice_head p position r rs le (nat_le p r.seq) (nat_le position r.seq) refl refl (from_twice p position rs le)
 
 -- If no record is trimmed, the records that are left from a position on are all records from this position on.
 pub left_all : (floor p : ℕ) (rs : List Logged) → AreAbove floor rs → left_among floor p rs ≡ from p rs
@@ -116,17 +120,18 @@ sized_from p rs are = all_filter IsSized (λ (r : Logged). nat_le p r.seq) rs ar
 -- If a batch of at least one record from the front of the records doesn't move the position `p` on, there are no
 -- records. A record always fits into a batch.
 pub stuck : (limit p : ℕ) (rs : List Logged) → IsUp p rs → AreSized rs
-    → nat_lt p (place_after p (numbers_of (beginning (suc limit) 10485760 rs))) ≡ false → rs ≡ []
+    → nat_lt p (position_after p (numbers_of (beginning (suc limit) 10485760 rs))) ≡ false → rs ≡ []
 stuck limit p [] up are is = refl
 stuck limit p (r ∷ rs) up are is =
     absurd (either (nat_le r.bytes 10485760) (is_le r.bytes 10485760 (omega (arith, are.0.1))) is)
   where
     either : (b : Bool) → b ≡ true
-        → nat_lt p (place_after p (numbers_of (if b then r ∷ beginning limit (10485760 - r.bytes) rs else []))) ≡ false
+        → nat_lt p (position_after p (numbers_of (if b then r ∷ beginning limit (10485760 - r.bytes) rs else [])))
+        ≡ false
         → ⊥
     either false fits h = absurd cc
-    either true fits h = no p (place_after (r.seq + 1) (numbers_of (beginning limit (10485760 - r.bytes) rs)))
-        (omega (arith, up.0, place_up limit (10485760 - r.bytes) (r.seq + 1) rs up.1)) h
+    either true fits h = no p (position_after (r.seq + 1) (numbers_of (beginning limit (10485760 - r.bytes) rs)))
+        (omega (arith, up.0, position_up limit (10485760 - r.bytes) (r.seq + 1) rs up.1)) h
       where
         no : (p q : ℕ) → p < q → nat_lt p q ≡ false → ⊥
         no p q below h = grind (arith, nat_tests)

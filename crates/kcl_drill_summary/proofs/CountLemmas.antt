@@ -15,9 +15,9 @@ use Rattle.kds_defs.specs.declared.reply.Reply.{Reply}
 use Rattle.kds_defs.specs.declared.reply.Reply.TheVariants as reply
 use Rattle.kds_defs.specs.Histories.{answer_of, decide}
 use Rattle.kds_defs.specs.Journal.{Journal}
-use Rattle.kds_defs.specs.Listings.{are_none, behind, ends_at, get_records, is_closed_at, is_old, iterator_at}
+use Rattle.kds_defs.specs.Listings.{are_none, behind, ends_at, get_records, is_closed_at, is_expired_token, iterator_at}
 use Rattle.kds_defs.specs.Listings.{records_reply}
-use Rattle.kds_defs.specs.Records.{Logged, batch, beginning, left_among, left_from, logged, numbers_of, place_after}
+use Rattle.kds_defs.specs.Records.{Logged, batch, beginning, left_among, left_from, logged, numbers_of, position_after}
 use Rattle.kds_defs.specs.Records.{records, stored}
 use Rattle.kds_defs.specs.Shards.{children, is_listed, shard_at, shown, start_of}
 use Rattle.kds_defs.specs.Streams.{is_live, trim_floor}
@@ -27,7 +27,8 @@ use Rattle.kcl_laws.specs.Recorded.{AreDrawn, RiseBetween}
 use Rattle.kcl_drill_summary.specs.Counting.{CanCount, CountsTo, GoesOn, next_above}
 use Rattle.kcl_drill.specs.Summed.{bytes_of}
 use Rattle.kcl_drill_summary.specs.Summing.{Absorbs}
-use Rattle.kcl_drill_summary.proofs.BatchLemmas.{AreSized, IsUp, from, up_from, parts, place_up, from_twice, left_all}
+use Rattle.kcl_drill_summary.proofs.BatchLemmas.{AreSized, IsUp, from, up_from, parts, position_up, from_twice}
+use Rattle.kcl_drill_summary.proofs.BatchLemmas.{left_all}
 use Rattle.kcl_drill_summary.proofs.BatchLemmas.{sized_from, stuck, up_weaker, all_from}
 use Rattle.kcl_drill_summary.proofs.BatchLemmas.{bytes_append, bytes_stored}
 
@@ -63,7 +64,7 @@ few_bytes log c s sh can = let n = few_records log c s sh can in let m = bytes_f
 
 -- ---- The answer to GetRecords
 
-young : (c issued : ℕ) → issued ≡ c → is_old c issued ≡ false
+young : (c issued : ℕ) → issued ≡ c → is_expired_token c issued ≡ false
 young c issued is = grind (arith, nat_tests)
 
 -- If the shard of an iterator can be counted, and the iterator was made at this clock, GetRecords answers with the
@@ -72,9 +73,9 @@ pub replied : (log : Journal) (c : ℕ) (iter : Iter) (limit : ℕ) → CanCount
     → iter ≡ iterator_at c iter.stream iter.shard iter.position →
     get_records log c iter limit
     ≡ records_reply log c iter.stream iter.shard (batch log c iter.stream iter.shard iter.position limit)
-    (place_after iter.position (numbers_of (batch log c iter.stream iter.shard iter.position limit)))
+    (position_after iter.position (numbers_of (batch log c iter.stream iter.shard iter.position limit)))
 replied log c iter limit can is =
-    passed_if refusal.Expired (is_old c iter.issued) _ (young c iter.issued (ap (λ (i : Iter). i.issued) is))
+    passed_if refusal.Expired (is_expired_token c iter.issued) _ (young c iter.issued (ap (λ (i : Iter). i.issued) is))
     ∙ passed_if refusal.NoStream (not (is_live log iter.stream)) _ (ap not can.live)
     ∙ passed_if refusal.NoShard (not (is_listed log c iter.stream iter.shard)) _ (ap not can.listed)
 
@@ -132,28 +133,31 @@ all_counted count bytes rest all none counts = (
 
 -- ---- One read
 
-ended : (log : Journal) (c s sh p place count bytes count' bytes' : ℕ) (next' : Option Iter) → CanCount log c s sh
-    → ends_at log c s sh place ≡ true → CountsTo count' bytes' (from place (records log s sh)) (records log s sh)
+-- The lemma `read_on` for a read after which the shard ends: reading goes on nowhere.
+ended : (log : Journal) (c s sh p reach count bytes count' bytes' : ℕ) (next' : Option Iter) → CanCount log c s sh
+    → ends_at log c s sh reach ≡ true → CountsTo count' bytes' (from reach (records log s sh)) (records log s sh)
     → next' ≡ next_above p None → GoesOn log c s sh count' bytes' next'
-ended log c s sh p place count bytes count' bytes' next' can ends counts is =
-    let none = none_so (left_from log c s sh place)
-    (and_parts (is_closed_at (shard_at log s sh)) (are_none (left_from log c s sh place)) ends).1 in
+ended log c s sh p reach count bytes count' bytes' next' can ends counts is =
+    let none = none_so (left_from log c s sh reach)
+    (and_parts (is_closed_at (shard_at log s sh)) (are_none (left_from log c s sh reach)) ends).1 in
     subst (GoesOn log c s sh count' bytes') (sym is)
-    (all_counted count' bytes' (from place (records log s sh)) (records log s sh)
-    (sym (left_is log c s sh place can) ∙ none) counts)
+    (all_counted count' bytes' (from reach (records log s sh)) (records log s sh)
+    (sym (left_is log c s sh reach can) ∙ none) counts)
 
-goes_on : (log : Journal) (c s sh p place count' bytes' : ℕ) (next' : Option Iter) (b : Bool) → CanCount log c s sh
-    → nat_lt p place ≡ b → (nat_lt p place ≡ false → from place (records log s sh) ≡ [])
-    → CountsTo count' bytes' (from place (records log s sh)) (records log s sh)
-    → next' ≡ (if b then Some (iterator_at c s sh place) else None) → GoesOn log c s sh count' bytes' next'
-goes_on log c s sh p place count' bytes' next' true can above stops counts is =
+-- The lemma `read_on` for a read after which the shard doesn't end. `b` says whether the read moved the position on. If
+-- it didn't, nothing is left.
+goes_on : (log : Journal) (c s sh p reach count' bytes' : ℕ) (next' : Option Iter) (b : Bool) → CanCount log c s sh
+    → nat_lt p reach ≡ b → (nat_lt p reach ≡ false → from reach (records log s sh) ≡ [])
+    → CountsTo count' bytes' (from reach (records log s sh)) (records log s sh)
+    → next' ≡ (if b then Some (iterator_at c s sh reach) else None) → GoesOn log c s sh count' bytes' next'
+goes_on log c s sh p reach count' bytes' next' true can above stops counts is =
     subst (GoesOn log c s sh count' bytes') (sym is) (
       refl,
-      subst (λ rs. CountsTo count' bytes' rs (records log s sh)) (sym (left_is log c s sh place can)) counts,
+      subst (λ rs. CountsTo count' bytes' rs (records log s sh)) (sym (left_is log c s sh reach can)) counts,
     )
-goes_on log c s sh p place count' bytes' next' false can above stops counts is =
+goes_on log c s sh p reach count' bytes' next' false can above stops counts is =
     subst (GoesOn log c s sh count' bytes') (sym is)
-    (all_counted count' bytes' (from place (records log s sh)) (records log s sh) (stops above) counts)
+    (all_counted count' bytes' (from reach (records log s sh)) (records log s sh) (stops above) counts)
 
 -- After one more GetRecords whose batch was counted (`Absorbs`), the counts and what is left still make up all records
 -- of the shard (`GoesOn`).
@@ -171,46 +175,46 @@ read_on log c by iter count bytes count' bytes' next' a can goes is absorbs =
     let rs = records log s sh in
     let ls = from p rs in
     let bs = beginning 10000 BATCH_BYTES ls in
-    let place = place_after p (numbers_of bs) in
+    let reach = position_after p (numbers_of bs) in
     let up' = up_from p 0 rs up in
     let sized = sized_from p rs can.sized in
     let ls_is = left_is log c s sh p can in
     let batch_is : batch log c s sh p 10000 ≡ bs = ap (beginning 10000 BATCH_BYTES) ls_is in
-    let so : a ≡ answer_of (records_reply log c s sh bs place) =
+    let so : a ≡ answer_of (records_reply log c s sh bs reach) =
     is ∙ ap answer_of (replied log c iter 10000 can goes.0)
-    ∙ ap (λ xs. answer_of (records_reply log c s sh xs (place_after p (numbers_of xs)))) batch_is in
-    let rest : from place ls ≡ from place rs = from_twice p place rs (place_up 10000 BATCH_BYTES p ls up') in
-    let both : ls ≡ bs ++ from place rs = parts 10000 BATCH_BYTES p ls up' ∙ ap (λ xs. bs ++ xs) rest in
+    ∙ ap (λ xs. answer_of (records_reply log c s sh xs (position_after p (numbers_of xs)))) batch_is in
+    let rest : from reach ls ≡ from reach rs = from_twice p reach rs (position_up 10000 BATCH_BYTES p ls up') in
+    let both : ls ≡ bs ++ from reach rs = parts 10000 BATCH_BYTES p ls up' ∙ ap (λ xs. bs ++ xs) rest in
     let counts = subst (λ xs. CountsTo count bytes xs rs) ls_is goes.1 in
-    let stops : nat_lt p place ≡ false → from place rs ≡ [] =
-    λ below. sym rest ∙ ap (from place) (stuck 9999 p ls up' sized below) in
+    let stops : nat_lt p reach ≡ false → from reach rs ≡ [] =
+    λ below. sym rest ∙ ap (from reach) (stuck 9999 p ls up' sized below) in
     let on : Adds (2 ^ 64) count (length (map stored bs)) count'
     → Adds (2 ^ 128) bytes (bytes_of (map logged (map stored bs))) bytes'
-    → CountsTo count' bytes' (from place rs) rs =
-    counts_on count bytes count' bytes' ls bs (from place rs) rs counts both (few_records log c s sh can)
+    → CountsTo count' bytes' (from reach rs) rs =
+    counts_on count bytes count' bytes' ls bs (from reach rs) rs counts both (few_records log c s sh can)
     (few_bytes log c s sh can) in
-    by_end log c s sh p place count bytes count' bytes' next' bs a (ends_at log c s sh place) refl can so absorbs on
+    by_end log c s sh p reach count bytes count' bytes' next' bs a (ends_at log c s sh reach) refl can so absorbs on
     stops
   where
-    by_end : (log : Journal) (c s sh p place count bytes count' bytes' : ℕ) (next' : Option Iter) (bs : List Logged)
-        (a : Result Reply Refusal) (b : Bool) → ends_at log c s sh place ≡ b → CanCount log c s sh
-        → a ≡ answer_of (records_reply log c s sh bs place) → Absorbs count bytes p a count' bytes' next'
+    by_end : (log : Journal) (c s sh p reach count bytes count' bytes' : ℕ) (next' : Option Iter) (bs : List Logged)
+        (a : Result Reply Refusal) (b : Bool) → ends_at log c s sh reach ≡ b → CanCount log c s sh
+        → a ≡ answer_of (records_reply log c s sh bs reach) → Absorbs count bytes p a count' bytes' next'
         → (Adds (2 ^ 64) count (length (map stored bs)) count'
         → Adds (2 ^ 128) bytes (bytes_of (map logged (map stored bs))) bytes'
-        → CountsTo count' bytes' (from place (records log s sh)) (records log s sh))
-        → (nat_lt p place ≡ false → from place (records log s sh) ≡ []) → GoesOn log c s sh count' bytes' next'
-    by_end log c s sh p place count bytes count' bytes' next' bs a true ends can is absorbs on stops =
-        let f = absorbs (map stored bs) None (behind c (left_from log c s sh place)) (map shown (children log s sh))
-        (is ∙ ap (λ b. Ok (if b then reply.Records (map stored bs) None (behind c (left_from log c s sh place))
-        (map shown (children log s sh)) else reply.Records (map stored bs) (Some (iterator_at c s sh place))
-        (behind c (left_from log c s sh place)) [])) ends) in
-        ended log c s sh p place count bytes count' bytes' next' can ends (on f.0 f.1) f.2
-    by_end log c s sh p place count bytes count' bytes' next' bs a false ends can is absorbs on stops =
-        let f = absorbs (map stored bs) (Some (iterator_at c s sh place)) (behind c (left_from log c s sh place)) []
-        (is ∙ ap (λ b. Ok (if b then reply.Records (map stored bs) None (behind c (left_from log c s sh place))
-        (map shown (children log s sh)) else reply.Records (map stored bs) (Some (iterator_at c s sh place))
-        (behind c (left_from log c s sh place)) [])) ends) in
-        goes_on log c s sh p place count' bytes' next' (nat_lt p place) can refl stops (on f.0 f.1) f.2
+        → CountsTo count' bytes' (from reach (records log s sh)) (records log s sh))
+        → (nat_lt p reach ≡ false → from reach (records log s sh) ≡ []) → GoesOn log c s sh count' bytes' next'
+    by_end log c s sh p reach count bytes count' bytes' next' bs a true ends can is absorbs on stops =
+        let f = absorbs (map stored bs) None (behind c (left_from log c s sh reach)) (map shown (children log s sh))
+        (is ∙ ap (λ b. Ok (if b then reply.Records (map stored bs) None (behind c (left_from log c s sh reach))
+        (map shown (children log s sh)) else reply.Records (map stored bs) (Some (iterator_at c s sh reach))
+        (behind c (left_from log c s sh reach)) [])) ends) in
+        ended log c s sh p reach count bytes count' bytes' next' can ends (on f.0 f.1) f.2
+    by_end log c s sh p reach count bytes count' bytes' next' bs a false ends can is absorbs on stops =
+        let f = absorbs (map stored bs) (Some (iterator_at c s sh reach)) (behind c (left_from log c s sh reach)) []
+        (is ∙ ap (λ b. Ok (if b then reply.Records (map stored bs) None (behind c (left_from log c s sh reach))
+        (map shown (children log s sh)) else reply.Records (map stored bs) (Some (iterator_at c s sh reach))
+        (behind c (left_from log c s sh reach)) [])) ends) in
+        goes_on log c s sh p reach count' bytes' next' (nat_lt p reach) can refl stops (on f.0 f.1) f.2
 
 -- ---- From the first record on
 

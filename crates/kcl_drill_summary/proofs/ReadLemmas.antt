@@ -9,7 +9,7 @@ use Rattle.kds_defs.specs.declared.reply.Reply.{Reply}
 use Rattle.kds_defs.specs.Histories.{answer, answer_of, clock, decide, journal, lines_of}
 use Rattle.kds_defs.specs.Journal.{Journal, Line, with_lines}
 use Rattle.kds_defs.proofs.Walk.{Outcome, Refuses, Answers, Adds, Creates, walk}
-use Rattle.kcl_drill_summary.specs.Reading.{AreReads, HasRead, is_reading}
+use Rattle.kcl_drill_summary.specs.Reads.{AreReads, HasRead, is_reading}
 
 -- A command that only reads adds no line.
 none_by : (log : Journal) (c by : ℕ) (what : Command) (lines : List Line) (answer : Result Reply Refusal)

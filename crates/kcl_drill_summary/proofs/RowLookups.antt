@@ -12,7 +12,7 @@ use Rattle.kds_defs.specs.Keys.{is_before, same_key}
 use Rattle.kds_defs.specs.Leases.{row, row_after, rows, rows_at, row_keys, row_keys_after, with_key, without_key}
 use Rattle.kds_defs.specs.Leases.{key_of, is_key, made_row, taken_count, taken_row, renewed_row, freed_row, marked_row}
 use Rattle.kds_defs.proofs.Keys.{same_ref}
-use Rattle.kcl_drill_summary.specs.Counting.{row_in}
+use Rattle.kcl_drill_summary.specs.Counting.{row_among}
 
 mapped : (f : Row → Row) (o : Option Row) (y : Row) → option_map f o ≡ Some y → (x : Row) × (o ≡ Some x) × (f x ≡ y)
 mapped f None y h = absurd cc
@@ -135,27 +135,28 @@ none_either true o is = refl
 none_either false o is = sym is
 
 first_head : (log : Journal) (k key : ShardRef) (ks : List ShardRef) (o : Option Row) (b : Bool) → row log k ≡ o
-    → same_key k key ≡ b → row_in (rows_at log ks) key ≡ (if is_in key ks then row log key else None)
-    → row_in (cons_option o (rows_at log ks)) key ≡ (if b || is_in key ks then row log key else None)
+    → same_key k key ≡ b → row_among (rows_at log ks) key ≡ (if is_in key ks then row log key else None)
+    → row_among (cons_option o (rows_at log ks)) key ≡ (if b || is_in key ks then row log key else None)
 first_head log k key ks None true is same rest =
     let gone : row log key ≡ None = sym (ap (row log) (same_ref k key same)) ∙ is in
     rest ∙ none_either (is_in key ks) (row log key) gone
 first_head log k key ks None false is same rest = rest
 first_head log k key ks (Some r) true is same rest =
     let has : same_key r.key key ≡ true = ap (λ j. same_key j key) (keyed log k r is) ∙ same in
-    ap (λ b. cond b (Some r) (row_in (rows_at log ks) key)) has ∙ sym is ∙ ap (row log) (same_ref k key same)
+    ap (λ b. cond b (Some r) (row_among (rows_at log ks) key)) has ∙ sym is ∙ ap (row log) (same_ref k key same)
 first_head log k key ks (Some r) false is same rest =
     let has : same_key r.key key ≡ false = ap (λ j. same_key j key) (keyed log k r is) ∙ same in
-    ap (λ b. cond b (Some r) (row_in (rows_at log ks) key)) has ∙ rest
+    ap (λ b. cond b (Some r) (row_among (rows_at log ks) key)) has ∙ rest
 
 -- The first of the rows of the keys `ks` that has the key `key` is the row of this key, if the key is among `ks`.
 -- Otherwise there is none.
 first_among : (log : Journal) (ks : List ShardRef) (key : ShardRef)
-    → row_in (rows_at log ks) key ≡ (if is_in key ks then row log key else None)
+    → row_among (rows_at log ks) key ≡ (if is_in key ks then row log key else None)
 first_among log [] key = refl
 first_among log (k ∷ ks) key = first_head log k key ks (row log k) (same_key k key) refl refl (first_among log ks key)
 
-pub row_found : (log : Journal) (key : ShardRef) → row_in (rows log) key ≡ row log key
+-- The first of all rows of the journal that has the key `key` is the row of this key.
+pub row_found : (log : Journal) (key : ShardRef) → row_among (rows log) key ≡ row log key
 row_found log key = first_among log (row_keys log) key ∙ either (row log key) refl
   where
     either : (o : Option Row) → row log key ≡ o → (if is_in key (row_keys log) then row log key else None) ≡ row log key

@@ -15,7 +15,7 @@ use Rattle.kds_defs.specs.Leases.{rows, checkpoint_in}
 use Rattle.kds_defs.specs.Records.{records}
 use Rattle.kcl_drill.specs.Summed.{Summed, bytes_of}
 use Rattle.kcl_drill_summary.specs.declared.counting.Count.{Count}
-use Rattle.kcl_drill_summary.specs.Counting.{CountsKey, of_stream, row_in, summed_key, told_of}
+use Rattle.kcl_drill_summary.specs.Counting.{CountsKey, of_stream, row_among, summed_key, told_of}
 use Rattle.kcl_drill_summary.proofs.RowLookups.{row_found}
 
 -- What is true of each element of a list is true of the element at the index `i`.
@@ -44,7 +44,7 @@ same_stream a b h = grind (arith, nat_tests)
 -- If `found` is the right count for the key (`CountsKey`), and `at` is the checkpoint of the key's row, then the code
 -- makes the entry that the summary has for this key (`first_of`).
 pub told_is : (log : Journal) (s : ℕ) (key : ShardRef) (among : List Row) (found : Option Count) (at : Checkpoint)
-    → among ≡ rows log → CountsKey log s key found → at ≡ checkpoint_in (row_in among key)
+    → among ≡ rows log → CountsKey log s key found → at ≡ checkpoint_in (row_among among key)
     → told_of key found at ≡ first_of log s key
 told_is log s key among None at are other is = ap (λ b. map (summed_key log) (cond b (key ∷ []) [])) (sym other)
 told_is log s key among (Some n) at are counts is =
@@ -52,7 +52,7 @@ told_is log s key among (Some n) at are counts is =
     let rs = λ (t : ℕ). records log t key.shard in
     ap (λ x. x ∷ []) (same_sum key.shard n.count _ n.bytes _ at _ (counts.1 ∙ ap (λ t. length (rs t)) here) (counts.2
     ∙ ap (λ t. bytes_of (rs t)) here)
-    (is ∙ ap (λ xs. checkpoint_in (row_in xs key)) are ∙ ap checkpoint_in (row_found log key)))
+    (is ∙ ap (λ xs. checkpoint_in (row_among xs key)) are ∙ ap checkpoint_in (row_found log key)))
     ∙ ap (λ b. map (summed_key log) (cond b (key ∷ []) [])) (sym counts.0)
 
 -- What the summary says of some keys is what it says of the first one, and then of the others.

@@ -107,6 +107,6 @@ pub record CanSum (h : List Turn) (c : ℕ) : Type 0 where
   pub named : stream_named (journal h) drill_name ≡ Some stream
   pub whole : (sh : ℕ) → AreAbove (trim_floor (journal h) c stream) (records (journal h) stream sh)
 
--- The first row of a key among the rows.
-abbrev pub row_in : List Row → ShardRef → Option Row
-row_in rows key = find (λ (r : Row). same_key r.key key) rows
+-- The first of the rows that has the key `key`, or None if none has it.
+abbrev pub row_among : List Row → ShardRef → Option Row
+row_among rows key = find (λ (r : Row). same_key r.key key) rows

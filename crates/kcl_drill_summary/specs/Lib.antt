@@ -1,3 +1,3 @@
-pub mod Reading
+pub mod Reads
 pub mod Counting
 pub mod Summing

@@ -22,7 +22,7 @@ use Rattle.kcl_drill.specs.Summed.{Summed, bytes_of}
 use Rattle.kcl_drill_summary.specs.declared.counting.Count.{Count}
 use Rattle.kcl_drill_summary.specs.Counting.{AreCountable, CanCount, CountsKey, GoesOn, next_above, of_stream}
 use Rattle.kcl_drill_summary.specs.Counting.{summed_key}
-use Rattle.kcl_drill_summary.specs.Reading.{HasRead}
+use Rattle.kcl_drill_summary.specs.Reads.{HasRead}
 
 -- `a` is the answer to a read at `position`. If it has a batch, `count'` and `bytes'` are the counts with the batch
 -- added, as long as these sums are below 2^64 and 2^128. `next'` is the iterator from which reading goes on

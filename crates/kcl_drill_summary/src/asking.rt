@@ -4,7 +4,7 @@ ghost use Rattle.std.specs.Prelude.{◌≡◌, List, true, max, IfOk};
 ghost use Rattle.kds_defs.specs.declared.command.Turn.{Turn as Asked};
 ghost use Rattle.kds_defs.specs.Histories.{answer_of, clock, decide, journal};
 ghost use Rattle.kds_defs.specs.Lawful.{IsLawfulCommand};
-ghost use Rattle.kcl_drill_summary.specs.Reading.{HasRead, is_reading};
+ghost use Rattle.kcl_drill_summary.specs.Reads.{HasRead, is_reading};
 
 use kds_base::{Memory, Moment};
 use kds_defs::{Answer, Command, Machine, Turn};

@@ -5,7 +5,7 @@ ghost use Rattle.kds_defs.specs.declared.reply.Iter.{Iter};
 ghost use Rattle.kds_defs.specs.declared.reply.Stored.{Stored};
 ghost use Rattle.kds_defs.specs.Records.{logged, records};
 ghost use Rattle.kcl_drill_summary.specs.Summing.{Absorbs, CountsFrom, ReadsOn};
-ghost use Rattle.kcl_drill_summary.specs.Reading.{HasRead};
+ghost use Rattle.kcl_drill_summary.specs.Reads.{HasRead};
 ghost use Rattle.kcl_drill_summary.specs.Counting.{next_above};
 ghost use Rattle.kcl_drill.specs.Summed.{bytes_of};
 

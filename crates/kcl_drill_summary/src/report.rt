@@ -11,7 +11,7 @@ ghost use Rattle.kds_defs.specs.Leases.{rows};
 ghost use Rattle.kcl_drill.specs.Summed.{summary_text};
 ghost use Rattle.kcl_drill_summary.specs.Counting.{CanSum};
 ghost use Rattle.kcl_drill_summary.specs.Summing.{CanTell, IsTold};
-ghost use Rattle.kcl_drill_summary.specs.Reading.{HasRead};
+ghost use Rattle.kcl_drill_summary.specs.Reads.{HasRead};
 
 use crate::asking::ask;
 use crate::summing::{ShardSum, sum_shards};

@@ -7,7 +7,7 @@ ghost use Rattle.kds_defs.specs.Histories.{journal};
 ghost use Rattle.kds_defs.specs.Leases.{rows};
 ghost use Rattle.kcl_drill_summary.specs.Counting.{iterator_in, told_of};
 ghost use Rattle.kcl_drill_summary.specs.Summing.{CanTell, FindsCount, IsTold};
-ghost use Rattle.kcl_drill_summary.specs.Reading.{HasRead};
+ghost use Rattle.kcl_drill_summary.specs.Reads.{HasRead};
 
 use crate::asking::ask;
 use crate::counting::{Count, count_from};

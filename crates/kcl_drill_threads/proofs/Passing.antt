@@ -8,7 +8,7 @@ use Rattle.kds_base.proofs.Facts.{is_equal}
 use Rattle.kds_defs.specs.declared.command.Command.{Command}
 use Rattle.kds_defs.specs.declared.command.Turn.{Turn}
 use Rattle.kds_turn.specs.Known.{Continues, is_by, turns_by}
-use Rattle.kds_turn.specs.Passes.{Standing}
+use Rattle.kds_turn.specs.Passes.{PassValue}
 use Rattle.kds_turn.proofs.Turns.{continues_all, no_length}
 use Rattle.kcl_drill_threads.specs.Asking.{HasAsked, HasBegun, IsKept, turn_of, turns_of}
 
@@ -22,21 +22,23 @@ none_before n h seen c none =
     let total : length (turns_by n c.0 ++ turns_by n seen) ≡ 0 = ap length (sym cut ∙ none) in
     no_length (turns_by n seen) (omega (arith, total, length-append (turns_by n c.0) (turns_by n seen)))
 
--- Before an actor's only turn, the actor had no turn.
-pub none_before_one : (n : ℕ) (turn : Turn) (place : List Turn) → turn.by ≡ n → turns_by n (turn ∷ place) ≡ turn ∷ []
-    → turns_by n place ≡ []
-none_before_one n turn place by one =
-    let two : turn ∷ turns_by n place ≡ turn ∷ [] =
-    sym (ap (λ b. cond b (turn ∷ turns_by n place) (turns_by n place)) (is_equal turn.by n by)) ∙ one in
+-- If the newest turn of a history is the only one of its actor, the actor has none in the history before it.
+pub none_before_one : (n : ℕ) (turn : Turn) (older : List Turn) → turn.by ≡ n → turns_by n (turn ∷ older) ≡ turn ∷ []
+    → turns_by n older ≡ []
+none_before_one n turn older by one =
+    let two : turn ∷ turns_by n older ≡ turn ∷ [] =
+    sym (ap (λ b. cond b (turn ∷ turns_by n older) (turns_by n older)) (is_equal turn.by n by)) ∙ one in
     let count = ap length two in
-    no_length (turns_by n place) (omega arith)
+    no_length (turns_by n older) (omega arith)
 
 -- ---- A pass later
 
-pub kept_same : (p : Standing) → IsKept p p
+-- A pass that is unchanged is the pass later (`IsKept`).
+pub kept_same : (p : PassValue) → IsKept p p
 kept_same p = record { hall = refl; by = refl; joined = refl; seen = ([], refl) }
 
-pub kept_all : (a b c : Standing) → IsKept a b → IsKept b c → IsKept a c
+-- If `b` is the pass `a` later, and `c` is `b` later, then `c` is `a` later.
+pub kept_all : (a b c : PassValue) → IsKept a b → IsKept b c → IsKept a c
 kept_all a b c p q =
     record {
       hall = q.hall ∙ p.hall;
@@ -47,7 +49,8 @@ kept_all a b c p q =
 
 -- ---- The commands that a pass has made
 
-pub asked_more : (made : List Command) (what : Command) (a b : Standing) → b.by ≡ a.by → HasAsked made a
+-- If a pass made the commands `made`, and then `what` as its next turn, it has made these commands and `what`.
+pub asked_more : (made : List Command) (what : Command) (a b : PassValue) → b.by ≡ a.by → HasAsked made a
     → b.own ≡ turn_of a.by what ∷ a.own → HasAsked (made ++ what ∷ []) b
 asked_more made what a b by has own =
     own
@@ -55,10 +58,12 @@ asked_more made what a b by has own =
     ∙ ap (map (turn_of a.by)) (sym (reverse-append made (what ∷ [])))
     ∙ ap (λ n. turns_of n (made ++ what ∷ [])) (sym by)
 
-pub asked_same : (made : List Command) (a b : Standing) → b.by ≡ a.by → b.own ≡ a.own → HasAsked made a
+-- If a pass made the commands `made`, it has still made them if its number and its own turns stay the same.
+pub asked_same : (made : List Command) (a b : PassValue) → b.by ≡ a.by → b.own ≡ a.own → HasAsked made a
     → HasAsked made b
 asked_same made a b by own has = own ∙ has ∙ ap (λ n. turns_of n made) (sym by)
 
-pub begun_by : (made left all : List Command) (p : Standing) → all ≡ made ++ left → HasAsked made p → HasBegun all p
+-- If a pass made the commands `made`, which are the first of `all`, then it has made those of `all` up to some command.
+pub begun_by : (made left all : List Command) (p : PassValue) → all ≡ made ++ left → HasAsked made p → HasBegun all p
 begun_by made left all p e has =
     (length made, has ∙ ap (turns_of p.by) (sym (ap (take (length made)) e ∙ take-append_seam made left)))

@@ -9,11 +9,11 @@ use Rattle.kds_defs.specs.declared.reply.Reply.{Reply}
 use Rattle.kds_turn.specs.declared.pass.TurnErr.{TurnErr}
 use Rattle.kds_turn.specs.declared.pass.TurnErr.TheVariants as failed
 use Rattle.kds_turn.specs.Known.{Continues}
-use Rattle.kds_turn.specs.Passes.{Standing, IsAnswered}
+use Rattle.kds_turn.specs.Passes.{PassValue, IsAnswered}
 
--- The pass keeps its hall, its number and what was joined into it, and what it had seen is a beginning of what it has
--- seen now.
-pub record IsKept (before after : Standing) : Type 0 where
+-- The pass `after` is `before` later: it has the same hall, number and joined passes, and has seen the same turns and
+-- perhaps more.
+pub record IsKept (before after : PassValue) : Type 0 where
   pub hall : after.hall ≡ before.hall
   pub by : after.by ≡ before.by
   pub joined : after.joined ≡ before.joined
@@ -27,26 +27,29 @@ turn_of by what = record { by = by; at = 0; what = what }
 abbrev pub turns_of : ℕ → List Command → List Turn
 turns_of by commands = map (turn_of by) (reverse commands)
 
--- The pass's own turns are the commands.
-abbrev pub HasAsked : List Command → Standing → Type 0
+-- The pass's own turns are the commands `commands`, in order, and no others.
+abbrev pub HasAsked : List Command → PassValue → Type 0
 HasAsked commands p = p.own ≡ turns_of p.by commands
 
--- The pass's own turns are a prefix of the commands.
-abbrev pub HasBegun : List Command → Standing → Type 0
+-- The pass's own turns are the first of the commands `commands`, up to some command, and no others.
+abbrev pub HasBegun : List Command → PassValue → Type 0
 HasBegun commands p = (n : ℕ) × HasAsked (take n commands) p
 
--- The first of the commands `coming` was the pass's next turn, or there was no command.
-abbrev pub Asks : Bool → List Command → List Command → Standing → Standing → Type 0
+-- What became of the generator's next command, where `coming` are the commands that were to come and `left` those that
+-- still are. If the Bool is true, the first one became a turn of the pass and was answered. If it is false, no command
+-- was to come, and the pass is unchanged.
+abbrev pub Asks : Bool → List Command → List Command → PassValue → PassValue → Type 0
 Asks true coming left before after =
     (what : Command) × (coming ≡ what ∷ left) × (a : Result Reply Refusal)
     × IsAnswered (turn_of before.by what) a before after
 Asks false coming left before after = (coming ≡ []) × (left ≡ []) × (after ≡ before)
 
--- The error of a turn of the pass. It is Spent exactly if the pass has then seen as many turns as can be counted.
-abbrev pub IsTurnErr : Standing → TurnErr → Type 0
+-- The error `e` of a turn of the pass `p` is Spent exactly if the pass has seen 2^64 - 1 turns, as many as can be
+-- counted.
+abbrev pub IsTurnErr : PassValue → TurnErr → Type 0
 IsTurnErr p e = (e ≡ failed.Spent) ↔ (length p.seen + 1 ≡ 2 ^ 64)
 
--- The reason why no turn was taken: the generator ran out of memory, which leaves the pass as it was, or the turn
--- failed.
-abbrev pub IsAskErr : Standing → Standing → TurnErr → Type 0
+-- The reason for the error `e` with which a command became no turn: the generator ran out of memory, and the pass is
+-- unchanged, or the turn failed (`IsTurnErr`).
+abbrev pub IsAskErr : PassValue → PassValue → TurnErr → Type 0
 IsAskErr before after e = ((e ≡ failed.Memory) × (after ≡ before)) ⊎ IsTurnErr after e

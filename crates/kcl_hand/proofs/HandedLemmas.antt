@@ -27,7 +27,8 @@ use Rattle.kcl_defs.specs.Workers.{stage_of_known}
 use Rattle.kcl_defs.proofs.DealLemmas.{new_tenures, of_tenure}
 use Rattle.kcl_defs.proofs.GiveLemmas.{AreGivesTaken, gives_taken}
 use Rattle.kcl_defs.proofs.GivenLemmas.{last_is, last_of}
-use Rattle.kcl_defs.proofs.WorkerLemmas.{AreNewTenures, InStep}
+use Rattle.kcl_defs.proofs.KnownLemmas.{InStep}
+use Rattle.kcl_defs.proofs.FineLemmas.{AreNewTenures}
 use Rattle.kcl_hand.specs.Joints.{AreOrderly, AreToldIn, HandOff, IsHandServed, JointPast, hands_after, joint_deals}
 use Rattle.kcl_hand.specs.Joints.{known_in, state_of, worker_in}
 use Rattle.kcl_hand.specs.Standing.{IsGoing}

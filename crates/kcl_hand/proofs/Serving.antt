@@ -20,8 +20,9 @@ use Rattle.kcl_defs.proofs.RetiredLemmas.{AreUnrefused, IsUnrefused, all_whole, 
 use Rattle.kcl_defs.proofs.RetiredLemmas.{lost_unrefused, state_unrefused, whole_among}
 use Rattle.kcl_defs.proofs.StepLemmas.{life_among}
 use Rattle.kcl_defs.proofs.TenancyLemmas.{all_both, all_tenures, of_tenancy}
-use Rattle.kcl_defs.proofs.WorkerLemmas.{AreGood, AreNewTenures, InStep, IsFine, IsOwnCommand, IsWaitingOk, all_append}
-use Rattle.kcl_defs.proofs.WorkerLemmas.{all_map, new_before, times, times-append}
+use Rattle.kcl_defs.proofs.KnownLemmas.{InStep, all_append, all_map, times, times-append}
+use Rattle.kcl_defs.proofs.FineLemmas.{AreGood, AreNewTenures, IsFine, IsOwnCommand, IsWaitingOk}
+use Rattle.kcl_defs.proofs.WorkerLemmas.{new_before}
 use Rattle.kcl_hand.specs.declared.stand.Stand.{Stand}
 use Rattle.kcl_hand.specs.declared.stand.Stand.TheVariants as stand
 use Rattle.kcl_hand.specs.Handing.{HandEvent, Hand_answered, Hand_called, answered_at, called_at, command_at}

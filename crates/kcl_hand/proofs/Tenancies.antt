@@ -12,7 +12,7 @@ use Rattle.kcl_defs.specs.Lives.{Deal}
 use Rattle.kcl_defs.specs.Workers.{Pending, Release, Released, WorkerEvent, Made_call, Gave_command, Got_answer}
 use Rattle.kcl_defs.specs.Workers.{Stopped, WorkerState, deals_with, id_of_held, leaving, released, with_deal}
 use Rattle.kcl_defs.proofs.TenancyLemmas.{AreBegun, IsBegun, IsBegunIn, state_begun}
-use Rattle.kcl_defs.proofs.WorkerLemmas.{all_map}
+use Rattle.kcl_defs.proofs.KnownLemmas.{all_map}
 use Rattle.kcl_hand.specs.Handing.{HandEvent, Hand_answered, Hand_called}
 use Rattle.kcl_hand.specs.Joints.{HandOff, JointPast, Of_hand, Of_worker, begun, begun_by, command_in, hand_deals}
 use Rattle.kcl_hand.specs.Joints.{hands_after, joint_deals, with_hand_event, worker_in}

@@ -14,7 +14,7 @@ use Rattle.kds_defs.specs.Journal.{Line, Journal}
 use Rattle.kds_defs.specs.Legal.{IsLegal}
 use Rattle.kds_defs.specs.Listings.{is_closed_at, are_none, ends_at}
 use Rattle.kds_defs.specs.Records.{Logged, records, records_after, next_number, draws, left_from, left_among, beginning}
-use Rattle.kds_defs.specs.Records.{batch, numbers_of, place_after}
+use Rattle.kds_defs.specs.Records.{batch, numbers_of, position_after}
 use Rattle.kds_defs.specs.Safe.{IsAmong, IsPlaced, RiseFrom}
 use Rattle.kds_defs.specs.Shards.{ShardState, shard_at, is_open}
 use Rattle.kds_defs.specs.Streams.{is_live, is_trimmed, trim_floor}
@@ -146,22 +146,22 @@ rises_from p (n ∷ ns) q h = (h.0, rises_from (n + 1) ns q h.1)
 -- `ns` are the numbers of a prefix of the records `rs`. They rise from `p` on, and the position after them is at most
 -- `q`. Each record of `rs` below this position is in the prefix.
 pub record Begins (p : ℕ) (ns : List ℕ) (rs : List Logged) (q : ℕ) : Type 0 where
-  pub rises : RisesTo p ns (place_after p ns)
-  pub place : place_after p ns ≤ q
-  pub from : p ≤ place_after p ns
-  pub has : AllByRecursion (λ r. r.seq < place_after p ns → IsAmong r.seq ns) rs
+  pub rises : RisesTo p ns (position_after p ns)
+  pub position : position_after p ns ≤ q
+  pub from : p ≤ position_after p ns
+  pub has : AllByRecursion (λ r. r.seq < position_after p ns → IsAmong r.seq ns) rs
 
-above_all : (p place : ℕ) (rs : List Logged) (q : ℕ) (ns : List ℕ) → IsRising p rs q → place ≤ p
-    → AllByRecursion (λ r. r.seq < place → IsAmong r.seq ns) rs
-above_all p place [] q ns h le = tt
-above_all p place (r ∷ rs) q ns h le =
-    (λ below. absurd (omega (arith, h.0)), above_all (r.seq + 1) place rs q ns h.1 (omega (arith, h.0)))
+above_all : (p position : ℕ) (rs : List Logged) (q : ℕ) (ns : List ℕ) → IsRising p rs q → position ≤ p
+    → AllByRecursion (λ r. r.seq < position → IsAmong r.seq ns) rs
+above_all p position [] q ns h le = tt
+above_all p position (r ∷ rs) q ns h le =
+    (λ below. absurd (omega (arith, h.0)), above_all (r.seq + 1) position rs q ns h.1 (omega (arith, h.0)))
 
 nothing_begins : (p : ℕ) (rs : List Logged) (q : ℕ) → IsRising p rs q → Begins p [] rs q
 nothing_begins p rs q h =
     record {
       rises = omega arith;
-      place = rising_le p rs q h;
+      position = rising_le p rs q h;
       from = omega arith;
       has = above_all p p rs q [] h (omega arith);
     }
@@ -173,12 +173,12 @@ begin_cond false p r ns bs rs q le h is rest = nothing_begins p (r ∷ rs) q h
 begin_cond true p r ns bs rs q le h is rest =
     subst (λ ms. Begins p (r.seq ∷ ms) (r ∷ rs) q) (sym is) (record {
       rises = (le, rest.rises);
-      place = rest.place;
+      position = rest.position;
       from = omega (arith, le, rest.from);
       has = (
         λ below. inl refl,
-        all_map (λ (x : Logged). x.seq < place_after (r.seq + 1) ns
-            → IsAmong x.seq ns) (λ (x : Logged). x.seq < place_after p (r.seq ∷ ns) → IsAmong x.seq (r.seq ∷ ns)) rs
+        all_map (λ (x : Logged). x.seq < position_after (r.seq + 1) ns
+            → IsAmong x.seq ns) (λ (x : Logged). x.seq < position_after p (r.seq ∷ ns) → IsAmong x.seq (r.seq ∷ ns)) rs
             (λ x g below. inr (g below)) rest.has,
       );
     })
@@ -266,81 +266,93 @@ rising (line ∷ log) legal s sh = rising_by log line s sh (records_step log lin
 
 -- The record `r` is below the position `position` of the read, is among the numbers `ns` that were read, or is trimmed.
 abbrev pub IsTaken : Journal → ℕ → ℕ → ℕ → List ℕ → Logged → Type 0
-IsTaken log c s place ns r = (r.seq < place) ⊎ (IsAmong r.seq ns ⊎ (is_trimmed log c s r.arrival ≡ true))
+IsTaken log c s position ns r = (r.seq < position) ⊎ (IsAmong r.seq ns ⊎ (is_trimmed log c s r.arrival ≡ true))
 
--- What a read at a place gives. `ns` are the numbers of its batch.
-pub record IsBatch (log : Journal) (c s sh place : ℕ) (ns : List ℕ) : Type 0 where
-  pub rises : RisesTo place ns (place_after place ns)
-  pub next : place_after place ns ≤ next_number log s
-  pub from : place ≤ place_after place ns
-  pub has : AllByRecursion (λ r. r.seq < place_after place ns → IsTaken log c s place ns r) (records log s sh)
+-- `ns` are the numbers of a batch that was read at the position `position`. They rise from `position` on, and are below
+-- the stream's next sequence number. Each of the shard's records below the position after the batch is in the batch, is
+-- trimmed, or is below `position`.
+pub record IsBatch (log : Journal) (c s sh position : ℕ) (ns : List ℕ) : Type 0 where
+  pub rises : RisesTo position ns (position_after position ns)
+  pub next : position_after position ns ≤ next_number log s
+  pub from : position ≤ position_after position ns
+  pub has : AllByRecursion (λ r. r.seq < position_after position ns → IsTaken log c s position ns r) (records log s sh)
 
 passes_above : (t : Bool) (p n : ℕ) → (not t && nat_le p n) ≡ true → p ≤ n
 passes_above true p n h = absurd cc
 passes_above false p n h = grind (arith, nat_tests)
 
--- A record passes the test, is trimmed, or is below the place.
-taken_or : (log : Journal) (c s place : ℕ) (ns : List ℕ) (r : Logged) (t : Bool) → is_trimmed log c s r.arrival ≡ t
-    → ((not t && nat_le place r.seq) ≡ true → r.seq < place_after place ns → IsAmong r.seq ns) → (b : Bool)
-    → nat_le place r.seq ≡ b → r.seq < place_after place ns → IsTaken log c s place ns r
-taken_or log c s place ns r true is g b at below = inr (inr is)
-taken_or log c s place ns r false is g true at below = inr (inl (g at below))
-taken_or log c s place ns r false is g false at below = inl (grind (arith, nat_tests))
+-- A record `r` below the position after the batch is below the position of the read, in the batch, or trimmed
+-- (`IsTaken`), if it is in the batch whenever a read may return it. `t` is true if `r` is trimmed, and `b` is true if
+-- `r` is at or above the position of the read.
+taken_or : (log : Journal) (c s position : ℕ) (ns : List ℕ) (r : Logged) (t : Bool) → is_trimmed log c s r.arrival ≡ t
+    → ((not t && nat_le position r.seq) ≡ true → r.seq < position_after position ns → IsAmong r.seq ns) → (b : Bool)
+    → nat_le position r.seq ≡ b → r.seq < position_after position ns → IsTaken log c s position ns r
+taken_or log c s position ns r true is g b at below = inr (inr is)
+taken_or log c s position ns r false is g true at below = inr (inl (g at below))
+taken_or log c s position ns r false is g false at below = inl (grind (arith, nat_tests))
 
 -- No record is left by a filter whose test is always false.
 none_passes : (rs : List Logged) → filter (λ (r : Logged). false) rs ≡ []
 none_passes [] = refl
 none_passes (r ∷ rs) = none_passes rs
 
-left_if : (b : Bool) (floor place : ℕ) (rs : List Logged)
-    → (if b then left_among floor place rs else [])
-    ≡ filter (λ (r : Logged). not (not b || nat_lt r.arrival floor) && nat_le place r.seq) rs
-left_if true floor place rs = refl
-left_if false floor place rs = sym (none_passes rs)
+left_if : (b : Bool) (floor position : ℕ) (rs : List Logged)
+    → (if b then left_among floor position rs else [])
+    ≡ filter (λ (r : Logged). not (not b || nat_lt r.arrival floor) && nat_le position r.seq) rs
+left_if true floor position rs = refl
+left_if false floor position rs = sym (none_passes rs)
 
-pub left_is : (log : Journal) (c s sh place : ℕ)
-    → left_from log c s sh place ≡ filter (λ (r : Logged). not (is_trimmed log c s r.arrival) && nat_le place r.seq)
+-- The records that a read at `position` may return are those that aren't trimmed and have a number at or above
+-- `position`.
+pub left_is : (log : Journal) (c s sh position : ℕ)
+    → left_from log c s sh position
+    ≡ filter (λ (r : Logged). not (is_trimmed log c s r.arrival) && nat_le position r.seq)
     (records log s sh)
-left_is log c s sh place = left_if (is_live log s) (trim_floor log c s) place (records log s sh)
+left_is log c s sh position = left_if (is_live log s) (trim_floor log c s) position (records log s sh)
 
-pub batch_is : (log : Journal) → IsLegal log → (c s sh place limit : ℕ) → place ≤ next_number log s
-    → IsBatch log c s sh place (numbers_of (batch log c s sh place limit))
-batch_is log legal c s sh place limit le =
-    let f : Logged → Bool = λ r. not (is_trimmed log c s r.arrival) && nat_le place r.seq in
+-- In a legal journal, the batch that a read at `position` returns has each of the shard's records from there up to the
+-- position after the batch, unless the record is trimmed (`IsBatch`).
+pub batch_is : (log : Journal) → IsLegal log → (c s sh position limit : ℕ) → position ≤ next_number log s
+    → IsBatch log c s sh position (numbers_of (batch log c s sh position limit))
+batch_is log legal c s sh position limit le =
+    let f : Logged → Bool = λ r. not (is_trimmed log c s r.arrival) && nat_le position r.seq in
     let left = filter f (records log s sh) in
     let ns = numbers_of (beginning limit BATCH_BYTES left) in
-    let up = rising_filter_from f 1 place (records log s sh) (next_number log s) (rising log legal s sh) le
-    (λ x h. passes_above (is_trimmed log c s x.arrival) place x.seq h) in
-    let b = begins limit BATCH_BYTES place left (next_number log s) up in
-    let taken : IsBatch log c s sh place ns = record {
+    let up = rising_filter_from f 1 position (records log s sh) (next_number log s) (rising log legal s sh) le
+    (λ x h. passes_above (is_trimmed log c s x.arrival) position x.seq h) in
+    let b = begins limit BATCH_BYTES position left (next_number log s) up in
+    let taken : IsBatch log c s sh position ns = record {
       rises = b.rises;
-      next = b.place;
+      next = b.position;
       from = b.from;
-      has = all_map (λ (r : Logged). f r ≡ true → r.seq < place_after place ns
-          → IsAmong r.seq ns) (λ (r : Logged). r.seq < place_after place ns
-          → IsTaken log c s place ns r) (records log s sh)
-          (λ r g below. taken_or log c s place ns r (is_trimmed log c s r.arrival) refl g (nat_le place r.seq)
+      has = all_map (λ (r : Logged). f r ≡ true → r.seq < position_after position ns
+          → IsAmong r.seq ns) (λ (r : Logged). r.seq < position_after position ns
+          → IsTaken log c s position ns r) (records log s sh)
+          (λ r g below. taken_or log c s position ns r (is_trimmed log c s r.arrival) refl g (nat_le position r.seq)
           refl below)
-          (all_filter f (λ (r : Logged). r.seq < place_after place ns → IsAmong r.seq ns) (records log s sh) b.has);
+          (all_filter f (λ (r : Logged). r.seq < position_after position ns → IsAmong r.seq ns) (records log s sh)
+          b.has);
     } in
-    subst (λ (rs : List Logged). IsBatch log c s sh place (numbers_of (beginning limit BATCH_BYTES rs)))
-    (sym (left_is log c s sh place)) taken
+    subst (λ (rs : List Logged). IsBatch log c s sh position (numbers_of (beginning limit BATCH_BYTES rs)))
+    (sym (left_is log c s sh position)) taken
 
--- If a read ends the shard, then the shard is closed, and each record is below the place or trimmed.
-below_or : (log : Journal) (c s place : ℕ) (r : Logged) (t : Bool) → is_trimmed log c s r.arrival ≡ t
-    → (not t && nat_le place r.seq) ≡ false → (r.seq < place) ⊎ (is_trimmed log c s r.arrival ≡ true)
-below_or log c s place r true is h = inr is
-below_or log c s place r false is h = inl (grind (arith, nat_tests))
+-- A record that a read at `position` doesn't return, whatever its limit is, is below `position` or trimmed. `t` is true
+-- if it is trimmed.
+below_or : (log : Journal) (c s position : ℕ) (r : Logged) (t : Bool) → is_trimmed log c s r.arrival ≡ t
+    → (not t && nat_le position r.seq) ≡ false → (r.seq < position) ⊎ (is_trimmed log c s r.arrival ≡ true)
+below_or log c s position r true is h = inr is
+below_or log c s position r false is h = inl (grind (arith, nat_tests))
 
-pub end_is : (log : Journal) (c s sh place : ℕ) → ends_at log c s sh place ≡ true
+-- If the shard ends at `position`, it is closed, and each of its records is below `position` or trimmed.
+pub end_is : (log : Journal) (c s sh position : ℕ) → ends_at log c s sh position ≡ true
     → (is_closed_at (shard_at log s sh) ≡ true)
-    × AllByRecursion (λ r. (r.seq < place) ⊎ (is_trimmed log c s r.arrival ≡ true)) (records log s sh)
-end_is log c s sh place h =
-    let two = and_parts (is_closed_at (shard_at log s sh)) (are_none (left_from log c s sh place)) h in
-    let f : Logged → Bool = λ r. not (is_trimmed log c s r.arrival) && nat_le place r.seq in (
+    × AllByRecursion (λ r. (r.seq < position) ⊎ (is_trimmed log c s r.arrival ≡ true)) (records log s sh)
+end_is log c s sh position h =
+    let two = and_parts (is_closed_at (shard_at log s sh)) (are_none (left_from log c s sh position)) h in
+    let f : Logged → Bool = λ r. not (is_trimmed log c s r.arrival) && nat_le position r.seq in (
       two.0,
-      all_map (λ (r : Logged). f r ≡ false) (λ (r : Logged). (r.seq < place) ⊎ (is_trimmed log c s r.arrival ≡ true))
+      all_map (λ (r : Logged). f r ≡ false) (λ (r : Logged). (r.seq < position) ⊎ (is_trimmed log c s r.arrival ≡ true))
           (records log s sh)
-          (λ r g. below_or log c s place r (is_trimmed log c s r.arrival) refl g)
-          (none_pass f (records log s sh) (ap are_none (sym (left_is log c s sh place)) ∙ two.1)),
+          (λ r g. below_or log c s position r (is_trimmed log c s r.arrival) refl g)
+          (none_pass f (records log s sh) (ap are_none (sym (left_is log c s sh position)) ∙ two.1)),
     )

@@ -16,13 +16,14 @@ use Rattle.kds_defs.specs.declared.command.Target.TheVariants as target
 use Rattle.kds_defs.specs.declared.reply.Row.{Row}
 use Rattle.kds_defs.specs.Decision.{Accepted}
 use Rattle.kds_defs.specs.Journal.{Line, Journal}
-use Rattle.kds_defs.specs.Leases.{TenureState, ReadDone, tenure, row, origin_of, origin_after, checkpoint_in, place_of}
-use Rattle.kds_defs.specs.Leases.{place_after_reads, reach, delivered, checkpoint_at, new_tenure, with_opened}
+use Rattle.kds_defs.specs.Leases.{TenureState, ReadDone, tenure, row, origin_of, origin_after, checkpoint_in}
+use Rattle.kds_defs.specs.Leases.{start_position}
+use Rattle.kds_defs.specs.Leases.{position_after_reads, reach, delivered, checkpoint_at, new_tenure, with_opened}
 use Rattle.kds_defs.specs.Leases.{with_read, with_given}
 use Rattle.kds_defs.specs.Legal.{IsLegal, told}
 use Rattle.kds_defs.specs.Origins.{floor_from, start_from}
 use Rattle.kds_defs.specs.Shards.{shard_at, start_of}
-use Rattle.kds_defs.specs.Records.{Logged, records, numbers_of, place_after, batch, beginning, is_left, left_among}
+use Rattle.kds_defs.specs.Records.{Logged, records, numbers_of, position_after, batch, beginning, is_left, left_among}
 use Rattle.kds_defs.specs.Records.{left_from}
 use Rattle.kds_defs.specs.Streams.{is_live, trim_floor}
 use Rattle.kds_defs.specs.declared.limits.TheConstants.{BATCH_BYTES}
@@ -38,34 +39,35 @@ use Rattle.kcl_laws.proofs.Steps.{NewRow, SameCheckpoint, MarkedRow, row_step}
 
 -- The position is 0, or at most one above the sequence number of one of the records. So it isn't beyond all records.
 abbrev pub IsReached : ℕ → List Logged → Type 0
-IsReached place [] = place ≡ 0
-IsReached place (r ∷ rs) = (place ≤ r.seq + 1) ⊎ IsReached place rs
+IsReached position [] = position ≡ 0
+IsReached position (r ∷ rs) = (position ≤ r.seq + 1) ⊎ IsReached position rs
 
 reached_none : (rs : List Logged) → IsReached 0 rs
 reached_none [] = refl
 reached_none (r ∷ rs) = inl (omega arith)
 
-reached_more : (place : ℕ) (rs : List Logged) (r : Logged) → IsReached place rs → IsReached place (rs ++ r ∷ [])
-reached_more place [] r is = inl (omega arith)
-reached_more place (x ∷ rs) r (inl is) = inl is
-reached_more place (x ∷ rs) r (inr is) = inr (reached_more place rs r is)
+reached_more : (position : ℕ) (rs : List Logged) (r : Logged) → IsReached position rs
+    → IsReached position (rs ++ r ∷ [])
+reached_more position [] r is = inl (omega arith)
+reached_more position (x ∷ rs) r (inl is) = inl is
+reached_more position (x ∷ rs) r (inr is) = inr (reached_more position rs r is)
 
-reached_below : (place less : ℕ) (rs : List Logged) → less ≤ place → IsReached place rs → IsReached less rs
-reached_below place less [] le is = omega arith
-reached_below place less (r ∷ rs) le (inl is) = inl (omega arith)
-reached_below place less (r ∷ rs) le (inr is) = inr (reached_below place less rs le is)
+reached_below : (position less : ℕ) (rs : List Logged) → less ≤ position → IsReached position rs → IsReached less rs
+reached_below position less [] le is = omega arith
+reached_below position less (r ∷ rs) le (inl is) = inl (omega arith)
+reached_below position less (r ∷ rs) le (inr is) = inr (reached_below position less rs le is)
 
 -- ---- Positions stay reached as records come
 
-stays_by : (log : Journal) (line : Line) (s sh place : ℕ) → RecordsStep log line s sh
-    → IsReached place (records log s sh) → IsReached place (records (line ∷ log) s sh)
-stays_by log line s sh place (SameRecords is) h = subst (IsReached place) (sym is) h
-stays_by log line s sh place (NewRecord r x is seq next there open_now) h =
-    subst (IsReached place) (sym is) (reached_more place (records log s sh) r h)
+stays_by : (log : Journal) (line : Line) (s sh position : ℕ) → RecordsStep log line s sh
+    → IsReached position (records log s sh) → IsReached position (records (line ∷ log) s sh)
+stays_by log line s sh position (SameRecords is) h = subst (IsReached position) (sym is) h
+stays_by log line s sh position (NewRecord r x is seq next there open_now) h =
+    subst (IsReached position) (sym is) (reached_more position (records log s sh) r h)
 
-reached_stays : (log : Journal) (line : Line) → IsLegal (line ∷ log) → (s sh place : ℕ)
-    → IsReached place (records log s sh) → IsReached place (records (line ∷ log) s sh)
-reached_stays log line legal s sh place h = stays_by log line s sh place (records_step log line legal s sh) h
+reached_stays : (log : Journal) (line : Line) → IsLegal (line ∷ log) → (s sh position : ℕ)
+    → IsReached position (records log s sh) → IsReached position (records (line ∷ log) s sh)
+reached_stays log line legal s sh position h = stays_by log line s sh position (records_step log line legal s sh) h
 
 -- ---- A batch reaches no further than its records
 
@@ -98,27 +100,29 @@ all_reached (r ∷ rs) = (
       IsReached (x.seq + 1) (r ∷ rs)) rs (λ x is. inr is) (all_reached rs),
 )
 
-left_reached : (log : Journal) (c s sh place : ℕ)
-    → AllByRecursion (λ (r : Logged). IsReached (r.seq + 1) (records log s sh)) (left_from log c s sh place)
-left_reached log c s sh place = either (is_live log s)
+left_reached : (log : Journal) (c s sh position : ℕ)
+    → AllByRecursion (λ (r : Logged). IsReached (r.seq + 1) (records log s sh)) (left_from log c s sh position)
+left_reached log c s sh position = either (is_live log s)
   where
     either : (b : Bool) → AllByRecursion (λ (r : Logged). IsReached (r.seq + 1) (records log s sh))
-        (if b then left_among (trim_floor log c s) place (records log s sh) else [])
-    either true = all_filtered (is_left (trim_floor log c s) place) (λ (r : Logged).
+        (if b then left_among (trim_floor log c s) position (records log s sh) else [])
+    either true = all_filtered (is_left (trim_floor log c s) position) (λ (r : Logged).
         IsReached (r.seq + 1) (records log s sh)) (records log s sh) (all_reached (records log s sh))
     either false = tt
 
-place_reached : (place : ℕ) (all bs : List Logged) → IsReached place all
-    → AllByRecursion (λ (r : Logged). IsReached (r.seq + 1) all) bs → IsReached (place_after place (numbers_of bs)) all
-place_reached place all [] at are = at
-place_reached place all (r ∷ bs) at are = place_reached (r.seq + 1) all bs are.0 are.1
+position_reached : (position : ℕ) (all bs : List Logged) → IsReached position all
+    → AllByRecursion (λ (r : Logged). IsReached (r.seq + 1) all) bs
+    → IsReached (position_after position (numbers_of bs)) all
+position_reached position all [] at are = at
+position_reached position all (r ∷ bs) at are = position_reached (r.seq + 1) all bs are.0 are.1
 
-batch_reached : (log : Journal) (c s sh place limit : ℕ) → IsReached place (records log s sh)
-    → IsReached (place_after place (numbers_of (batch log c s sh place limit))) (records log s sh)
-batch_reached log c s sh place limit at =
-    place_reached place (records log s sh) (batch log c s sh place limit) at
-    (all_begun limit BATCH_BYTES (λ (r : Logged). IsReached (r.seq + 1) (records log s sh)) (left_from log c s sh place)
-    (left_reached log c s sh place))
+batch_reached : (log : Journal) (c s sh position limit : ℕ) → IsReached position (records log s sh)
+    → IsReached (position_after position (numbers_of (batch log c s sh position limit))) (records log s sh)
+batch_reached log c s sh position limit at =
+    position_reached position (records log s sh) (batch log c s sh position limit) at
+    (all_begun limit BATCH_BYTES (λ (r : Logged). IsReached (r.seq + 1) (records log s sh))
+    (left_from log c s sh position)
+    (left_reached log c s sh position))
 
 -- ---- Tenures and rows
 
@@ -126,12 +130,12 @@ batch_reached log c s sh place limit at =
 -- reads.
 AreReached : Journal → TenureState → Type 0
 AreReached log T = (i : ℕ)
-    → IsReached (place_after_reads (place_of T.start) (take i T.reads)) (records log T.key.stream T.key.shard)
+    → IsReached (position_after_reads (start_position T.start) (take i T.reads)) (records log T.key.stream T.key.shard)
 
-places_append : (p : ℕ) (rs : List ReadDone) (r : ReadDone)
-    → place_after_reads p (rs ++ r ∷ []) ≡ place_after (place_after_reads p rs) r.numbers
-places_append p [] r = refl
-places_append p (q ∷ rs) r = places_append (place_after p q.numbers) rs r
+positions_append : (p : ℕ) (rs : List ReadDone) (r : ReadDone)
+    → position_after_reads p (rs ++ r ∷ []) ≡ position_after (position_after_reads p rs) r.numbers
+positions_append p [] r = refl
+positions_append p (q ∷ rs) r = positions_append (position_after p q.numbers) rs r
 
 take_snoc : (i : ℕ) (rs : List ReadDone) (r : ReadDone) → (take i (rs ++ r ∷ []) ≡ take i rs)
     ⊎ (take i (rs ++ r ∷ []) ≡ rs ++ r ∷ [])
@@ -171,23 +175,23 @@ read_reached log c limit T numbers ended is at i = either (take_snoc i T.reads r
     all = records log T.key.stream T.key.shard
 
     p : ℕ
-    p = place_of T.start
+    p = start_position T.start
 
     whole : IsReached (reach T) all
-    whole = subst (λ rs. IsReached (place_after_reads p rs) all) (take_all T.reads) (at (length T.reads))
+    whole = subst (λ rs. IsReached (position_after_reads p rs) all) (take_all T.reads) (at (length T.reads))
 
     either : (take i (T.reads ++ r ∷ []) ≡ take i T.reads) ⊎ (take i (T.reads ++ r ∷ []) ≡ T.reads ++ r ∷ [])
-        → IsReached (place_after_reads p (take i (T.reads ++ r ∷ []))) all
-    either (inl same) = subst (λ rs. IsReached (place_after_reads p rs) all) (sym same) (at i)
+        → IsReached (position_after_reads p (take i (T.reads ++ r ∷ []))) all
+    either (inl same) = subst (λ rs. IsReached (position_after_reads p rs) all) (sym same) (at i)
     either (inr same) =
-        subst (λ rs. IsReached (place_after_reads p rs) all) (sym same)
-        (subst (λ n. IsReached n all) (sym (places_append p T.reads r))
-        (subst (λ ns. IsReached (place_after (reach T) ns) all) (sym is)
+        subst (λ rs. IsReached (position_after_reads p rs) all) (sym same)
+        (subst (λ n. IsReached n all) (sym (positions_append p T.reads r))
+        (subst (λ ns. IsReached (position_after (reach T) ns) all) (sym is)
         (batch_reached log c T.key.stream T.key.shard (reach T) limit whole)))
 
 -- The position at which reading begins after the checkpoint is reached: it isn't beyond all records of the shard `key`.
 RowReached : Journal → ShardRef → Checkpoint → Type 0
-RowReached log key checkpoint = IsReached (place_of checkpoint) (records log key.stream key.shard)
+RowReached log key checkpoint = IsReached (start_position checkpoint) (records log key.stream key.shard)
 
 -- For each row whose origin is the trim horizon, the position after its checkpoint is reached. For each tenure of the
 -- key of such a row, the positions of the tenure are.
@@ -282,19 +286,20 @@ row_after_line log line legal all key r (NewRow from is floor start) h =
     let horizon = same_origin from origin.TrimHorizon (sym here ∙ h) in
     let begins : r.checkpoint ≡ TrimHorizon =
     start ∙ ap (λ o. start_from o (floor_from log line.clock key from)) horizon in
-    subst (λ c. IsReached (place_of c) (records log key.stream key.shard)) (sym begins)
+    subst (λ c. IsReached (start_position c) (records log key.stream key.shard)) (sym begins)
     (reached_none (records log key.stream key.shard))
 row_after_line log line legal all key r (SameCheckpoint before there floor same) h =
     let old = origin_before log line legal line.what key _ refl (row_made log key before there) h in
-    subst (λ c. IsReached (place_of c) (records log key.stream key.shard)) (sym same) (all.rows key before there old)
+    subst (λ c. IsReached (start_position c) (records log key.stream key.shard)) (sym same)
+    (all.rows key before there old)
 row_after_line log line legal all key r (MarkedRow before t counter to is of there floor marked) h =
     let old = origin_before log line legal line.what key _ refl (row_made log key before there) h in
     let allowed = subst (λ e. told log line e ≡ Accepted (line ∷ []) legal.0.reply) is legal.0.allowed in
     let m = mark_told log line t counter to legal.0.reply allowed in
     let key_is : m.state.key ≡ key = same_some m.state.key key (sym (tenure_key log t m.state m.begun) ∙ of) in
     let here = subst (λ k. origin_of log k ≡ Some origin.TrimHorizon) (sym key_is) old in
-    subst (λ c. IsReached (place_of c) (records log key.stream key.shard)) (sym marked)
-    (subst (λ (k : ShardRef). IsReached (place_of (checkpoint_at to)) (records log k.stream k.shard)) key_is
+    subst (λ c. IsReached (start_position c) (records log key.stream key.shard)) (sym marked)
+    (subst (λ (k : ShardRef). IsReached (start_position (checkpoint_at to)) (records log k.stream k.shard)) key_is
     (marked_reached log m.state to m.meets (all.tenures t m.state m.begun here)))
 
 all_reach : (log : Journal) → IsLegal log → AllReached log
@@ -324,7 +329,7 @@ pub checkpoint_reached : (log : Journal) → IsLegal log → (key : ShardRef) (r
 unfolding RowReached
 checkpoint_reached log legal key r q there from is =
     found q (records log key.stream key.shard)
-    (subst (λ c. IsReached (place_of c) (records log key.stream key.shard)) is
+    (subst (λ c. IsReached (start_position c) (records log key.stream key.shard)) is
     ((all_reach log legal).rows key r there from))
   where
     found : (q : ℕ) (rs : List Logged) → IsReached (q + 1) rs → HasFrom q rs

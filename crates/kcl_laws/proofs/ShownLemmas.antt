@@ -20,7 +20,7 @@ use Rattle.kds_defs.specs.LeaseCommands.{is_unread, past_parent, past_parents, p
 use Rattle.kds_defs.specs.RowWrites.{least}
 use Rattle.kds_defs.specs.Leases.{TenureState, checkpoint_in, counter_in, floor_in, reach, reads_end, row, tenure_in}
 use Rattle.kds_defs.specs.Legal.{IsGood, IsLegal, IsReached, in_stream, reach_in, told}
-use Rattle.kds_defs.specs.Records.{place_after}
+use Rattle.kds_defs.specs.Records.{position_after}
 use Rattle.kds_defs.specs.Shards.{ShardState, range_of, shard_at}
 use Rattle.kds_defs.specs.Rates.{is_throttled}
 use Rattle.kds_defs.specs.StreamCommands.{is_open_at, last_number}
@@ -193,7 +193,7 @@ shows_told log line (entry.Read t limit ended numbers) is sized =
     (past _ _ _ _ _ _ (λ i. not (reach_in (tenure_is log t i) == reach T)) (λ i. (
     let ns = numbers_are log line.clock T.key.stream T.key.shard (reach T) limit in
     plain_line line.clock line.by
-    (entry.Read t limit (ends_is log line.clock T.key.stream T.key.shard (place_after (reach T) (ns i)) i) (ns i))
+    (entry.Read t limit (ends_is log line.clock T.key.stream T.key.shard (position_after (reach T) (ns i)) i) (ns i))
     ∷ []))))))
 shows_told log line (entry.Given t) is sized = tenure_past log line.by t _ _ (λ T. past _ _ _ _ _ _ refl refl)
 shows_told log line (entry.Marked t counter to) is sized =

@@ -26,7 +26,7 @@ ghost use Rattle.kds_defs.specs.declared.reply.Row.{Row};
 ghost use Rattle.kds_defs.specs.Histories.{journal, clock, answer};
 ghost use Rattle.kds_defs.specs.Journal.{Line, Journal};
 ghost use Rattle.kds_defs.specs.Lawful.{IsHistory};
-ghost use Rattle.kds_defs.specs.Leases.{TenureState, place_of, row, tenure};
+ghost use Rattle.kds_defs.specs.Leases.{TenureState, start_position, row, tenure};
 ghost use Rattle.kds_defs.specs.Legal.{IsGood, IsLegal, IsReached};
 ghost use Rattle.kds_defs.specs.Records.{next_number, records};
 ghost use Rattle.kds_defs.specs.Safe.{HasPartitions, ArePlaced, AreCovered, AreInLine, HoldsRow, AreFenced, IsSafe};
@@ -71,7 +71,7 @@ pub fn whole_coverage()
 pub fn delivery()
     ensures reads { (h : List Turn) → IsHistory h → (c : ℕ) → clock h ≤ c → AreReadOn (journal h) c }
     ensures begins { (h : List Turn) → IsHistory h → (t : ℕ) (T : TenureState) → tenure (journal h) t ≡ Some T
-        → RiseFrom (place_of T.start) (all_numbers T.reads) }
+        → RiseFrom (start_position T.start) (all_numbers T.reads) }
 {}
 
 /// For each key, a row is made at most once. So all tenures of a key are tenures of the same row. A row is removed only

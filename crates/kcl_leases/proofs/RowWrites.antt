@@ -35,7 +35,7 @@ use Rattle.kds_defs.proofs.Decisions.{after_accepted, after_refused, passed_if, 
 use Rattle.kds_defs.proofs.Keys.{same_ref}
 use Rattle.kcl_book.specs.Tenures.{TenureValue, begun}
 use Rattle.kcl_table.specs.Rows.{changed, row_of, with_row, without_row}
-use Rattle.kcl_table.specs.Writes.{counted, cut_answer, take_answer}
+use Rattle.kcl_table.specs.Writes.{next_counter, cut_answer, take_answer}
 use Rattle.kcl_leases.proofs.Deciding.{err_same, if_ok, never, ok_same, refused_test}
 use Rattle.kcl_leases.proofs.LeaseSteps.{LeaseLines, changed_rows, made_rows, removed_rows, rows_of, same_tenures}
 use Rattle.kcl_leases.proofs.LeaseSteps.{stands_of, tenure_begins, tenures_of}
@@ -171,7 +171,7 @@ module _ (s : Facing) (rs : List Row) (ts : List TenureValue) (by : ℕ) (key : 
       → start ≡ start_from counts floor → start ≢ At last_number
       → Leads (leases s rs ts) (leases s (with_row (new_row key floor start y.parent y.adjacent) rs) ts) by
       (command.MakeLease key from) (Ok (reply.Leased counts))
-  make_done y from counts floor start law h listed shard counted floored start_is bounded = λ log st.
+  make_done y from counts floor start law h listed shard next_counter floored start_is bounded = λ log st.
       let none = no_row (row_of rs key) h in
       let of = is_shard log key y (shard log st) in
       let new = new_row key floor start y.parent y.adjacent in
@@ -187,7 +187,7 @@ module _ (s : Facing) (rs : List Row) (ts : List TenureValue) (by : ℕ) (key : 
       (Stands (leases s (with_row new rs) ts))
       (passed_if _ _ _ (ap not (sym (listed log st))) ∙ passed_if _ _ _ (ap is_some (st.row_is key ∙ none))
       ∙ ap (λ o. Accepted (plain_line s.clock by (entry.LeaseMade key o) ∷ []) (reply.Leased o))
-      (counting_is log rs key y from of st.row_is ∙ sym (counted log st.shows))) stands
+      (counting_is log rs key y from of st.row_is ∙ sym (next_counter log st.shows))) stands
 
 -- ---- A row is taken
 
@@ -246,8 +246,8 @@ is_taken (Some x) counter spent start h =
           ∙ passed_if _ _ _ full.0;
       answered =
           ap (λ b. if b then Err (refusal.Moved x.counter) else if is_end x.checkpoint then Err refusal.Ended else
-          counted x.counter) moved.0
-          ∙ ap (λ b. if b then Err refusal.Ended else counted x.counter) ended.0
+          next_counter x.counter) moved.0
+          ∙ ap (λ b. if b then Err refusal.Ended else next_counter x.counter) ended.0
           ∙ ap (λ b. if b then Err refusal.Spent else Ok (x.counter + 1)) both.0;
     }
 

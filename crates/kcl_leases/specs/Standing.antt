@@ -12,7 +12,7 @@ use Rattle.kds_defs.specs.Histories.{answer_of, decide, lines_of}
 use Rattle.kds_defs.specs.Journal.{Journal, Line, with_lines}
 use Rattle.kds_defs.specs.Leases.{ReadDone, TenureState, checkpoint_in, delivered, given_reads, last_ended, reach, row}
 use Rattle.kds_defs.specs.Leases.{row_keys, taken_count, tenure}
-use Rattle.kds_defs.specs.Records.{place_after}
+use Rattle.kds_defs.specs.Records.{position_after}
 use Rattle.kds_defs.specs.Shards.{ShardState, shard_at}
 use Rattle.kds_defs.specs.StreamCommands.{last_number}
 use Rattle.kds_defs.specs.Streams.{is_live}
@@ -61,9 +61,10 @@ over clock shows rows ts = leases (facing clock shows) rows ts
 -- The reads in the form in which the book of tenures keeps them: for each read, the position after it, and whether it
 -- ended the shard. The first read begins at `position`, and each other one where the one before it ended.
 abbrev pub pending_from : ℕ → List ReadDone → List PendingRead
-pending_from place [] = []
-pending_from place (r ∷ rs) =
-    record { reach = place_after place r.numbers; end = r.ended } ∷ pending_from (place_after place r.numbers) rs
+pending_from position [] = []
+pending_from position (r ∷ rs) =
+    record { reach = position_after position r.numbers; end = r.ended }
+    ∷ pending_from (position_after position r.numbers) rs
 
 -- The tenure with the state `T`, in the form in which the book of tenures keeps it. Of its reads, the book keeps those
 -- that aren't given yet.

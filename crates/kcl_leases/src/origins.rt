@@ -52,7 +52,7 @@ fn parent_reaches<L: Shards>(
 
 /// Returns the origin of a new row for `shard`. If a parent has a row that covers the parent's last sequence number,
 /// the origin is TRIM_HORIZON, so that the shard is read from its first record. Otherwise the origin is `from`.
-pub fn counting<L: Shards>(
+pub fn effective_origin<L: Shards>(
     shards: &L,
     table: &Table,
     stream: StreamNo,

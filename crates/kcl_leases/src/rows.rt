@@ -10,7 +10,7 @@ ghost use Rattle.kcl_leases.specs.Conditions.{start_answer, write_command};
 ghost use Rattle.kcl_leases.specs.Standing.{AreBounded, LeadsOver};
 
 use crate::actors::own_tenure;
-use crate::origins::{counting, floor_from, start_from};
+use crate::origins::{effective_origin, floor_from, start_from};
 use crate::shards::Shards;
 use kcl_book::Book;
 use kcl_table::{Change, Table};
@@ -38,7 +38,7 @@ pub fn make<L: Shards>(
     if !shards.is_listed(*key) {
         return Ok(Err(Refusal::ShardGone));
     }
-    let counts = counting(shards, table, key.stream, shard, from);
+    let counts = effective_origin(shards, table, key.stream, shard, from);
     // The origin is borrowed, so that it can be passed on more than once.
     let from = &counts;
     let floor = floor_from(shards, key, shard.start, *from);

@@ -19,7 +19,7 @@ use Rattle.kcl_worker.specs.Standing.{StandsFor, WorkerStanding}
 use Rattle.kds_turn.specs.declared.pass.TurnErr.{TurnErr}
 use Rattle.kds_turn.specs.declared.pass.TurnErr.TheVariants as failed
 use Rattle.kds_turn.specs.Known.{Continues, turns_by}
-use Rattle.kds_turn.specs.Passes.{IsAnswered, Standing}
+use Rattle.kds_turn.specs.Passes.{IsAnswered, PassValue}
 use Rattle.kds_turn.proofs.Turns.{continues_all}
 use Rattle.kcl_live.specs.Records.{IsAtOnce, IsDriven, turns_in, with_calls, with_turn}
 use Rattle.kcl_live.specs.Runs.{WasCut}
@@ -127,18 +127,19 @@ module _ {P F : Type 0} (stands : P → List Call → Type 0) (by : ℕ) (seen o
   last_turn before = with_answer by at what (worker_after u.made (Gave_command at ∷ past)).waiting (adds past d.stood).0
       before waits (adds past d.stood).2
 
-  -- The answer was taken.
-  pub answered_driven : (place : List Turn) → Continues place seen
-      → turns_by by (record { by = by; at = at; what = what } ∷ place) ≡ record { by = by; at = at; what = what } ∷ own
+  -- If the command became a turn right after the turns `older`, and the worker took the answer to it and became `v`,
+  -- then `IsDriven` holds for `v` with this turn added.
+  pub answered_driven : (older : List Turn) → Continues older seen
+      → turns_by by (record { by = by; at = at; what = what } ∷ older) ≡ record { by = by; at = at; what = what } ∷ own
       → v.made ≡ u.made
-      → StandsFor stands v (Got_answer at (answer place (record { by = by; at = at; what = what }))
+      → StandsFor stands v (Got_answer at (answer older (record { by = by; at = at; what = what }))
       ∷ (Gave_command at ∷ past))
-      → IsDriven stands by (record { by = by; at = at; what = what } ∷ place) (record { by = by; at = at; what = what }
-      ∷ own) v (Got_answer at (answer place (record { by = by; at = at; what = what }))
+      → IsDriven stands by (record { by = by; at = at; what = what } ∷ older) (record { by = by; at = at; what = what }
+      ∷ own) v (Got_answer at (answer older (record { by = by; at = at; what = what }))
       ∷ (Gave_command at ∷ past))
   unfolding turn
-  answered_driven place c all same stood =
-      let a = answer place turn in
+  answered_driven older c all same stood =
+      let a = answer older turn in
       let p = (adds past d.stood).0 in
       record {
         stood = stood;
@@ -146,8 +147,8 @@ module _ {P F : Type 0} (stands : P → List Call → Type 0) (by : ℕ) (seen o
             ∙ sym (ap (λ m. with_turn by at (worker_after m (Gave_command at ∷ past)).waiting (turns_in by m past)) same
             ∙ last_turn (turns_in by u.made past));
         at_once = (refl, d.at_once);
-        told = λ h k alone. told_more turn place own h (deals_after w.made past) all k alone
-            (d.told place c (before_own turn place own all))
+        told = λ h k alone. told_more turn older own h (deals_after w.made past) all k alone
+            (d.told older c (before_own turn older own all))
             ∙ sym (ap (λ m. deals_after m (Got_answer at a ∷ (Gave_command at ∷ past))) same
             ∙ deal_answer what a (worker_after u.made (Gave_command at ∷ past)).waiting p (deals_after u.made past)
             waits (adds past d.stood).2
@@ -156,7 +157,9 @@ module _ {P F : Type 0} (stands : P → List Call → Type 0) (by : ℕ) (seen o
 
 -- ---- A turn of the pass
 
-module _ {P F : Type 0} (stands : P → List Call → Type 0) (w u : WorkerStanding P F) (before after : Standing)
+-- In this module, the worker `w` with the pass `before`, which is driven (`IsDriven`), gave the command `what` at the
+-- moment `at` and became `u`. `after` is the pass later.
+module _ {P F : Type 0} (stands : P → List Call → Type 0) (w u : WorkerStanding P F) (before after : PassValue)
     (past : WorkerPast) (at : ℕ) (what : Command) (given : u.made ≡ w.made)
     (d : IsDriven stands before.by before.seen before.own w past) (adds : AddsCommand stands w u at what)
     (same : after.by ≡ before.by) where
@@ -180,20 +183,20 @@ module _ {P F : Type 0} (stands : P → List Call → Type 0) (w u : WorkerStand
       → AddsAnswer stands u v at a → HasTurned stands after v at past
   has_turned v a t took absorbed =
       let turn : Turn = record { by = before.by; at = at; what = what } in
-      let later : WorkerPast = Got_answer at (answer t.place turn) ∷ (Gave_command at ∷ past) in
-      let all : turns_by before.by (turn ∷ t.place) ≡ turn ∷ before.own =
+      let later : WorkerPast = Got_answer at (answer t.older turn) ∷ (Gave_command at ∷ past) in
+      let all : turns_by before.by (turn ∷ t.older) ≡ turn ∷ before.own =
       sym (ap₂ turns_by same t.seen) ∙ t.all_own ∙ t.own in
       let stood : StandsFor stands v later =
       subst (λ x. StandsFor stands v (Got_answer at x ∷ (Gave_command at ∷ past))) t.answered
       (absorbed (Gave_command at ∷ past) (adds past d.stood).3) in
-      let base : IsDriven stands before.by (turn ∷ t.place) (turn ∷ before.own) v later =
-      answered_driven stands before.by before.seen before.own w u v past at what given d adds t.place t.later all
+      let base : IsDriven stands before.by (turn ∷ t.older) (turn ∷ before.own) v later =
+      answered_driven stands before.by before.seen before.own w u v past at what given d adds t.older t.later all
       took stood in
       record {
-        answer = answer t.place turn;
+        answer = answer t.older turn;
         driven = subst (λ n. IsDriven stands n after.seen after.own v later) (sym same)
             (subst (λ s. IsDriven stands before.by s after.own v later) (sym t.seen)
-            (subst (λ o. IsDriven stands before.by (turn ∷ t.place) o v later) (sym t.own) base));
+            (subst (λ o. IsDriven stands before.by (turn ∷ t.older) o v later) (sym t.own) base));
         alone = t.all_own;
       }
 
@@ -204,23 +207,23 @@ module _ {P F : Type 0} (stands : P → List Call → Type 0) (w u : WorkerStand
       → (e : TurnErr) → e ≡ failed.Memory → WasCut stands v after e
   answer_failed v a t kept some e is =
       let turn : Turn = record { by = before.by; at = at; what = what } in
-      let all : turns_by before.by (turn ∷ t.place) ≡ turn ∷ before.own =
+      let all : turns_by before.by (turn ∷ t.older) ≡ turn ∷ before.own =
       sym (ap₂ turns_by same t.seen) ∙ t.all_own ∙ t.own in
-      let there : IsDriven stands before.by t.place before.own u (Gave_command at ∷ past) =
-      driven_later stands before.by before.seen before.own u (Gave_command at ∷ past) t.place t.later asked in
+      let there : IsDriven stands before.by t.older before.own u (Gave_command at ∷ past) =
+      driven_later stands before.by before.seen before.own u (Gave_command at ∷ past) t.older t.later asked in
       subst (λ x. WasCut stands x after e) (sym kept) (inr (inr (record {
         error = is;
         waits = some;
         past = past;
         at = at;
         last = turn;
-        place = t.place;
+        older = t.older;
         before = before.own;
         seen = t.seen;
         own = t.own;
-        alone = ap (λ n. turns_by n t.place) same ∙ before_own turn t.place before.own all;
+        alone = ap (λ n. turns_by n t.older) same ∙ before_own turn t.older before.own all;
         is_last = asked_last after.by before.own same;
-        driven = subst (λ n. IsDriven stands n t.place before.own u (Gave_command at ∷ past)) (sym same) there;
+        driven = subst (λ n. IsDriven stands n t.older before.own u (Gave_command at ∷ past)) (sym same) there;
       })))
 
   -- If the command became no turn, the run was cut short (`WasCut`). The error is Spent exactly if the pass has seen

@@ -9,14 +9,14 @@ use Rattle.kcl_defs.specs.declared.consumer.Due.{Due}
 use Rattle.kcl_defs.specs.Consumers.{due_call}
 use Rattle.kcl_defs.specs.Workers.{Known, WorkerPast, is_due_known, is_nothing_held, is_stopping, stage_of_known}
 use Rattle.kcl_defs.specs.Workers.{worker_after}
-use Rattle.kcl_consumer.specs.Standing.{Standing}
+use Rattle.kcl_consumer.specs.Standing.{ConsumerValue}
 use Rattle.kcl_worker_lists.specs.Lists.{due_in, due_or}
 use Rattle.kcl_worker.proofs.Happenings.{stage_known}
 use Rattle.kcl_worker.proofs.Outlooks.{none_due}
 use Rattle.kcl_worker.specs.Standing.{ConsumersStand, StandsFor, WorkerStanding, is_due_in, is_giving_in, is_idle_in}
 
--- A worker whose record has no due call has none.
-none_due_in : {P : Type 0} (stands : P → List Call → Type 0) (cs : List (Standing P)) (ks : List Known)
+-- If none of the record's consumers has a due call, none of the worker's consumers `cs` has one.
+none_due_in : {P : Type 0} (stands : P → List Call → Type 0) (cs : List (ConsumerValue P)) (ks : List Known)
     → find is_due_known ks ≡ None → ConsumersStand stands cs ks → due_in cs ≡ None
 none_due_in stands [] [] none s = refl
 none_due_in stands [] (k ∷ ks) none s = absurd s

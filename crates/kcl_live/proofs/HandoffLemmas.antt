@@ -19,7 +19,7 @@ use Rattle.kcl_defs.specs.Consumers.{Losing, Past, call_at, calls_after, due_cal
 use Rattle.kcl_defs.specs.Lives.{Deal, deals_of}
 use Rattle.kcl_defs.specs.WorkerLives.{MayHappen}
 use Rattle.kcl_defs.specs.Workers.{Release, Released, WorkerPast, id_of_held, released, worker_after}
-use Rattle.kcl_consumer.specs.Standing.{Standing as ConsumerStanding}
+use Rattle.kcl_consumer.specs.Standing.{ConsumerValue}
 use Rattle.kcl_hand.specs.declared.stand.Left.{Left}
 use Rattle.kcl_hand.specs.Handing.{HandPast, Hand_answered, Hand_called, command_at, hand_after, hand_command, left_at}
 use Rattle.kcl_hand.specs.Joints.{AreAllServed, AreOrderly, AreToldIn, JointPast, answered_deals, command_in, hand_of}
@@ -31,10 +31,10 @@ use Rattle.kcl_hand.specs.Twice.{IsHandedOffIfFreed}
 use Rattle.kcl_hand.proofs.Running.{command_last, hands_with}
 use Rattle.kcl_worker.specs.Adding.{AddsRelease}
 use Rattle.kcl_worker.specs.Standing.{StandsFor, WorkerStanding}
-use Rattle.kcl_worker_lists.specs.Changes.{one_of}
+use Rattle.kcl_worker_lists.specs.Changes.{first_of}
 use Rattle.kds_turn.specs.declared.pass.TurnErr.{TurnErr}
 use Rattle.kds_turn.specs.Known.{Continues, turns_by}
-use Rattle.kds_turn.specs.Passes.{IsAnswered, Standing}
+use Rattle.kds_turn.specs.Passes.{IsAnswered, PassValue}
 use Rattle.kds_turn.proofs.Turns.{continues_same, continues_all}
 use Rattle.kcl_live.specs.Hands.{AreAnswered, AreServedJointly, Goes, HandWasCut, HasHandedOff, HasReleased, IsAlong}
 use Rattle.kcl_live.specs.Hands.{IsAnsweredAt, StoodStill, TellsJointly}
@@ -44,7 +44,8 @@ use Rattle.kcl_live.proofs.Histories.{before_own, told_more}
 
 -- ---- Going on
 
-pub goes_on : {P : Type 0} (stands : P → List Call → Type 0) (at : ℕ) (x y z : HandStanding P) (q r s : Standing)
+-- If the hand-off went on from `x` to `y`, and from `y` to `z`, then it went on from `x` to `z`.
+pub goes_on : {P : Type 0} (stands : P → List Call → Type 0) (at : ℕ) (x y z : HandStanding P) (q r s : PassValue)
     → r.by ≡ q.by
     → Goes stands at x y q r → Goes stands at y z r s → Goes stands at x z q s
 goes_on stands at x y z q r s same g f = λ start p before since by along.
@@ -56,12 +57,12 @@ goes_on stands at x y z q r s same g f = λ start p before since by along.
 -- If each answer of the hand-off is the one to its command in the history `older`, the same is true in each history
 -- `later` that goes on from `older`.
 answered_later : (by at : ℕ) (h : Held) (m : Tenancy) (before : Past) (seen : List Turn) (since : HandPast)
-    (place later : List Turn) → Continues later place
-    → AreAnswered by at h m before seen since place → AreAnswered by at h m before seen since later
-answered_later by at h m before seen [] place later c a = continues_all later place seen c a
-answered_later by at h m before seen (Hand_called asked ∷ since) place later c a =
-    answered_later by at h m before seen since place later c a
-answered_later by at h m before seen (Hand_answered r ∷ since) place later c a =
+    (older later : List Turn) → Continues later older
+    → AreAnswered by at h m before seen since older → AreAnswered by at h m before seen since later
+answered_later by at h m before seen [] older later c a = continues_all later older seen c a
+answered_later by at h m before seen (Hand_called asked ∷ since) older later c a =
+    answered_later by at h m before seen since older later c a
+answered_later by at h m before seen (Hand_answered r ∷ since) older later c a =
     let one = a.2 in (
       a.0,
       a.1,
@@ -69,7 +70,7 @@ answered_later by at h m before seen (Hand_answered r ∷ since) place later c a
         what = one.what;
         which = one.which;
         answered = one.answered;
-        goes_on = continues_all later place _ c one.goes_on;
+        goes_on = continues_all later older _ c one.goes_on;
       },
     )
 
@@ -82,8 +83,9 @@ answered_of by at h g m n before seen since later e f a =
     subst (λ k. AreAnswered by at g k before seen since later) f
     (subst (λ k. AreAnswered by at k m before seen since later) e a)
 
--- The hand-off goes on to a later history without a turn of the actor.
-pub goes_later : {P : Type 0} (stands : P → List Call → Type 0) (at : ℕ) (x y : HandStanding P) (q r : Standing) → y ≡ x
+-- `Goes` holds for a hand-off that stays as it is, if the pass has seen more turns or as many but made none of its own.
+pub goes_later : {P : Type 0} (stands : P → List Call → Type 0) (at : ℕ) (x y : HandStanding P) (q r : PassValue)
+    → y ≡ x
     → r.by ≡ q.by → r.own ≡ q.own → Continues r.seen q.seen → Goes stands at x y q r
 goes_later stands at x y q r is same own seen =
     let P : _ → Type 0 = λ z. Goes stands at x z q r in
@@ -102,22 +104,28 @@ goes_later stands at x y q r is same own seen =
 
 -- ---- A call
 
--- Whether the call was made or not, no turn was made.
-module _ {P : Type 0} (stands : P → List Call → Type 0) (at : ℕ) (x y : HandStanding P) (q : Standing)
+-- In this module, the due call of the hand-off `x` was made, or ran out of memory, which left `y`. The pass is `q`
+-- before and after, since a call is no turn.
+module _ {P : Type 0} (stands : P → List Call → Type 0) (at : ℕ) (x y : HandStanding P) (q : PassValue)
     (held : y.held ≡ x.held)
     (made : y.consumer.made ≡ x.consumer.made) where
-  same_own : (start : P) (p : Standing) (before : Past) (since : HandPast) → IsAlong stands at start x p q before since
+  -- The own turns of the pass are still the answered commands of the hand-off.
+  same_own : (start : P) (p : PassValue) (before : Past) (since : HandPast) → IsAlong stands at start x p q before since
       → q.own ≡ turns_at p.by at (hand_commands y.held y.consumer.made before since) ++ p.own
   same_own start p before since along =
       along.own ∙ (λ i. turns_at p.by at (hand_commands (sym held i) (sym made i) before since) ++ p.own)
 
-  same_told : (start : P) (p : Standing) (before : Past) (since : HandPast) → IsAlong stands at start x p q before since
+  -- The actor's deals are still those before the hand-off with the hand-off's added.
+  same_told : (start : P) (p : PassValue) (before : Past) (since : HandPast)
+      → IsAlong stands at start x p q before since
       → (deals : List Deal) → OfEachLater p.by p.seen p.own (λ h. deals_of p.by h ≡ deals)
       → OfEachLater q.by q.seen q.own (λ h. deals_of q.by h ≡ hand_deals y.held y.consumer.made before since deals)
   same_told start p before since along deals f k c alone =
       along.told deals f k c alone ∙ (λ i. hand_deals (sym held i) (sym made i) before since deals)
 
-  same_answered : (start : P) (p : Standing) (before : Past) (since : HandPast)
+  -- Each answer that the hand-off got is still the answer that the definitions give to the command that it answers
+  -- (`AreAnswered`).
+  same_answered : (start : P) (p : PassValue) (before : Past) (since : HandPast)
       → IsAlong stands at start x p q before since
       → AreAnswered p.by at y.held y.consumer.made before p.seen since q.seen
   same_answered start p before since along =
@@ -166,7 +174,9 @@ module _ {P : Type 0} (stands : P → List Call → Type 0) (at : ℕ) (x y : Ha
 
 -- ---- An answer
 
-module _ {P : Type 0} (stands : P → List Call → Type 0) (at : ℕ) (x y : HandStanding P) (q r : Standing)
+-- In this module, the next command `what` of the hand-off `x` became a turn of the pass `q`, which is now `r`. The
+-- hand-off took the answer `a` and became `y`.
+module _ {P : Type 0} (stands : P → List Call → Type 0) (at : ℕ) (x y : HandStanding P) (q r : PassValue)
     (what : Command) (a : Result Reply Refusal)
     (held : y.held ≡ x.held) (made : y.consumer.made ≡ x.consumer.made) (processor : y.consumer.processor
     ≡ x.consumer.processor)
@@ -189,11 +199,11 @@ module _ {P : Type 0} (stands : P → List Call → Type 0) (at : ℕ) (x y : Ha
       let cs = hand_commands h m before since in
       let turn : Turn = record { by = q.by; at = at; what = what } in
       let is = command_is before since along.stood in
-      let all : turns_by q.by (turn ∷ t.place) ≡ turn ∷ q.own = sym (ap₂ turns_by same t.seen) ∙ t.all_own ∙ t.own in
+      let all : turns_by q.by (turn ∷ t.older) ≡ turn ∷ q.own = sym (ap₂ turns_by same t.seen) ∙ t.all_own ∙ t.own in
       let state = hand_after h m before since in
-      let here : IsAnsweredAt q.by at (hand_command h m state) a t.place r.seen
+      let here : IsAnsweredAt q.by at (hand_command h m state) a t.older r.seen
       = record { what = what; which = sym is; answered = t.answered; goes_on = ([], t.seen) } in
-      let so_far = answered_later p.by at h m before p.seen since q.seen t.place t.later along.answered in (
+      let so_far = answered_later p.by at h m before p.seen since q.seen t.older t.later along.answered in (
         Hand_answered a ∷ since,
         record {
           stood = adds before since along.stood;
@@ -204,14 +214,14 @@ module _ {P : Type 0} (stands : P → List Call → Type 0) (at : ℕ) (x y : Ha
               ++ p.own);
           answered = answered_of p.by at h y.held m y.consumer.made before p.seen (Hand_answered a ∷ since) r.seen
               (sym held) (sym made)
-              (t.place, so_far, subst (λ n. IsAnsweredAt n at (hand_command h m state) a t.place r.seen) (sym by) here);
+              (t.older, so_far, subst (λ n. IsAnsweredAt n at (hand_command h m state) a t.older r.seen) (sym by) here);
           told = λ deals f k c alone.
               let g = along.told deals f in
               let ds = hand_deals h m before since deals in
               ap (λ n. deals_of n k) same
-              ∙ told_more turn t.place q.own k ds all (subst (Continues k) t.seen c) (ap (λ n. turns_by n k) (sym same)
+              ∙ told_more turn t.older q.own k ds all (subst (Continues k) t.seen c) (ap (λ n. turns_by n k) (sym same)
               ∙ alone ∙ t.own)
-              (g t.place t.later (before_own turn t.place q.own all))
+              (g t.older t.later (before_own turn t.older q.own all))
               ∙ ap (λ (z : Result Reply Refusal). record { what = what; answer = z } ∷ ds) (sym t.answered)
               ∙ ap (λ o. answered_deals o a ds) is
               ∙ (λ i. hand_deals (sym held i) (sym made i) before (Hand_answered a ∷ since) deals);
@@ -263,12 +273,12 @@ joint_orderly key made joint r which may by at seen (Hand_answered answered ∷ 
 -- on joint records that are taken as given.
 module _ {P F : Type 0} (stands : P → List Call → Type 0) (at : ℕ) (key : ShardRef) (w v : WorkerStanding P F)
     (worker : v.made ≡ w.made)
-    (p q : Standing) (h : Held) (c : ConsumerStanding P) (x y : HandStanding P) (held : x.held ≡ h)
+    (p q : PassValue) (h : Held) (c : ConsumerValue P) (x y : HandStanding P) (held : x.held ≡ h)
     (made : x.consumer.made ≡ c.made)
     (processor : x.consumer.processor ≡ c.processor) (begins : BeginsHand stands c x) (same_held : y.held ≡ x.held)
     (same_made : y.consumer.made ≡ x.consumer.made) (gone : Goes stands at x y p q)
     (adds : AddsRelease stands w v key (h, c))
-    (one : one_of (id_of_held h) w.consumers ≡ Some c)
+    (one : first_of (id_of_held h) w.consumers ≡ Some c)
     (service : (by : ℕ) (t : List Turn) (m : WorkerMade) (joint : JointPast) → AreOrderly m joint
     → AreToldIn by t m joint → AreAllServed by t m joint)
     (handed : (by : ℕ) (t : List Turn) (m : WorkerMade) (joint : JointPast) → IsHistory t → AreOrderly m joint
@@ -290,7 +300,7 @@ module _ {P F : Type 0} (stands : P → List Call → Type 0) (at : ℕ) (key : 
     stand : y.stand ≡ (release_state so_far.release so_far.since).stand
     calls : stands y.consumer.processor
         (calls_after so_far.release.known.made (release_state so_far.release so_far.since).past)
-    whose : one_of (id_of_held so_far.release.held) w.consumers ≡ Some c
+    whose : first_of (id_of_held so_far.release.held) w.consumers ≡ Some c
     added : (earlier : List Call) → stands c.processor earlier
         → stands y.consumer.processor (release_calls so_far.release so_far.since earlier)
 
@@ -347,7 +357,7 @@ module _ {P F : Type 0} (stands : P → List Call → Type 0) (at : ℕ) (key : 
             (subst (λ g. stands y.consumer.processor
             (calls_after y.consumer.made (hand_after g y.consumer.made before since).past)) is_held
             along.stood.consumer.calls);
-        whose = ap (λ g. one_of (id_of_held g) w.consumers) (sym rel.held) ∙ one;
+        whose = ap (λ g. first_of (id_of_held g) w.consumers) (sym rel.held) ∙ one;
         added = λ earlier s.
             let is : hand_calls y.held y.consumer.made before since earlier
             ≡ hand_calls r.held r.known.made before since earlier

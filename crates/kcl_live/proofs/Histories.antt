@@ -31,24 +31,26 @@ same_deals by (t ∷ newer) h e = one (t.by == by) e (same_deals by newer h)
     one true e rest = absurd (omega (arith, e, no_fewer by newer h))
     one false e rest = rest e
 
--- The actor's turns before one of its own.
-pub before_own : (t : Turn) (place own : List Turn) → turns_by t.by (t ∷ place) ≡ t ∷ own → turns_by t.by place ≡ own
-before_own t place own e =
-    let same : t ∷ turns_by t.by place ≡ t ∷ own =
-    sym (ap (λ b. cond b (t ∷ turns_by t.by place) (turns_by t.by place)) (is_itself t.by)) ∙ e in
+-- The newest turn of a history is `t`, and `older` is the history before `t`. If the turns of the actor of `t` are `t`
+-- and `own`, then its turns in `older` are `own`.
+pub before_own : (t : Turn) (older own : List Turn) → turns_by t.by (t ∷ older) ≡ t ∷ own → turns_by t.by older ≡ own
+before_own t older own e =
+    let same : t ∷ turns_by t.by older ≡ t ∷ own =
+    sym (ap (λ b. cond b (t ∷ turns_by t.by older) (turns_by t.by older)) (is_itself t.by)) ∙ e in
     cc (same)
 
--- What was told of a place is told of each history that goes on with one more of the actor's turns there.
-pub told_more : (t : Turn) (place own h : List Turn) (deals : List Deal) → turns_by t.by (t ∷ place) ≡ t ∷ own
-    → Continues h (t ∷ place) → turns_by t.by h ≡ t ∷ own → deals_of t.by place ≡ deals
-    → deals_of t.by h ≡ record { what = t.what; answer = answer place t } ∷ deals
-told_more t place own h deals all c alone told =
-    let same : length (turns_by t.by (c.0 ++ (t ∷ place))) ≡ length (turns_by t.by (t ∷ place)) =
+-- `deals` are the commands and answers of the actor of `t` in the history `older`. If the actor has one more turn in
+-- `h`, namely `t` right after `older`, then its commands and answers in `h` are `deals` and those of `t`.
+pub told_more : (t : Turn) (older own h : List Turn) (deals : List Deal) → turns_by t.by (t ∷ older) ≡ t ∷ own
+    → Continues h (t ∷ older) → turns_by t.by h ≡ t ∷ own → deals_of t.by older ≡ deals
+    → deals_of t.by h ≡ record { what = t.what; answer = answer older t } ∷ deals
+told_more t older own h deals all c alone told =
+    let same : length (turns_by t.by (c.0 ++ (t ∷ older))) ≡ length (turns_by t.by (t ∷ older)) =
     ap length (sym (ap (turns_by t.by) c.1) ∙ alone ∙ sym all) in
-    ap (deals_of t.by) c.1 ∙ same_deals t.by c.0 (t ∷ place) same
-    ∙ ap (λ b. if b then record { what = t.what; answer = answer place t }
-    ∷ deals_of t.by place else deals_of t.by place) (is_itself t.by)
-    ∙ ap (λ (ds : List Deal). record { what = t.what; answer = answer place t } ∷ ds) told
+    ap (deals_of t.by) c.1 ∙ same_deals t.by c.0 (t ∷ older) same
+    ∙ ap (λ b. if b then record { what = t.what; answer = answer older t }
+    ∷ deals_of t.by older else deals_of t.by older) (is_itself t.by)
+    ∙ ap (λ (ds : List Deal). record { what = t.what; answer = answer older t } ∷ ds) told
 
 -- An actor without turns in a history has no commands with answers there.
 pub none_told : (by : ℕ) (h : List Turn) → turns_by by h ≡ [] → deals_of by h ≡ []

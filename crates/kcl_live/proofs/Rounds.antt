@@ -13,7 +13,7 @@ use Rattle.kcl_worker.specs.Adding.{AddsStop}
 use Rattle.kcl_worker.specs.Standing.{StandsFor, WorkerStanding, is_idle_in}
 use Rattle.kds_turn.specs.declared.pass.TurnErr.{TurnErr}
 use Rattle.kds_turn.specs.declared.pass.TurnErr.TheVariants as failed
-use Rattle.kds_turn.specs.Passes.{Standing}
+use Rattle.kds_turn.specs.Passes.{PassValue}
 use Rattle.kcl_live.specs.Records.{HasAdded, IsDriven, turns_in, with_calls}
 use Rattle.kcl_live.specs.Runs.{HasRun, WasCut}
 use Rattle.kcl_live.specs.Steps.{HasTurned, IsFinishing, IsGoing, IsStopped, turns_left}
@@ -31,7 +31,8 @@ module _ {P F : Type 0} (stands : P → List Call → Type 0) where
 
   -- ---- Before the stop
 
-  pub going_new : (w : WorkerStanding P F) (p : Standing) → StandsFor stands w [] → p.own ≡ [] → IsGoing stands w p
+  -- A new worker whose pass has no turns of its own is going (`IsGoing`).
+  pub going_new : (w : WorkerStanding P F) (p : PassValue) → StandsFor stands w [] → p.own ≡ [] → IsGoing stands w p
   going_new w p stood none = record {
     past = [];
     driven = driven_new stands p.by p.seen p.own w stood none;
@@ -39,7 +40,8 @@ module _ {P F : Type 0} (stands : P → List Call → Type 0) where
     going = refl;
   }
 
-  pub going_called : (w u : WorkerStanding P F) (p : Standing) → u.made ≡ w.made → HasCalled w u → IsGoing stands w p
+  -- A worker that is going (`IsGoing`) still is after calls of its processors.
+  pub going_called : (w u : WorkerStanding P F) (p : PassValue) → u.made ≡ w.made → HasCalled w u → IsGoing stands w p
       → IsGoing stands u p
   going_called w u p made called g =
       let r = called g.past g.driven.stood in
@@ -51,10 +53,12 @@ module _ {P F : Type 0} (stands : P → List Call → Type 0) where
             ∙ calls_on w.made r.0 g.past g.going;
       }
 
-  pub going_busy : (w : WorkerStanding P F) (p : Standing) → IsGoing stands w p → is_idle_in w ≡ false
+  -- A worker that is going (`IsGoing`) isn't idle.
+  pub going_busy : (w : WorkerStanding P F) (p : PassValue) → IsGoing stands w p → is_idle_in w ≡ false
   going_busy w p g = not_idle stands w g.past g.driven.stood g.going
 
-  pub going_turned : (u v : WorkerStanding P F) (p q : Standing) (at : ℕ) → v.made ≡ u.made
+  -- If a worker that is going (`IsGoing`) made one turn (`HasTurned`), it is still going.
+  pub going_turned : (u v : WorkerStanding P F) (p q : PassValue) (at : ℕ) → v.made ≡ u.made
       → ((past : WorkerPast) → IsDriven stands p.by p.seen p.own u past → HasTurned stands q v at past)
       → IsGoing stands u p → IsGoing stands v q
   going_turned u v p q at made turned g =
@@ -68,7 +72,8 @@ module _ {P F : Type 0} (stands : P → List Call → Type 0) where
             ∙ answered_on u.made at at t.answer g.past g.going;
       }
 
-  pub going_failed : (w u : WorkerStanding P F) (p : Standing) (e : TurnErr) → u.made ≡ w.made → HasCalled w u
+  -- If memory ran out in a call of a processor of a worker that is going (`IsGoing`), its run was cut short (`WasCut`).
+  pub going_failed : (w u : WorkerStanding P F) (p : PassValue) (e : TurnErr) → u.made ≡ w.made → HasCalled w u
       → IsGoing stands w p → IsSome (due_in u.consumers) → e ≡ failed.Memory → WasCut stands u p e
   going_failed w u p e made called g due is =
       let h = going_called w u p made called g in
@@ -76,7 +81,9 @@ module _ {P F : Type 0} (stands : P → List Call → Type 0) where
 
   -- ---- The stop
 
-  pub going_stopped : (w u : WorkerStanding P F) (p : Standing) (turns : ℕ) → u.made ≡ w.made → AddsStop stands w u
+  -- If a worker that is going is stopped after `turns` turns, it makes at most 3 * `turns` turns in all
+  -- (`IsFinishing`).
+  pub going_stopped : (w u : WorkerStanding P F) (p : PassValue) (turns : ℕ) → u.made ≡ w.made → AddsStop stands w u
       → length p.own ≡ turns → IsGoing stands w p → IsFinishing stands u p (3 * turns)
   going_stopped w u p turns made stop count g =
       let past : WorkerPast = Stopped ∷ g.past in
@@ -93,7 +100,8 @@ module _ {P F : Type 0} (stands : P → List Call → Type 0) where
 
   -- ---- After the stop
 
-  pub finishing_called : (w u : WorkerStanding P F) (p : Standing) (most : ℕ) → u.made ≡ w.made → HasCalled w u
+  -- A stopped worker that is finishing (`IsFinishing`) still is after calls of its processors.
+  pub finishing_called : (w u : WorkerStanding P F) (p : PassValue) (most : ℕ) → u.made ≡ w.made → HasCalled w u
       → IsFinishing stands w p most → IsFinishing stands u p most
   finishing_called w u p most made called f =
       let r = called f.past f.driven.stood in
@@ -109,22 +117,27 @@ module _ {P F : Type 0} (stands : P → List Call → Type 0) where
         few = omega (arith, f.few, less);
       }
 
-  quiet : (w : WorkerStanding P F) (p : Standing) (most : ℕ) → (f : IsFinishing stands w p most)
+  -- If a worker that is finishing has no due call, its record has none.
+  quiet : (w : WorkerStanding P F) (p : PassValue) (most : ℕ) → (f : IsFinishing stands w p most)
       → due_in w.consumers ≡ None → find is_due_known (worker_after w.made f.past).consumers ≡ None
   quiet w p most f none =
       none_due stands w.consumers (worker_after w.made f.past).consumers none f.driven.stood.shows.consumers
 
-  busy : (w : WorkerStanding P F) (p : Standing) (most : ℕ) → (f : IsFinishing stands w p most) → is_idle_in w ≡ false
+  -- If a worker that is finishing isn't idle, it isn't idle by its record.
+  busy : (w : WorkerStanding P F) (p : PassValue) (most : ℕ) → (f : IsFinishing stands w p most) → is_idle_in w ≡ false
       → is_idle (worker_after w.made f.past) ≡ false
   busy w p most f is = sym (idle_same stands w f.past f.driven.stood) ∙ is
 
-  -- One more turn is left.
-  pub finishing_left : (w : WorkerStanding P F) (p : Standing) (most : ℕ) → IsFinishing stands w p most
+  -- A worker that is finishing, isn't idle and has no due call may still make a turn: its pass has made fewer than
+  -- `most` turns.
+  pub finishing_left : (w : WorkerStanding P F) (p : PassValue) (most : ℕ) → IsFinishing stands w p most
       → due_in w.consumers ≡ None → is_idle_in w ≡ false → length p.own + 1 ≤ most
   finishing_left w p most f none is =
       omega (arith, f.few, some_left w.made f.past f.stopped (quiet w p most f none) (busy w p most f is))
 
-  pub finishing_turned : (u v : WorkerStanding P F) (p q : Standing) (most at : ℕ) → v.made ≡ u.made
+  -- If a worker that is finishing, isn't idle and has no due call made one more turn, it is still finishing, with the
+  -- same bound `most`.
+  pub finishing_turned : (u v : WorkerStanding P F) (p q : PassValue) (most at : ℕ) → v.made ≡ u.made
       → due_in u.consumers ≡ None → is_idle_in u ≡ false → HasAdded at p.own q.own
       → ((past : WorkerPast) → IsDriven stands p.by p.seen p.own u past → HasTurned stands q v at past)
       → IsFinishing stands u p most → IsFinishing stands v q most
@@ -142,11 +155,13 @@ module _ {P F : Type 0} (stands : P → List Call → Type 0) where
         few = omega (arith, f.few, less, ap length added.1);
       }
 
-  pub finishing_run : (w : WorkerStanding P F) (p : Standing) (most : ℕ) → IsFinishing stands w p most
+  -- If a worker is finishing, each of its commands became a turn and was answered (`HasRun`).
+  pub finishing_run : (w : WorkerStanding P F) (p : PassValue) (most : ℕ) → IsFinishing stands w p most
       → HasRun stands w p
   finishing_run w p most f = record { past = f.past; driven = f.driven; alone = f.alone }
 
-  pub finishing_failed : (w u : WorkerStanding P F) (p : Standing) (most : ℕ) (e : TurnErr) → u.made ≡ w.made
+  -- If memory ran out in a call of a processor of a worker that is finishing, its run was cut short (`WasCut`).
+  pub finishing_failed : (w u : WorkerStanding P F) (p : PassValue) (most : ℕ) (e : TurnErr) → u.made ≡ w.made
       → HasCalled w u → IsFinishing stands w p most → IsSome (due_in u.consumers) → e ≡ failed.Memory
       → WasCut stands u p e
   finishing_failed w u p most e made called f due is =

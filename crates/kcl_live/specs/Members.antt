@@ -4,14 +4,15 @@ use Rattle.std.specs.Prelude.{◌≡◌, ℕ, ◌*◌, ◌≤◌, true, List, []
 use Rattle.kcl_defs.specs.declared.consumer.Call.{Call}
 use Rattle.kcl_worker.specs.Standing.{StandsFor, is_idle_in}
 use Rattle.kds_turn.specs.Known.{Continues}
-use Rattle.kds_turn.specs.Passes.{Place}
+use Rattle.kds_turn.specs.Passes.{HallValue}
 use Rattle.kcl_live.specs.declared.crew.Member.{Member}
 use Rattle.kcl_live.specs.Records.{AreOnLeasesAt, AreServedLater}
 use Rattle.kcl_live.specs.Runs.{AreServedSoFar, HasRun, WasCut}
 
 module _ {M P F G : Type 0} (stands : P → List Call → Type 0) where
-  -- The member's pass is of the hall and has no turns of its own, and its worker is as it was made.
-  abbrev pub IsReady : Place → Member M P F G → Type 0
+  -- The member `m` is ready to run: its pass belongs to the hall `hall` and has no turns of its own, and nothing has
+  -- happened to its worker yet.
+  abbrev pub IsReady : HallValue → Member M P F G → Type 0
   IsReady hall m = (m.pass.hall ≡ hall.id) × (m.pass.own ≡ []) × StandsFor stands m.worker []
 
   -- The member `before` became `after` by a run of `turns` turns, each `tick` milliseconds after the one before, and

@@ -1,18 +1,21 @@
--- How the run of a worker on its pass went.
-use Rattle.std.specs.Prelude.{◌≡◌, ◌↔◌, ◌⊎◌, ℕ, ◌+◌, ◌^◌, ◌<◌, List, ◌∷◌, length, IsSome}
+-- How the run of a worker ends: without an error, or cut short by an error. Its commands become turns of a pass, which
+-- is the worker's access to the hall.
+use Rattle.std.specs.Prelude.{◌≡◌, ◌↔◌, ◌⊎◌, ℕ, ◌+◌, ◌*◌, ◌^◌, ◌<◌, ◌≤◌, List, ◌∷◌, length, true, IfErr, IsSome, OnOk}
+use Rattle.std.specs.Prelude.{Result}
 use Rattle.kds_defs.specs.declared.command.Turn.{Turn}
 use Rattle.kcl_defs.specs.declared.consumer.Call.{Call}
 use Rattle.kcl_defs.specs.Workers.{Gave_command, WorkerPast, worker_after}
 use Rattle.kcl_worker_lists.specs.Lists.{due_in}
-use Rattle.kcl_worker.specs.Standing.{WorkerStanding}
+use Rattle.kcl_worker.specs.Standing.{WorkerStanding, is_idle_in}
 use Rattle.kds_turn.specs.Known.{turns_by}
 use Rattle.kds_turn.specs.declared.pass.TurnErr.{TurnErr}
 use Rattle.kds_turn.specs.declared.pass.TurnErr.TheVariants as failed
-use Rattle.kds_turn.specs.Passes.{Standing}
-use Rattle.kcl_live.specs.Records.{AreServedLater, IsDriven, with_turn}
+use Rattle.kds_turn.specs.Passes.{PassValue}
+use Rattle.kcl_live.specs.Records.{AreOnLeasesAt, AreServedLater, IsDriven, with_turn}
 
-module _ {P F : Type 0} (stands : P → List Call → Type 0) (w : WorkerStanding P F) (p : Standing) where
-  -- Each command became a turn, and its answer was taken.
+module _ {P F : Type 0} (stands : P → List Call → Type 0) (w : WorkerStanding P F) (p : PassValue) where
+  -- Each command that the worker gave became a turn of the pass, and the worker took each answer (`IsDriven`). If the
+  -- pass has any turn of its own, all its turns among those that it has seen are its own (`alone`).
   pub record HasRun : Type 0 where
     pub past : WorkerPast
     pub driven : IsDriven stands p.by p.seen p.own w past
@@ -42,27 +45,38 @@ module _ {P F : Type 0} (stands : P → List Call → Type 0) (w : WorkerStandin
     pub past : WorkerPast
     pub at : ℕ
     pub last : Turn
-    pub place : List Turn
+    pub older : List Turn
     pub before : List Turn
-    pub seen : p.seen ≡ last ∷ place
+    pub seen : p.seen ≡ last ∷ older
     pub own : p.own ≡ last ∷ before
-    pub alone : turns_by p.by place ≡ before
+    pub alone : turns_by p.by older ≡ before
     pub is_last : with_turn p.by at (worker_after w.made (Gave_command at ∷ past)).waiting before ≡ last ∷ before
-    pub driven : IsDriven stands p.by place before w (Gave_command at ∷ past)
+    pub driven : IsDriven stands p.by older before w (Gave_command at ∷ past)
 
   -- The run was cut short by the error `e`, in one of three ways: memory ran out in a call, a command became no turn,
   -- or memory ran out when the worker took an answer.
   abbrev pub WasCut : TurnErr → Type 0
   WasCut e = CallFailed e ⊎ TurnFailed e ⊎ AnswerFailed e
 
-  -- The worker's processors are called for the given reads of their tenures, as far as all its turns but the last tell.
+  -- The own turns of the pass are commands on leases, the k-th at k times `tick`, and at most 3 * `turns`. If the
+  -- result is Ok, the worker is idle, and all its commands became turns and were answered (`HasRun`). If it is an
+  -- error, the run was cut short (`WasCut`).
+  pub record RunsToIdle {A : Type 0} (tick turns : ℕ) (result : Result A TurnErr) : Type 0 where
+    pub moments : AreOnLeasesAt tick p.own
+    pub most : length p.own ≤ 3 * turns
+    pub idle : OnOk result (is_idle_in w ≡ true)
+    pub ok : OnOk result HasRun
+    pub err : IfErr result WasCut
+
+  -- Consider each history that goes on from the turns before the pass's last one without further turns of the pass. In
+  -- it, the worker's processors were called for the given reads of their tenures.
   pub record AreServedBeforeLast : Type 0 where
     pub last : Turn
-    pub place : List Turn
+    pub older : List Turn
     pub before : List Turn
-    pub seen : p.seen ≡ last ∷ place
+    pub seen : p.seen ≡ last ∷ older
     pub own : p.own ≡ last ∷ before
-    pub served : AreServedLater stands p.by place before w
+    pub served : AreServedLater stands p.by older before w
 
   -- The worker's processors were called for the reads that were given in their tenures after all turns of the pass, or
   -- for those that were given after all its turns but the last.

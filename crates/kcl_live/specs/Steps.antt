@@ -1,5 +1,6 @@
--- One step of a worker.
-use Rattle.std.specs.Prelude.{◌≡◌, ℕ, ◌+◌, ◌<◌, ◌≤◌, List, ◌∷◌, length, Result, true, false}
+-- One step of a worker, before and after its stop, and how many turns a stopped worker has left. Its commands become
+-- turns of a pass, which is the worker's access to the hall.
+use Rattle.std.specs.Prelude.{◌≡◌, ◌⊎◌, ℕ, ◌+◌, ◌<◌, ◌≤◌, List, ◌∷◌, length, None, OnErr, OnOk, Result, true, false}
 use Rattle.std.specs.List.{AllByRecursion, filter}
 use Rattle.kds_defs.specs.declared.reply.Refusal.{Refusal}
 use Rattle.kds_defs.specs.declared.reply.Reply.{Reply}
@@ -8,19 +9,36 @@ use Rattle.kcl_defs.specs.Consumers.{Giving, Leaving, Stage}
 use Rattle.kcl_defs.specs.Workers.{AtStopping, Gave_command, Got_answer, WorkerPast, WorkerState, is_giving}
 use Rattle.kcl_defs.specs.Workers.{is_stopping, stage_of_known, worker_after}
 use Rattle.kcl_worker.specs.Standing.{WorkerStanding}
-use Rattle.kds_turn.specs.Known.{turns_by}
-use Rattle.kds_turn.specs.Passes.{Standing}
-use Rattle.kcl_live.specs.Records.{IsDriven}
+use Rattle.kds_turn.specs.Known.{Continues, turns_by}
+use Rattle.kds_turn.specs.Passes.{IsSamePass, PassValue}
+use Rattle.kcl_live.specs.Records.{HasAdded, IsDriven}
 
--- After the record `past`, a command was given out and answered at the moment `at`.
-pub record HasTurned {P F : Type 0} (stands : P → List Call → Type 0) (p : Standing) (w : WorkerStanding P F) (at : ℕ)
+-- `v` is the worker `w` later, and `q` is its pass `p` later. The worker has the same name and settings, the pass has
+-- the same hall, number and joined passes, and it has seen the same turns and perhaps more.
+pub record IsSameRun {P F : Type 0} (w v : WorkerStanding P F) (p q : PassValue) : Type 0 where
+  pub kept : IsSamePass q p
+  pub made : v.made ≡ w.made
+  pub seen : Continues q.seen p.seen
+
+-- The pass `p` became `q`. If the result is Ok, it made one turn, a command on leases at the moment `at`, and the
+-- worker waits for no answer. If it is an error, the pass made this turn or none.
+pub record MakesTurn {P F A E : Type 0} (at : ℕ) (worker : WorkerStanding P F) (p q : PassValue) (result : Result A E) :
+    Type 0 where
+  pub free : OnOk result (worker.waiting ≡ None)
+  pub added : OnOk result (HasAdded at p.own q.own)
+  pub added_or_not : OnErr result ((q.own ≡ p.own) ⊎ HasAdded at p.own q.own)
+
+-- The last two events of the worker `w`, after those of the record `past`, are a command at the moment `at` and its
+-- answer at the same moment. All answered commands are the own turns of the pass (`IsDriven`), and the pass has no
+-- others among the turns that it has seen.
+pub record HasTurned {P F : Type 0} (stands : P → List Call → Type 0) (p : PassValue) (w : WorkerStanding P F) (at : ℕ)
     (past : WorkerPast) : Type 0 where
   pub answer : Result Reply Refusal
   pub driven : IsDriven stands p.by p.seen p.own w (Got_answer at answer ∷ (Gave_command at ∷ past))
   pub alone : turns_by p.by p.seen ≡ p.own
 
--- The worker wasn't stopped.
-pub record IsGoing {P F : Type 0} (stands : P → List Call → Type 0) (w : WorkerStanding P F) (p : Standing) :
+-- Each command that the worker gave became a turn of the pass and was answered, and the worker wasn't told to stop.
+pub record IsGoing {P F : Type 0} (stands : P → List Call → Type 0) (w : WorkerStanding P F) (p : PassValue) :
     Type 0 where
   pub past : WorkerPast
   pub driven : IsDriven stands p.by p.seen p.own w past
@@ -44,8 +62,9 @@ pub record IsStopped (s : WorkerState) : Type 0 where
   pub round : s.round ≡ AtStopping
   pub lost : AllByRecursion (λ k. IsLost (stage_of_known k)) s.consumers
 
--- The worker was stopped, and in the end it has at most `most` turns.
-pub record IsFinishing {P F : Type 0} (stands : P → List Call → Type 0) (w : WorkerStanding P F) (p : Standing)
+-- Each command that the stopped worker gave became a turn of the pass and was answered. The turns that the pass has
+-- made, and those that the worker may still make (`turns_left`), are at most `most` together.
+pub record IsFinishing {P F : Type 0} (stands : P → List Call → Type 0) (w : WorkerStanding P F) (p : PassValue)
     (most : ℕ) : Type 0 where
   pub past : WorkerPast
   pub driven : IsDriven stands p.by p.seen p.own w past

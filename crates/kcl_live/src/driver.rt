@@ -1,14 +1,14 @@
 //! Runs a worker. A hall is a machine with a lock around it, and a turn is one command, applied atomically to the
 //! machine. A pass is the right of one thread to make turns of a hall. Each command of the worker becomes a turn, which
 //! the worker makes with its pass. A worker that was stopped is idle when it has nothing left to do.
-ghost use Rattle.std.specs.Prelude.{◌≡◌, ◌⊎◌, ℕ, ◌*◌, ◌+◌, ◌<◌, ◌≤◌, ◌^◌, [], length, None, IfErr, OnErr, OnOk, true};
+ghost use Rattle.std.specs.Prelude.{◌≡◌, ℕ, ◌*◌, ◌+◌, ◌<◌, ◌≤◌, ◌^◌, [], length, None, IfErr, OnErr, OnOk, true};
 ghost use Rattle.std.specs.Prelude.{false};
 ghost use Rattle.kcl_worker_lists.specs.Lists.{due_in};
 ghost use Rattle.kcl_worker.specs.Standing.{StandsFor, is_idle_in};
 ghost use Rattle.kds_turn.specs.Known.{Continues};
-ghost use Rattle.kcl_live.specs.Records.{AreOnLeasesAt, AreServedLater, HasAdded};
-ghost use Rattle.kcl_live.specs.Runs.{AreServedSoFar, HasRun, WasCut};
-ghost use Rattle.kcl_live.specs.Steps.{IsFinishing, IsGoing};
+ghost use Rattle.kcl_live.specs.Records.{AreOnLeasesAt, AreServedLater};
+ghost use Rattle.kcl_live.specs.Runs.{AreServedSoFar, HasRun, RunsToIdle, WasCut};
+ghost use Rattle.kcl_live.specs.Steps.{IsFinishing, IsGoing, IsSameRun, MakesTurn};
 ghost use Rattle.kds_turn.specs.Passes.{IsSamePass};
 
 use crate::gate::Gate;
@@ -41,12 +41,8 @@ fn round<M: Machine, P: Processor + Drop, F: Maker<P>, G: Gate, R: Wait>(
     requires hall { pass.old.hall ≡ hall.now.id }
     requires free { worker.old.waiting ≡ None }
     requires going { IsGoing P.stands_for worker.old pass.old }
-    ensures kept { IsSamePass pass.new pass.old }
-    ensures made { worker.new.made ≡ worker.old.made }
-    ensures seen { Continues pass.new.seen pass.old.seen }
-    ensures free { OnOk result (worker.new.waiting ≡ None) }
-    ensures added { OnOk result (HasAdded now pass.old.own pass.new.own) }
-    ensures added_or_not { OnErr result ((pass.new.own ≡ pass.old.own) ⊎ HasAdded now pass.old.own pass.new.own) }
+    ensures run { IsSameRun worker.old worker.new pass.old pass.new }
+    ensures turn { MakesTurn now worker.new pass.old pass.new result }
     ensures going { OnOk result (IsGoing P.stands_for worker.new pass.new) }
     ensures err { IfErr result (λ e. WasCut P.stands_for worker.new pass.new e) }
 {
@@ -71,13 +67,9 @@ fn last_round<M: Machine, P: Processor + Drop, F: Maker<P>, G: Gate, R: Wait>(
     requires none_due { due_in worker.old.consumers ≡ None }
     requires busy { is_idle_in worker.old ≡ false }
     requires finishing { (most : ℕ) × IsFinishing P.stands_for worker.old pass.old most }
-    ensures kept { IsSamePass pass.new pass.old }
-    ensures made { worker.new.made ≡ worker.old.made }
-    ensures seen { Continues pass.new.seen pass.old.seen }
-    ensures free { OnOk result (worker.new.waiting ≡ None) }
+    ensures run { IsSameRun worker.old worker.new pass.old pass.new }
+    ensures turn { MakesTurn now worker.new pass.old pass.new result }
     ensures none_due { OnOk result (due_in worker.new.consumers ≡ None) }
-    ensures added { OnOk result (HasAdded now pass.old.own pass.new.own) }
-    ensures added_or_not { OnErr result ((pass.new.own ≡ pass.old.own) ⊎ HasAdded now pass.old.own pass.new.own) }
     ensures finishing { OnOk result ((most : ℕ) → IsFinishing P.stands_for worker.old pass.old most
         → IsFinishing P.stands_for worker.new pass.new most) }
     ensures err { IfErr result (λ e. WasCut P.stands_for worker.new pass.new e) }
@@ -105,15 +97,9 @@ fn finish<M: Machine, P: Processor + Drop, F: Maker<P>, G: Gate, R: Wait>(
     requires free { worker.old.waiting ≡ None }
     requires finishing { IsFinishing P.stands_for worker.old pass.old (3 * turns) }
     requires so_far { AreOnLeasesAt tick pass.old.own × (length pass.old.own ≡ turns) }
-    ensures kept { IsSamePass pass.new pass.old }
-    ensures made { worker.new.made ≡ worker.old.made }
-    ensures seen { Continues pass.new.seen pass.old.seen }
-    ensures moments { AreOnLeasesAt tick pass.new.own }
-    ensures most { length pass.new.own ≤ 3 * turns }
+    ensures run { IsSameRun worker.old worker.new pass.old pass.new }
+    ensures ran { RunsToIdle P.stands_for worker.new pass.new tick turns result }
     ensures least { turns ≤ length pass.new.own }
-    ensures idle { OnOk result (is_idle_in worker.new ≡ true) }
-    ensures ok { OnOk result (HasRun P.stands_for worker.new pass.new) }
-    ensures err { IfErr result (λ e. WasCut P.stands_for worker.new pass.new e) }
 {
     let mut at = turns * tick;
     match call_all(worker, gate) {
@@ -141,15 +127,9 @@ fn drive<M: Machine, P: Processor + Drop, F: Maker<P>, G: Gate, R: Wait>(
     requires hall { pass.old.hall ≡ hall.now.id }
     requires new { StandsFor P.stands_for worker.old [] × (pass.old.own ≡ []) }
     requires moments { 3 * turns * tick < 2 ^ 62 }
-    ensures kept { IsSamePass pass.new pass.old }
-    ensures made { worker.new.made ≡ worker.old.made }
-    ensures seen { Continues pass.new.seen pass.old.seen }
-    ensures moments { AreOnLeasesAt tick pass.new.own }
-    ensures most { length pass.new.own ≤ 3 * turns }
+    ensures run { IsSameRun worker.old worker.new pass.old pass.new }
+    ensures ran { RunsToIdle P.stands_for worker.new pass.new tick turns result }
     ensures least { OnOk result (turns ≤ length pass.new.own) }
-    ensures idle { OnOk result (is_idle_in worker.new ≡ true) }
-    ensures ok { OnOk result (HasRun P.stands_for worker.new pass.new) }
-    ensures err { IfErr result (λ e. WasCut P.stands_for worker.new pass.new e) }
 {
     for k in 0..turns {
         let at = (k + 1) * tick;

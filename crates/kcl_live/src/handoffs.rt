@@ -10,8 +10,8 @@ ghost use Rattle.kcl_hand.specs.Handing.{left_at};
 ghost use Rattle.kcl_hand.specs.Standing.{turns_left_in};
 ghost use Rattle.kcl_worker.specs.Standing.{StandsFor};
 ghost use Rattle.kds_turn.specs.Known.{Continues};
-ghost use Rattle.kds_turn.specs.Passes.{IsSamePass, Standing};
-ghost use Rattle.kcl_live.specs.Hands.{Goes, HandWasCut, HasHandedOff, HasNothing, StoodStill};
+ghost use Rattle.kds_turn.specs.Passes.{IsSamePass, PassValue};
+ghost use Rattle.kcl_live.specs.Hands.{Goes, HandSteps, HandWasCut, HasHandedOff, HasNothing};
 
 use kcl_consumer::{Maker, Processor};
 use kcl_hand::{Handover, Left};
@@ -28,7 +28,7 @@ fn call_one<P: Processor>(hand: &mut Handover<P>) -> Result<(), TurnErr>
     ensures made { hand.new.consumer.made ≡ hand.old.consumer.made }
     ensures none_due { OnOk result (due_call hand.new.consumer.stage ≡ None) }
     ensures few { OnOk result (turns_left_in hand.new ≤ turns_left_in hand.old) }
-    ensures goes { (at : ℕ) (q : Standing) → Goes P.stands_for at hand.old hand.new q q }
+    ensures goes { (at : ℕ) (q : PassValue) → Goes P.stands_for at hand.old hand.new q q }
     ensures error { IfErr result (λ e. e ≡ TurnErr.Memory) }
     ensures left { OnErr result (IsSome (due_call hand.new.consumer.stage)) }
 {
@@ -53,13 +53,8 @@ fn answer_one<M: Machine, P: Processor, R: Wait>(
     requires hall { pass.old.hall ≡ hall.now.id }
     requires none_due { due_call hand.old.consumer.stage ≡ None }
     requires going { left_at hand.old.stand ≡ None }
-    ensures kept { IsSamePass pass.new pass.old }
-    ensures held { hand.new.held ≡ hand.old.held }
-    ensures made { hand.new.consumer.made ≡ hand.old.consumer.made }
-    ensures seen { Continues pass.new.seen pass.old.seen }
+    ensures steps { HandSteps P.stands_for at hand.old hand.new pass.old pass.new result }
     ensures few { OnOk result (turns_left_in hand.new < turns_left_in hand.old) }
-    ensures goes { Goes P.stands_for at hand.old hand.new pass.old pass.new }
-    ensures still { IfErr result (StoodStill hand.new pass.new) }
 {
     let what = hand.next();
     match hall.turn(rt, pass, at, what) {
@@ -81,14 +76,9 @@ fn advance<M: Machine, P: Processor, R: Wait>(
     at: Moment,
 ) -> Result<Option<Left>, TurnErr>
     requires hall { pass.old.hall ≡ hall.now.id }
-    ensures kept { IsSamePass pass.new pass.old }
-    ensures held { hand.new.held ≡ hand.old.held }
-    ensures made { hand.new.consumer.made ≡ hand.old.consumer.made }
-    ensures seen { Continues pass.new.seen pass.old.seen }
+    ensures steps { HandSteps P.stands_for at hand.old hand.new pass.old pass.new result }
     ensures few { IfOk result (λ o. IfNone o (turns_left_in hand.new < turns_left_in hand.old)) }
     ensures ended { IfOk result (λ o. IfSome o (λ left. left_at hand.new.stand ≡ Some left)) }
-    ensures goes { Goes P.stands_for at hand.old hand.new pass.old pass.new }
-    ensures still { IfErr result (StoodStill hand.new pass.new) }
 {
     match call_one(hand) {
         Ok(()) => {}
@@ -112,13 +102,8 @@ fn carry<M: Machine, P: Processor, R: Wait>(
     at: Moment,
 ) -> Result<Left, TurnErr>
     requires hall { pass.old.hall ≡ hall.now.id }
-    ensures kept { IsSamePass pass.new pass.old }
-    ensures held { hand.new.held ≡ hand.old.held }
-    ensures made { hand.new.consumer.made ≡ hand.old.consumer.made }
-    ensures seen { Continues pass.new.seen pass.old.seen }
-    ensures goes { Goes P.stands_for at hand.old hand.new pass.old pass.new }
+    ensures steps { HandSteps P.stands_for at hand.old hand.new pass.old pass.new result }
     ensures ended { IfOk result (λ left. left_at hand.new.stand ≡ Some left) }
-    ensures still { IfErr result (StoodStill hand.new pass.new) }
 {
     loop {
         match advance(rt, hall, pass, hand, at) {

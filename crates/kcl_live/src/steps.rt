@@ -1,16 +1,14 @@
 //! A hall is a machine with a lock around it, and a turn is one command, applied atomically to the machine. A pass is
 //! the right of one thread to make turns of a hall. This file makes one step of a worker: the processor calls that are
 //! due, and then one turn.
-ghost use Rattle.std.specs.Prelude.{◌≡◌, ◌⊎◌, ℕ, ◌∷◌, List, None, IfErr, IsSome, OnErr, OnOk, false};
+ghost use Rattle.std.specs.Prelude.{◌≡◌, ℕ, ◌∷◌, List, None, IfErr, IsSome, OnErr, OnOk, false};
 ghost use Rattle.kcl_defs.specs.declared.consumer.Ask.{Ask};
 ghost use Rattle.kcl_defs.specs.Workers.{WorkerPast};
 ghost use Rattle.kcl_worker_lists.specs.Lists.{due_in};
 ghost use Rattle.kcl_worker.specs.Standing.{StandsFor, is_idle_in};
-ghost use Rattle.kds_turn.specs.Known.{Continues};
-ghost use Rattle.kcl_live.specs.Records.{HasAdded, IsDriven, with_calls};
+ghost use Rattle.kcl_live.specs.Records.{IsDriven, with_calls};
 ghost use Rattle.kcl_live.specs.Runs.{WasCut};
-ghost use Rattle.kcl_live.specs.Steps.{HasTurned};
-ghost use Rattle.kds_turn.specs.Passes.{IsSamePass};
+ghost use Rattle.kcl_live.specs.Steps.{HasTurned, IsSameRun, MakesTurn};
 
 use crate::gate::Gate;
 use kcl_consumer::{Maker, Processor};
@@ -51,7 +49,7 @@ pub(crate) fn call_all<P: Processor, F: Maker<P>, G: Gate>(
 }
 
 /// Drops the answer that the worker had no memory for, and returns the error `Memory`.
-fn without(left: NoRoom) -> TurnErr
+fn drop_answer(left: NoRoom) -> TurnErr
     ensures { result ≡ TurnErr.Memory }
 {
     let_go(left.answer);
@@ -72,12 +70,8 @@ pub(crate) fn make_turn<M: Machine, P: Processor + Drop, F: Maker<P>, R: Wait>(
     requires free { worker.old.waiting ≡ None }
     requires none_due { due_in worker.old.consumers ≡ None }
     requires busy { is_idle_in worker.old ≡ false }
-    ensures kept { IsSamePass pass.new pass.old }
-    ensures made { worker.new.made ≡ worker.old.made }
-    ensures seen { Continues pass.new.seen pass.old.seen }
-    ensures free { OnOk result (worker.new.waiting ≡ None) }
-    ensures added { OnOk result (HasAdded now pass.old.own pass.new.own) }
-    ensures added_or_not { OnErr result ((pass.new.own ≡ pass.old.own) ⊎ HasAdded now pass.old.own pass.new.own) }
+    ensures run { IsSameRun worker.old worker.new pass.old pass.new }
+    ensures turn { MakesTurn now worker.new pass.old pass.new result }
     ensures ok { OnOk result ((past : WorkerPast)
         → IsDriven P.stands_for pass.old.by pass.old.seen pass.old.own worker.old past
         → HasTurned P.stands_for pass.new worker.new now past) }
@@ -89,7 +83,7 @@ pub(crate) fn make_turn<M: Machine, P: Processor + Drop, F: Maker<P>, R: Wait>(
     match hall.turn(rt, pass, now, what) {
         Ok(answer) => match worker.absorb(now, answer) {
             Ok(()) => Ok(()),
-            Err(left) => Err(without(left)),
+            Err(left) => Err(drop_answer(left)),
         },
         Err(error) => Err(error),
     }

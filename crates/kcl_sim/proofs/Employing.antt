@@ -26,24 +26,25 @@ employ_more [] (d ∷ es) w e s h = absurd s
 employ_more (v ∷ ws) [] w e s h = absurd s
 employ_more (v ∷ ws) (d ∷ es) w e s h = (s.0, employ_more ws es w e s.1 h)
 
--- The worker at an index is that of the record at this index.
-pub employ_at : (ws : List Stepped) (es : List Employed) (place : ℕ) (w : Stepped) → EmployAll ws es
-    → slice_get ws place ≡ Some w → (e : Employed) × (slice_get es place ≡ Some e) × Employs w e
-employ_at [] [] place w s is = absurd cc
-employ_at [] (e ∷ es) place w s is = absurd s
-employ_at (v ∷ ws) [] place w s is = absurd s
+-- The worker at the index `index` stands for the record at the same index (`Employs`).
+pub employ_at : (ws : List Stepped) (es : List Employed) (index : ℕ) (w : Stepped) → EmployAll ws es
+    → slice_get ws index ≡ Some w → (e : Employed) × (slice_get es index ≡ Some e) × Employs w e
+employ_at [] [] index w s is = absurd cc
+employ_at [] (e ∷ es) index w s is = absurd s
+employ_at (v ∷ ws) [] index w s is = absurd s
 employ_at (v ∷ ws) (e ∷ es) zero w s is = let same : v ≡ w = cc in
     (e, refl, subst (λ (u : Stepped). Employs u e) same s.0)
-employ_at (v ∷ ws) (e ∷ es) (suc place) w s is = employ_at ws es place w s.1 is
+employ_at (v ∷ ws) (e ∷ es) (suc index) w s is = employ_at ws es index w s.1 is
 
--- `EmployAll` holds after the worker and the record at an index were replaced.
-pub employ_set : (ws : List Stepped) (es : List Employed) (place : ℕ) (w : Stepped) (e : Employed) → EmployAll ws es
-    → Employs w e → EmployAll (slice_set ws place w) (slice_set es place e)
-employ_set [] [] place w e s h = tt
-employ_set [] (d ∷ es) place w e s h = absurd s
-employ_set (v ∷ ws) [] place w e s h = absurd s
+-- If all workers stand for their records, they still do after the worker at the index `index` was replaced by `w`, and
+-- the record there by `e`, for which `w` stands.
+pub employ_set : (ws : List Stepped) (es : List Employed) (index : ℕ) (w : Stepped) (e : Employed) → EmployAll ws es
+    → Employs w e → EmployAll (slice_set ws index w) (slice_set es index e)
+employ_set [] [] index w e s h = tt
+employ_set [] (d ∷ es) index w e s h = absurd s
+employ_set (v ∷ ws) [] index w e s h = absurd s
 employ_set (v ∷ ws) (d ∷ es) zero w e s h = (h, s.1)
-employ_set (v ∷ ws) (d ∷ es) (suc place) w e s h = (s.0, employ_set ws es place w e s.1 h)
+employ_set (v ∷ ws) (d ∷ es) (suc index) w e s h = (s.0, employ_set ws es index w e s.1 h)
 
 -- ---- The index of an actor's worker
 
@@ -62,63 +63,66 @@ pub nobody : (by count : ℕ) (es : List Employed) → count ≡ length es → i
     → employed_by by es ≡ None
 nobody by count es same h = nobody_by (nat_le by MOST_ACTOR) (nat_lt (index_of by) count) by count es same refl refl h
 
-placed_by : (low within : Bool) (by count place : ℕ) → nat_le by MOST_ACTOR ≡ low → nat_lt (index_of by) count ≡ within
-    → (if low then None else (if within then Some (index_of by) else None)) ≡ Some place
-    → (low ≡ false) × (index_of by ≡ place) × (place < count)
-placed_by true within by count place l w h = absurd cc
-placed_by false false by count place l w h = absurd cc
-placed_by false true by count place l w h =
-    let same : index_of by ≡ place = cc in
+placed_by : (low within : Bool) (by count index : ℕ) → nat_le by MOST_ACTOR ≡ low → nat_lt (index_of by) count ≡ within
+    → (if low then None else (if within then Some (index_of by) else None)) ≡ Some index
+    → (low ≡ false) × (index_of by ≡ index) × (index < count)
+placed_by true within by count index l w h = absurd cc
+placed_by false false by count index l w h = absurd cc
+placed_by false true by count index l w h =
+    let same : index_of by ≡ index = cc in
     let lt : index_of by < count = grind (arith, nat_tests) in
     (refl, same, subst (λ n. n < count) same lt)
 
--- The index that an actor has is within the list.
-placed : (by count place : ℕ) → index_among by count ≡ Some place → (nat_le by MOST_ACTOR ≡ false)
-    × (index_of by ≡ place) × (place < count)
-placed by count place h = placed_by (nat_le by MOST_ACTOR) (nat_lt (index_of by) count) by count place refl refl h
+-- If the actor `by` has the index `index` among `count` workers, then `by` is above `MOST_ACTOR`, `index` is the one
+-- computed from `by`, and it is below `count`.
+placed : (by count index : ℕ) → index_among by count ≡ Some index → (nat_le by MOST_ACTOR ≡ false)
+    × (index_of by ≡ index) × (index < count)
+placed by count index h = placed_by (nat_le by MOST_ACTOR) (nat_lt (index_of by) count) by count index refl refl h
 
--- An actor with an index has the worker there.
-pub somebody : (by count place : ℕ) (es : List Employed) → index_among by count ≡ Some place → (index_of by ≡ place)
-    × (employed_by by es ≡ slice_get es place)
-somebody by count place es h =
-    let p = placed by count place h in
+-- If the actor `by` has the index `index` among `count` workers, then the worker of `by` is the one at this index.
+pub somebody : (by count index : ℕ) (es : List Employed) → index_among by count ≡ Some index → (index_of by ≡ index)
+    × (employed_by by es ≡ slice_get es index)
+somebody by count index es h =
+    let p = placed by count index h in
     (p.1, ap (λ b. if b then None else slice_get es (index_of by)) p.0 ∙ ap (slice_get es) p.1)
 
--- What is found at an index within the list.
-pub got_there : (ws : List Stepped) (place : ℕ) (d w : Stepped) → place < length ws → w ≡ get_or ws place d
-    → slice_get ws place ≡ Some w
-got_there ws place d w lt is = slice_get-get_or ws place d lt ∙ ap Some (sym is)
+-- If the index is within the list, and `w` is what a read with the default `d` gives there, then the list has `w` at
+-- this index.
+pub got_there : (ws : List Stepped) (index : ℕ) (d w : Stepped) → index < length ws → w ≡ get_or ws index d
+    → slice_get ws index ≡ Some w
+got_there ws index d w lt is = slice_get-get_or ws index d lt ∙ ap Some (sym is)
 
--- The worker at an actor's index, as the values show it.
-pub shown_there : (inside shown : SimValue) (by place : ℕ) (d w : Stepped) → inside ≡ shown
-    → index_among by (length shown.workers) ≡ Some place
-    → w ≡ get_or inside.workers place d → slice_get shown.workers place ≡ Some w
-shown_there inside shown by place d w is there got =
-    let lt = subst (λ (v : SimValue). place < length v.workers) (sym is)
-    (placed by (length shown.workers) place there).2 in
-    ap (λ (v : SimValue). slice_get v.workers place) (sym is) ∙ got_there inside.workers place d w lt got
+-- The run that a call sees, `inside`, is the one that callers see, `shown`. Then the worker `w` that the call reads at
+-- the actor's index is the one that callers see at this index.
+pub shown_there : (inside shown : SimValue) (by index : ℕ) (d w : Stepped) → inside ≡ shown
+    → index_among by (length shown.workers) ≡ Some index
+    → w ≡ get_or inside.workers index d → slice_get shown.workers index ≡ Some w
+shown_there inside shown by index d w is there got =
+    let lt = subst (λ (v : SimValue). index < length v.workers) (sym is)
+    (placed by (length shown.workers) index there).2 in
+    ap (λ (v : SimValue). slice_get v.workers index) (sym is) ∙ got_there inside.workers index d w lt got
 
--- The worker at an index is free, if all workers are.
-pub free_at : (ws : List Stepped) (place : ℕ) → AllByRecursion IsFree ws → IfSome (slice_get ws place) IsFree
-free_at [] place h = tt
+-- If no worker waits for an answer, the worker at the index `index`, if there is one, doesn't (`IsFree`).
+pub free_at : (ws : List Stepped) (index : ℕ) → AllByRecursion IsFree ws → IfSome (slice_get ws index) IsFree
+free_at [] index h = tt
 free_at (v ∷ ws) zero h = h.0
-free_at (v ∷ ws) (suc place) h = free_at ws place h.1
+free_at (v ∷ ws) (suc index) h = free_at ws index h.1
 
--- What was written at an index is found there.
-pub got_set : (ws : List Stepped) (place : ℕ) (w : Stepped) → place < length ws
-    → slice_get (slice_set ws place w) place ≡ Some w
-got_set [] place w lt = absurd (omega arith)
+-- If the index is within the list, the list has the worker `w` there after `w` was written at it.
+pub got_set : (ws : List Stepped) (index : ℕ) (w : Stepped) → index < length ws
+    → slice_get (slice_set ws index w) index ≡ Some w
+got_set [] index w lt = absurd (omega arith)
 got_set (v ∷ ws) zero w lt = refl
-got_set (v ∷ ws) (suc place) w lt = got_set ws place w (omega arith)
+got_set (v ∷ ws) (suc index) w lt = got_set ws index w (omega arith)
 
 -- A second write at an index replaces the first one.
-pub set_again : (ws : List Stepped) (place : ℕ) (w v : Stepped)
-    → slice_set (slice_set ws place w) place v ≡ slice_set ws place v
-set_again ws place w v = set-set ws place w v
+pub set_again : (ws : List Stepped) (index : ℕ) (w v : Stepped)
+    → slice_set (slice_set ws index w) index v ≡ slice_set ws index v
+set_again ws index w v = set-set ws index w v
 
--- A loan of an index gives what was written there before.
-pub lent_again : (ws : List Stepped) (place : ℕ) (d w u : Stepped) → place < length ws
-    → u ≡ get_or (slice_set ws place w) place d → u ≡ w
-lent_again [] place d w u lt is = absurd (omega arith)
+-- If `w` was written at an index, a read at this index gives `w`.
+pub lent_again : (ws : List Stepped) (index : ℕ) (d w u : Stepped) → index < length ws
+    → u ≡ get_or (slice_set ws index w) index d → u ≡ w
+lent_again [] index d w u lt is = absurd (omega arith)
 lent_again (v ∷ ws) zero d w u lt is = is
-lent_again (v ∷ ws) (suc place) d w u lt is = lent_again ws place d w u (omega arith) is
+lent_again (v ∷ ws) (suc index) d w u lt is = lent_again ws index d w u (omega arith) is

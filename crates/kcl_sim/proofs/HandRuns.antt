@@ -159,9 +159,9 @@ pub record UnderWay (wanted : Bool) (at by : ℕ) (old now : SimValue) (v w : Ha
   pub deals : List Deal
   pub few : ran_of_it + turns_left_in w ≤ 3
   pub wrote : text ≡ if_wanted wanted (deals_text deals)
-  pub over : now.over ≡ old.over
+  pub unfinished : now.unfinished ≡ old.unfinished
   pub workers : now.workers ≡ old.workers
-  pub told : now.told ≡ old.told
+  pub since : now.since ≡ old.since
   pub none_due : due_call w.consumer.stage ≡ None
   pub rest : (x : HandOff) → IsHandOf v x → (y : HandOff) × IsHandOf w y
       × IsRest at by old.history x ran_of_it deals now.history y
@@ -182,9 +182,9 @@ way_begins wanted at by old now v w text same empty few fewer none called = reco
   deals = [];
   few = omega (arith, few);
   wrote = empty ∙ none_wanted wanted;
-  over = ap (λ (z : SimValue). z.over) same;
+  unfinished = ap (λ (z : SimValue). z.unfinished) same;
   workers = ap (λ (z : SimValue). z.workers) same;
-  told = ap (λ (z : SimValue). z.told) same;
+  since = ap (λ (z : SimValue). z.since) same;
   none_due = none;
   rest = λ x s.
       let here = called x s in (
@@ -199,19 +199,19 @@ way_begins wanted at by old now v w text same empty few fewer none called = reco
 -- `u`, then `UnderWay` still holds, with `u` in place of `w`.
 pub way_goes : (wanted : Bool) (at by : ℕ) (old now new : SimValue) (v w u : Handing) (text more : List ℕ)
     → UnderWay wanted at by old now v w text
-    → MadeRound wanted at by now new w u text more → new.over ≡ now.over → new.workers ≡ now.workers
-    → new.told ≡ now.told
+    → MadeRound wanted at by now new w u text more → new.unfinished ≡ now.unfinished → new.workers ≡ now.workers
+    → new.since ≡ now.since
     → turns_left_in u < turns_left_in w → due_call u.consumer.stage ≡ None → UnderWay wanted at by old new v u more
-way_goes wanted at by old now new v w u text more way r over workers told fewer none = record {
+way_goes wanted at by old now new v w u text more way r unfinished workers since fewer none = record {
   ran_of_it = way.ran_of_it + 1;
   deals = way.deals ++ deal_at at by now.history r.what ∷ [];
   few = omega (arith, way.few, fewer);
   wrote = r.wrote ∙ ap (λ z. z ++ if_wanted wanted (deal_text (deal_at at by now.history r.what))) way.wrote
       ∙ joined wanted (deals_text way.deals) (deal_text (deal_at at by now.history r.what))
       ∙ ap (if_wanted wanted) (sym (deals_more way.deals (deal_at at by now.history r.what)));
-  over = over ∙ way.over;
+  unfinished = unfinished ∙ way.unfinished;
   workers = workers ∙ way.workers;
-  told = told ∙ way.told;
+  since = since ∙ way.since;
   none_due = none;
   rest = λ x s.
       let y = way.rest x s in

@@ -241,25 +241,25 @@ next_lawful false at e what is h =
     chore_lawful e.made (state_of e) (chore_at e.made at (state_of e)) what is h.name
     (limits_after e.made h.limit (worker_past e.past))
 
-bounded_at : (es : List Employed) (place : ℕ) (e : Employed) → slice_get es place ≡ Some e → AreBounded es → IsBounded e
-bounded_at [] place e is h = absurd cc
+bounded_at : (es : List Employed) (index : ℕ) (e : Employed) → slice_get es index ≡ Some e → AreBounded es → IsBounded e
+bounded_at [] index e is h = absurd cc
 bounded_at (d ∷ es) zero e is h = let same : d ≡ e = cc in subst IsBounded same h.0
-bounded_at (d ∷ es) (suc place) e is h = bounded_at es place e is h.1
+bounded_at (d ∷ es) (suc index) e is h = bounded_at es index e is h.1
 
-bounded_set : (es : List Employed) (place : ℕ) (e : Employed) → AreBounded es → IsBounded e
-    → AreBounded (slice_set es place e)
-bounded_set [] place e h g = tt
+bounded_set : (es : List Employed) (index : ℕ) (e : Employed) → AreBounded es → IsBounded e
+    → AreBounded (slice_set es index e)
+bounded_set [] index e h g = tt
 bounded_set (d ∷ es) zero e h g = (g, h.1)
-bounded_set (d ∷ es) (suc place) e h g = (h.0, bounded_set es place e h.1 g)
+bounded_set (d ∷ es) (suc index) e h g = (h.0, bounded_set es index e h.1 g)
 
 bounded_more : (es : List Employed) (e : Employed) → AreBounded es → IsBounded e → AreBounded (es ++ e ∷ [])
 bounded_more [] e h g = (g, tt)
 bounded_more (d ∷ es) e h g = (h.0, bounded_more es e h.1 g)
 
-by_some : (low : Bool) (place : ℕ) (es : List Employed) (e : Employed)
-    → (if low then None else slice_get es place) ≡ Some e → AreBounded es → IsBounded e
-by_some true place es e is h = absurd cc
-by_some false place es e is h = bounded_at es place e is h
+by_some : (low : Bool) (index : ℕ) (es : List Employed) (e : Employed)
+    → (if low then None else slice_get es index) ≡ Some e → AreBounded es → IsBounded e
+by_some true index es e is h = absurd cc
+by_some false index es e is h = bounded_at es index e is h
 
 -- If all workers are bounded (`IsBounded`), the worker of the actor `by` is bounded.
 pub bounded_by : (by : ℕ) (es : List Employed) (e : Employed) → employed_by by es ≡ Some e → AreBounded es → IsBounded e

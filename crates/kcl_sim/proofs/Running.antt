@@ -41,7 +41,7 @@ on_ok_so (Err e) h f = tt
 -- run, and its actor's number to the output, the line was run (`GoesOn`).
 pub hired_goes : (wanted : Bool) (old new : SimValue) (ran : Ran) (w : Stepped) (at name by : ℕ) (kind : Kind)
     (from : Origin) (before after : List ℕ)
-    → RunsSo old ran → old.over ≡ false
+    → RunsSo old ran → old.unfinished ≡ false
     → new ≡ record old { workers = old.workers ++ w ∷ [] }
     → w.made ≡ record { name = name; settings = record usual_settings { from = from } } → w.maker ≡ kind
     → StandsFor Calls w []
@@ -66,7 +66,7 @@ hired_goes wanted old new ran w at name by kind from before after s going is mad
 
 -- If the actor `by` has no worker, a line that stops its worker changes nothing, and its output is "none".
 pub nobody_stops : (wanted : Bool) (old new : SimValue) (ran : Ran) (at by : ℕ) (before after : List ℕ) → RunsSo old ran
-    → old.over ≡ false → new ≡ old
+    → old.unfinished ≡ false → new ≡ old
     → index_among by (length old.workers) ≡ None
     → after ≡ before ++ if_wanted wanted (codes "none" ++ 10 ∷ [])
     → GoesOn wanted new ran (line.Stop at by) before after
@@ -76,12 +76,12 @@ nobody_stops wanted old new ran at by before after s going same none wrote =
     record {
       made = subst (λ o. RunsSo new (with_stop ran by o)) (sym is) (subst (λ v. RunsSo v ran) (sym same) s);
       wrote = wrote ∙ ap (λ o. before ++ if_wanted wanted (stop_output o)) (sym is);
-      going = ap (λ (v : SimValue). v.over) same ∙ going;
+      going = ap (λ (v : SimValue). v.unfinished) same ∙ going;
     }
 
 -- If the actor `by` has no worker, a line that steps its worker changes nothing, and its output is "none".
 pub nobody_steps : (wanted : Bool) (old new : SimValue) (ran : Ran) (at by : ℕ) (before after : List ℕ) → RunsSo old ran
-    → old.over ≡ false → new ≡ old
+    → old.unfinished ≡ false → new ≡ old
     → index_among by (length old.workers) ≡ None
     → after ≡ before ++ if_wanted wanted (codes "none" ++ 10 ∷ [])
     → GoesOn wanted new ran (line.Step at by) before after
@@ -91,51 +91,57 @@ nobody_steps wanted old new ran at by before after s going same none wrote =
     record {
       made = subst (λ o. RunsSo new (with_step ran at by o)) (sym is) (subst (λ v. RunsSo v ran) (sym same) s);
       wrote = wrote ∙ ap (λ o. before ++ if_wanted wanted (step_output ran at by o)) (sym is);
-      going = ap (λ (v : SimValue). v.over) same ∙ going;
+      going = ap (λ (v : SimValue). v.unfinished) same ∙ going;
     }
 
 -- ---- The worker of an actor
 
--- The worker at the index `place` is that of the actor.
-pub record Works (old : SimValue) (ran : Ran) (by place : ℕ) (was : Stepped) : Type 0 where
+-- The worker `was` at the index `index` is that of the actor `by`. It stands for the record `e`, which is the actor's
+-- in `ran`, and all workers of `old` stand for those of `ran`.
+pub record Works (old : SimValue) (ran : Ran) (by index : ℕ) (was : Stepped) : Type 0 where
   pub e : Employed
   pub is : employed_by by ran.workers ≡ Some e
   pub employs : Employs was e
   pub all : EmployAll old.workers ran.workers
-  pub at_place : index_of by ≡ place
+  pub at_index : index_of by ≡ index
 
-pub works : (old : SimValue) (ran : Ran) (by place : ℕ) (was : Stepped) → RunsSo old ran → old.over ≡ false
-    → index_among by (length old.workers) ≡ Some place → slice_get old.workers place ≡ Some was
-    → Works old ran by place was
-works old ran by place was s going there stood =
+-- If `index` is the index of the actor `by`, and `was` is the worker at this index, then `was` is the worker of `by` in
+-- the sense of `Works`.
+pub works : (old : SimValue) (ran : Ran) (by index : ℕ) (was : Stepped) → RunsSo old ran → old.unfinished ≡ false
+    → index_among by (length old.workers) ≡ Some index → slice_get old.workers index ≡ Some was
+    → Works old ran by index was
+works old ran by index was s going there stood =
     let all = s.workers going in
-    let f = employ_at old.workers ran.workers place was all stood in
-    let b = somebody by (length old.workers) place ran.workers there in
-    record { e = f.0; is = b.1 ∙ f.1; employs = f.2; all = all; at_place = b.0 }
+    let f = employ_at old.workers ran.workers index was all stood in
+    let b = somebody by (length old.workers) index ran.workers there in
+    record { e = f.0; is = b.1 ∙ f.1; employs = f.2; all = all; at_index = b.0 }
 
--- `EmployAll` holds after another worker took this place.
-pub replaced : (old : SimValue) (ran : Ran) (by place : ℕ) (was new : Stepped) (d : Employed)
-    → Works old ran by place was → Employs new d
-    → EmployAll (slice_set old.workers place new) (slice_set ran.workers (index_of by) d)
-replaced old ran by place was new d w h =
-    subst (λ n. EmployAll (slice_set old.workers place new) (slice_set ran.workers n d)) (sym w.at_place)
-    (employ_set old.workers ran.workers place new d w.all h)
+-- If the actor's worker and its record are replaced by the worker `new` and the record `d` for which it stands, then
+-- all workers still stand for the records of the run (`EmployAll`).
+pub replaced : (old : SimValue) (ran : Ran) (by index : ℕ) (was new : Stepped) (d : Employed)
+    → Works old ran by index was → Employs new d
+    → EmployAll (slice_set old.workers index new) (slice_set ran.workers (index_of by) d)
+replaced old ran by index was new d w h =
+    subst (λ n. EmployAll (slice_set old.workers index new) (slice_set ran.workers n d)) (sym w.at_index)
+    (employ_set old.workers ran.workers index new d w.all h)
 
-pub stop_goes : (wanted : Bool) (old new : SimValue) (ran : Ran) (at by place : ℕ) (was now : Stepped)
+-- If the actor's worker was told to stop, and "stopping" was added to the output, then the line that stops the worker
+-- was run (`GoesOn`).
+pub stop_goes : (wanted : Bool) (old new : SimValue) (ran : Ran) (at by index : ℕ) (was now : Stepped)
     (before after : List ℕ) → RunsSo old ran
-    → old.over ≡ false → index_among by (length old.workers) ≡ Some place → slice_get old.workers place ≡ Some was
-    → new ≡ record old { workers = slice_set old.workers place now }
+    → old.unfinished ≡ false → index_among by (length old.workers) ≡ Some index → slice_get old.workers index ≡ Some was
+    → new ≡ record old { workers = slice_set old.workers index now }
     → ((e : Employed) → Employs was e → Employs now (stopped e))
     → after ≡ before ++ if_wanted wanted (codes "stopping" ++ 10 ∷ [])
     → GoesOn wanted new ran (line.Stop at by) before after
-stop_goes wanted old new ran at by place was now before after s going there stood is stops wrote =
-    let w = works old ran by place was s going there stood in
+stop_goes wanted old new ran at by index was now before after s going there stood is stops wrote =
+    let w = works old ran by index was s going there stood in
     subst (λ v. GoesOn wanted v ran (line.Stop at by) before after) (sym is) (record {
-      made = subst (λ o. RunsSo (record old { workers = slice_set old.workers place now }) (with_stop ran by o))
+      made = subst (λ o. RunsSo (record old { workers = slice_set old.workers index now }) (with_stop ran by o))
           (sym w.is)
           (record {
             history = s.history;
-            workers = λ g. replaced old ran by place was now (stopped w.e) w (stops w.e w.employs);
+            workers = λ g. replaced old ran by index was now (stopped w.e) w (stops w.e w.employs);
           });
       wrote = wrote ∙ ap (λ o. before ++ if_wanted wanted (stop_output o)) (sym w.is);
       going = going;
@@ -147,21 +153,25 @@ same_employed : (h : List Turn) (ran : Ran) (at by : ℕ) (o : Option Command) (
     → (v : Stepped) → Employs v (employed_after h at by o e) → Employs v (employed_after ran.history at by o e)
 same_employed h ran at by o e is v s = subst (λ k. Employs v (employed_after k at by o e)) is s
 
-step_made : (new : SimValue) (ran : Ran) (at by place : ℕ) (e : Employed) (o : Option Command)
+-- If the history and the workers of `new` are those after a step with the command `o`, if any, then `new` stands for
+-- the run after this step.
+step_made : (new : SimValue) (ran : Ran) (at by index : ℕ) (e : Employed) (o : Option Command)
     → new.history ≡ history_after ran.history at by o
     → EmployAll new.workers (slice_set ran.workers (index_of by) (employed_after ran.history at by o e))
     → RunsSo new (with_command ran at by (all_called e) o)
-step_made new ran at by place e None history workers = record { history = history; workers = λ g. workers }
-step_made new ran at by place e (Some what) history workers = record { history = history; workers = λ g. workers }
+step_made new ran at by index e None history workers = record { history = history; workers = λ g. workers }
+step_made new ran at by index e (Some what) history workers = record { history = history; workers = λ g. workers }
 
-pub step_goes : (wanted : Bool) (old new : SimValue) (ran : Ran) (at by place : ℕ) (before after : List ℕ)
-    → RunsSo old ran → old.over ≡ false
-    → index_among by (length old.workers) ≡ Some place
-    → StepsAt wanted at by place old new before after → new.over ≡ false
+-- If the actor's worker made a step (`StepsAt`), and memory didn't run out, then the line that steps the worker was run
+-- (`GoesOn`).
+pub step_goes : (wanted : Bool) (old new : SimValue) (ran : Ran) (at by index : ℕ) (before after : List ℕ)
+    → RunsSo old ran → old.unfinished ≡ false
+    → index_among by (length old.workers) ≡ Some index
+    → StepsAt wanted at by index old new before after → new.unfinished ≡ false
     → GoesOn wanted new ran (line.Step at by) before after
-step_goes wanted old new ran at by place before after s going there t still =
+step_goes wanted old new ran at by index before after s going there t still =
     let c = t.workers in
-    let w = works old ran by place c.was s going there c.stood in
+    let w = works old ran by index c.was s going there c.stood in
     let f = c.related.1 w.e w.employs in
     let next : command_at at (all_called w.e) ≡ t.what = f.0 in
     let now_so : Employs c.is (employed_after ran.history at by t.what w.e) =
@@ -169,11 +179,11 @@ step_goes wanted old new ran at by place before after s going there t still =
     let all : EmployAll new.workers
     (slice_set ran.workers (index_of by) (employed_after ran.history at by t.what w.e)) =
     subst (λ ws. EmployAll ws (slice_set ran.workers (index_of by) (employed_after ran.history at by t.what w.e)))
-    (sym c.stands) (replaced old ran by place c.was c.is _ w now_so) in
+    (sym c.stands) (replaced old ran by index c.was c.is _ w now_so) in
     record {
       made = subst (λ o. RunsSo new (with_step ran at by o)) (sym w.is)
           (subst (λ o. RunsSo new (with_command ran at by (all_called w.e) o)) (sym next)
-          (step_made new ran at by place w.e t.what (t.history ∙ ap (λ h. history_after h at by t.what) s.history)
+          (step_made new ran at by index w.e t.what (t.history ∙ ap (λ h. history_after h at by t.what) s.history)
           all));
       wrote = t.wrote ∙ ap (λ h. before ++ if_wanted wanted (command_output h at by t.what)) s.history
           ∙ ap (λ o. before ++ if_wanted wanted (command_output ran.history at by o)) (sym next)
@@ -183,19 +193,21 @@ step_goes wanted old new ran at by place before after s going there t still =
 
 -- ---- Out of memory
 
-pub step_may : (old new : SimValue) (ran : Ran) (at by place : ℕ) → RunsSo old ran → old.over ≡ false
-    → index_among by (length old.workers) ≡ Some place → new.over ≡ true
-    → (new.history ≡ old.history) ⊎ TurnRan at by place old new → MayHaveRun new ran (line.Step at by)
-step_may old new ran at by place s going there over (inl same) =
-    inl (record { history = same ∙ s.history; workers = λ g. absurd (apart new.over over g) })
-step_may old new ran at by place s going there over (inr t) =
-    let w = works old ran by place t.was s going there t.stood in
+-- If memory ran out in a step of the actor's worker, then the line that steps the worker was run as a whole or not at
+-- all (`MayHaveRun`).
+pub step_may : (old new : SimValue) (ran : Ran) (at by index : ℕ) → RunsSo old ran → old.unfinished ≡ false
+    → index_among by (length old.workers) ≡ Some index → new.unfinished ≡ true
+    → (new.history ≡ old.history) ⊎ TurnRan at by index old new → MayHaveRun new ran (line.Step at by)
+step_may old new ran at by index s going there unfinished (inl same) =
+    inl (record { history = same ∙ s.history; workers = λ g. absurd (apart new.unfinished unfinished g) })
+step_may old new ran at by index s going there unfinished (inr t) =
+    let w = works old ran by index t.was s going there t.stood in
     let next = t.next w.e w.employs in
     inr (subst (λ o. RunsSo new (with_step ran at by o)) (sym w.is)
     (subst (λ o. RunsSo new (with_command ran at by (all_called w.e) o)) (sym next)
     (record {
       history = t.history ∙ ap (λ h. raw_turn at by t.what ∷ h) s.history;
-      workers = λ g. absurd (apart new.over over g);
+      workers = λ g. absurd (apart new.unfinished unfinished g);
     })))
 
 -- If `P` holds if the result is an error, so does everything that follows from `P`.
@@ -205,10 +217,11 @@ err_so (Err e) h f = f h
 
 -- ---- A step in its parts
 
--- The worker at an index, once its calls were made and it was asked for a command.
-pub record Asked (at place : ℕ) (old : SimValue) (result : Option Command) (now : Stepped) : Type 0 where
+-- The worker at the index `index` made its due calls and was then asked for a command at the moment `at`. `result` is
+-- the command that it gave, or None if it is idle, and the worker is now `now`.
+pub record Asked (at index : ℕ) (old : SimValue) (result : Option Command) (now : Stepped) : Type 0 where
   pub was : Stepped
-  pub stood : slice_get old.workers place ≡ Some was
+  pub stood : slice_get old.workers index ≡ Some was
   pub next : (e : Employed) → Employs was e → command_at at (all_called e) ≡ result
   pub idle : result ≡ None → IsFree now × ((e : Employed) → Employs was e → Employs now (all_called e))
   pub asked : (what : Command) → result ≡ Some what → (e : Employed) → Employs was e → HasAsked at now (all_called e)
@@ -223,21 +236,22 @@ where_some : {A : Type 0} (P : Type 0) (Q : A → Type 0) (o : Option A) (x : A)
 where_some P Q None x is h = absurd cc
 where_some P Q (Some y) x is h = subst Q (same_some y x is) h
 
--- The worker at an index was lent for its calls, and was lent again to be asked for a command.
-pub asked_at : (old : SimValue) (at place : ℕ) (ws : List Stepped) (first second was called lent now : Stepped)
-    (result : Option Command) → ws ≡ old.workers → place < length ws
-    → was ≡ get_or ws place first → lent ≡ get_or (slice_set ws place called) place second
+-- The worker at the index `index` was borrowed to make its due calls, which left the worker `called`, and then borrowed
+-- again and asked for a command, which left the worker `now`. Then `Asked` holds.
+pub asked_at : (old : SimValue) (at index : ℕ) (ws : List Stepped) (first second was called lent now : Stepped)
+    (result : Option Command) → ws ≡ old.workers → index < length ws
+    → was ≡ get_or ws index first → lent ≡ get_or (slice_set ws index called) index second
     → ((e : Employed) → Employs was e → Employs called (all_called e))
     → ((e : Employed) → Employs lent e → result ≡ command_at at e)
     → ((e : Employed) → Employs lent e → MatchOption result (Employs now e) (λ what. HasAsked at now e))
-    → MatchOption result (IsFree now) (λ what. IsSome now.waiting) → Asked at place old result now
-asked_at old at place ws first second was called lent now result same lt got again calls next stands free =
-    let lent_is : lent ≡ called = lent_again ws place second called lent lt again in
+    → MatchOption result (IsFree now) (λ what. IsSome now.waiting) → Asked at index old result now
+asked_at old at index ws first second was called lent now result same lt got again calls next stands free =
+    let lent_is : lent ≡ called = lent_again ws index second called lent lt again in
     let on : (e : Employed) → Employs was e → Employs lent (all_called e) =
     λ e h. subst (λ (w : Stepped). Employs w (all_called e)) (sym lent_is) (calls e h) in
     record {
       was = was;
-      stood = ap (λ vs. slice_get vs place) (sym same) ∙ got_there ws place first was lt got;
+      stood = ap (λ vs. slice_get vs index) (sym same) ∙ got_there ws index first was lt got;
       next = λ e h. sym (next (all_called e) (on e h));
       idle = λ none. (
         where_none (IsFree now) (λ what. IsSome now.waiting) result none free,
@@ -249,14 +263,14 @@ asked_at old at place ws first second was called lent now result same lt got aga
           (stands (all_called e) (on e h));
     }
 
--- The worker was idle.
-pub idle_steps : (wanted : Bool) (old new : SimValue) (at by place : ℕ) (result : Option Command) (now : Stepped)
+-- If the worker was asked for a command and gave none, then it made a step without a command (`StepsAt`).
+pub idle_steps : (wanted : Bool) (old new : SimValue) (at by index : ℕ) (result : Option Command) (now : Stepped)
     (before after : List ℕ)
-    → Asked at place old result now → result ≡ None
-    → new ≡ record old { workers = slice_set old.workers place now }
+    → Asked at index old result now → result ≡ None
+    → new ≡ record old { workers = slice_set old.workers index now }
     → after ≡ before ++ if_wanted wanted (codes "idle" ++ 10 ∷ [])
-    → StepsAt wanted at by place old new before after
-idle_steps wanted old new at by place result now before after a none is wrote =
+    → StepsAt wanted at by index old new before after
+idle_steps wanted old new at by index result now before after a none is wrote =
     record {
       what = None;
       history = ap (λ (v : SimValue). v.history) is;
@@ -270,18 +284,19 @@ idle_steps wanted old new at by place result now before after a none is wrote =
       wrote = wrote;
     }
 
--- The turn of the worker ran.
-turn_steps_of : (wanted : Bool) (old new : SimValue) (at by place : ℕ) (result : Option Command) (what : Command)
-    (mid : List Stepped) (now : Stepped) (before after : List ℕ) → Asked at place old result now → result ≡ Some what
-    → mid ≡ slice_set old.workers place now → place < length old.workers
+-- If the worker was asked and gave the command `what`, which became a turn, and the worker took the answer, then it
+-- made a step with this command (`StepsAt`).
+turn_steps_of : (wanted : Bool) (old new : SimValue) (at by index : ℕ) (result : Option Command) (what : Command)
+    (mid : List Stepped) (now : Stepped) (before after : List ℕ) → Asked at index old result now → result ≡ Some what
+    → mid ≡ slice_set old.workers index now → index < length old.workers
     → new.history ≡ (raw_turn at by what ∷ old.history)
-    → ChangedAt place (TookAnswer at by what old.history) mid new.workers
+    → ChangedAt index (TookAnswer at by what old.history) mid new.workers
     → after ≡ before ++ if_wanted wanted (command_output old.history at by (Some what))
-    → StepsAt wanted at by place old new before after
-turn_steps_of wanted old new at by place result what mid now before after a some mid_is lt history changed wrote =
+    → StepsAt wanted at by index old new before after
+turn_steps_of wanted old new at by index result what mid now before after a some mid_is lt history changed wrote =
     let was_now : changed.was ≡ now =
-    same_some changed.was now (sym changed.stood ∙ ap (λ ws. slice_get ws place) mid_is
-    ∙ got_set old.workers place now lt) in
+    same_some changed.was now (sym changed.stood ∙ ap (λ ws. slice_get ws index) mid_is
+    ∙ got_set old.workers index now lt) in
     record {
       what = Some what;
       history = history;
@@ -289,8 +304,8 @@ turn_steps_of wanted old new at by place result what mid now before after a some
         was = a.was;
         stood = a.stood;
         is = changed.is;
-        stands = changed.stands ∙ ap (λ ws. slice_set ws place changed.is) mid_is
-            ∙ set_again old.workers place now changed.is;
+        stands = changed.stands ∙ ap (λ ws. slice_set ws index changed.is) mid_is
+            ∙ set_again old.workers index now changed.is;
         related = (
           changed.related.0,
           λ e h. (
@@ -303,27 +318,30 @@ turn_steps_of wanted old new at by place result what mid now before after a some
       wrote = wrote;
     }
 
-pub turn_steps : (wanted : Bool) (old new : SimValue) (at by place : ℕ) (result : Option Command) (what : Command)
-    (h : List Turn) (mid : List Stepped) (now : Stepped) (before after : List ℕ) → Asked at place old result now
+-- The lemma `turn_steps_of`, with the name `h` for the history before the turn: if the command `what` became a turn and
+-- the worker took the answer, then it made a step (`StepsAt`).
+pub turn_steps : (wanted : Bool) (old new : SimValue) (at by index : ℕ) (result : Option Command) (what : Command)
+    (h : List Turn) (mid : List Stepped) (now : Stepped) (before after : List ℕ) → Asked at index old result now
     → result ≡ Some what
-    → h ≡ old.history → mid ≡ slice_set old.workers place now → place < length old.workers
+    → h ≡ old.history → mid ≡ slice_set old.workers index now → index < length old.workers
     → new.history ≡ (raw_turn at by what ∷ h)
-    → ChangedAt place (TookAnswer at by what h) mid new.workers
+    → ChangedAt index (TookAnswer at by what h) mid new.workers
     → after ≡ before ++ if_wanted wanted (command_output h at by (Some what))
-    → StepsAt wanted at by place old new before after
-turn_steps wanted old new at by place result what h mid now before after a some same mid_is lt history changed wrote =
-    turn_steps_of wanted old new at by place result what mid now before after a some mid_is lt
+    → StepsAt wanted at by index old new before after
+turn_steps wanted old new at by index result what h mid now before after a some same mid_is lt history changed wrote =
+    turn_steps_of wanted old new at by index result what mid now before after a some mid_is lt
     (history ∙ ap (λ k. raw_turn at by what ∷ k) same)
-    (subst (λ k. ChangedAt place (TookAnswer at by what k) mid new.workers) same changed)
+    (subst (λ k. ChangedAt index (TookAnswer at by what k) mid new.workers) same changed)
     (wrote ∙ ap (λ k. before ++ if_wanted wanted (command_output k at by (Some what))) same)
 
--- After memory ran out, the turn ran or not.
-pub turn_may : (old new : SimValue) (at by place : ℕ) (result : Option Command) (what : Command) (h : List Turn)
-    (now : Stepped) → Asked at place old result now → result ≡ Some what
+-- If memory ran out after the worker gave the command `what`, then either this command became a turn (`TurnRan`), or no
+-- turn was added.
+pub turn_may : (old new : SimValue) (at by index : ℕ) (result : Option Command) (what : Command) (h : List Turn)
+    (now : Stepped) → Asked at index old result now → result ≡ Some what
     → h ≡ old.history → (new.history ≡ h) ⊎ (new.history ≡ raw_turn at by what ∷ h) → (new.history ≡ old.history)
-    ⊎ TurnRan at by place old new
-turn_may old new at by place result what h now a some same (inl is) = inl (is ∙ same)
-turn_may old new at by place result what h now a some same (inr is) =
+    ⊎ TurnRan at by index old new
+turn_may old new at by index result what h now a some same (inl is) = inl (is ∙ same)
+turn_may old new at by index result what h now a some same (inr is) =
     inr (record {
       was = a.was;
       stood = a.stood;
@@ -345,29 +363,35 @@ on_any_err (Err e) h = h
 
 -- ---- The flag `unfinished` of a run doesn't matter for its turns and workers
 
-steps_as : (wanted : Bool) (old new : SimValue) (b d : Bool) (at by place : ℕ) (before after : List ℕ)
-    → StepsAt wanted at by place (record old { over = b }) new before after
-    → StepsAt wanted at by place old (record new { over = d }) before after
-steps_as wanted old new b d at by place before after t =
+-- A step remains a step if other values of `unfinished` are set in the run before it and in the run after it.
+steps_as : (wanted : Bool) (old new : SimValue) (b d : Bool) (at by index : ℕ) (before after : List ℕ)
+    → StepsAt wanted at by index (record old { unfinished = b }) new before after
+    → StepsAt wanted at by index old (record new { unfinished = d }) before after
+steps_as wanted old new b d at by index before after t =
     record { what = t.what; history = t.history; workers = t.workers; wrote = t.wrote }
 
-pub step_done : (wanted : Bool) (old mid now new : SimValue) (at by place : ℕ) (before after : List ℕ)
-    → mid ≡ record old { over = true }
-    → new ≡ record now { over = false } → StepsAt wanted at by place mid now before after
-    → StepsAt wanted at by place old new before after
-step_done wanted old mid now new at by place before after before_is after_is t =
-    subst (λ v. StepsAt wanted at by place old v before after) (sym after_is)
-    (steps_as wanted old now true false at by place before after
-    (subst (λ v. StepsAt wanted at by place v now before after) before_is t))
+-- If `unfinished` was set to true before a step and to false after it, then the step is a step from the run before to
+-- the run after (`StepsAt`).
+pub step_done : (wanted : Bool) (old mid now new : SimValue) (at by index : ℕ) (before after : List ℕ)
+    → mid ≡ record old { unfinished = true }
+    → new ≡ record now { unfinished = false } → StepsAt wanted at by index mid now before after
+    → StepsAt wanted at by index old new before after
+step_done wanted old mid now new at by index before after before_is after_is t =
+    subst (λ v. StepsAt wanted at by index old v before after) (sym after_is)
+    (steps_as wanted old now true false at by index before after
+    (subst (λ v. StepsAt wanted at by index v now before after) before_is t))
 
-ran_as : (old new : SimValue) (b : Bool) (at by place : ℕ) → TurnRan at by place (record old { over = b }) new
-    → TurnRan at by place old new
-ran_as old new b at by place t =
+-- If a turn was added from a run with some value of `unfinished`, it was added from the run with its own value.
+ran_as : (old new : SimValue) (b : Bool) (at by index : ℕ) → TurnRan at by index (record old { unfinished = b }) new
+    → TurnRan at by index old new
+ran_as old new b at by index t =
     record { was = t.was; stood = t.stood; what = t.what; next = t.next; history = t.history }
 
-pub step_broke : (old mid new : SimValue) (at by place : ℕ) → mid ≡ record old { over = true }
-    → (new.history ≡ mid.history) ⊎ TurnRan at by place mid new → (new.history ≡ old.history)
-    ⊎ TurnRan at by place old new
-step_broke old mid new at by place is (inl same) = inl (same ∙ ap (λ v. v.history) is)
-step_broke old mid new at by place is (inr t) =
-    inr (ran_as old new true at by place (subst (λ v. TurnRan at by place v new) is t))
+-- If memory ran out in a step for which `unfinished` had been set to true, then either no turn was added to the run
+-- `old`, or the turn of the step was (`TurnRan`).
+pub step_broke : (old mid new : SimValue) (at by index : ℕ) → mid ≡ record old { unfinished = true }
+    → (new.history ≡ mid.history) ⊎ TurnRan at by index mid new → (new.history ≡ old.history)
+    ⊎ TurnRan at by index old new
+step_broke old mid new at by index is (inl same) = inl (same ∙ ap (λ v. v.history) is)
+step_broke old mid new at by index is (inr t) =
+    inr (ran_as old new true at by index (subst (λ v. TurnRan at by index v new) is t))

@@ -57,8 +57,8 @@ record IsTold (h : List Turn) (by : ℕ) (e : Employed) : Type 0 where
 -- `IsTold` holds for each worker of the run and its actor. The actors of workers that the run may still start have made
 -- no turn.
 record AreTold (ran : Ran) : Type 0 where
-  each : (place : ℕ) (e : Employed) → slice_get ran.workers place ≡ Some e → IsTold ran.history (actor_at place) e
-  later : (place : ℕ) → length ran.workers ≤ place → deals_of (actor_at place) ran.history ≡ []
+  each : (index : ℕ) (e : Employed) → slice_get ran.workers index ≡ Some e → IsTold ran.history (actor_at index) e
+  later : (index : ℕ) → length ran.workers ≤ index → deals_of (actor_at index) ran.history ≡ []
 
 -- ---- Events of a worker that aren't turns
 
@@ -184,8 +184,9 @@ told_on : (by : ℕ) (turn : Turn) (h : List Turn) (e : Employed) → (turn.by =
     → IsTold (turn ∷ h) by e
 told_on by turn h e other t = record { orderly = t.orderly; told = others_turn by turn h other ∙ t.told; free = t.free }
 
-below : (by place : ℕ) → by ≤ MOST_ACTOR → (by == actor_at place) ≡ false
-below by place low = grind (arith, nat_tests)
+-- The actor of a worker isn't an actor with a number up to `MOST_ACTOR`.
+below : (by index : ℕ) → by ≤ MOST_ACTOR → (by == actor_at index) ≡ false
+below by index low = grind (arith, nat_tests)
 
 -- Workers at different indexes have different actors.
 apart : (p q : ℕ) → (p ≡ q → ⊥) → (actor_at p == actor_at q) ≡ false
@@ -199,8 +200,8 @@ apart p q h = by_test (actor_at p == actor_at q) refl
 outer : (ran : Ran) (turn : Turn) → turn.by ≤ MOST_ACTOR → AreTold ran
     → AreTold (record ran { history = turn ∷ ran.history })
 outer ran turn low t = record {
-  each = λ place e is. told_on (actor_at place) turn ran.history e (below turn.by place low) (t.each place e is);
-  later = λ place past. others_turn (actor_at place) turn ran.history (below turn.by place low) ∙ t.later place past;
+  each = λ index e is. told_on (actor_at index) turn ran.history e (below turn.by index low) (t.each index e is);
+  later = λ index past. others_turn (actor_at index) turn ran.history (below turn.by index low) ∙ t.later index past;
 }
 
 -- ---- One worker changes
@@ -224,12 +225,12 @@ got_with (d ∷ es) (suc p) (suc q) x e is = on (got_with es p q x e is)
 -- it holds for each worker of the new list.
 changed : (h : List Turn) (es : List Employed) (p : ℕ) (x : Employed) → IsTold h (actor_at p) x
     → ((q : ℕ) (e : Employed) → (p ≡ q → ⊥) → slice_get es q ≡ Some e → IsTold h (actor_at q) e)
-    → (place : ℕ) (e : Employed) → slice_get (slice_set es p x) place ≡ Some e → IsTold h (actor_at place) e
-changed h es p x own others place e is = on (got_with es p place x e is)
+    → (index : ℕ) (e : Employed) → slice_get (slice_set es p x) index ≡ Some e → IsTold h (actor_at index) e
+changed h es p x own others index e is = on (got_with es p index x e is)
   where
-    on : ((p ≡ place) × (x ≡ e)) ⊎ ((p ≡ place → ⊥) × (slice_get es place ≡ Some e)) → IsTold h (actor_at place) e
-    on (inl same) = subst (IsTold h (actor_at place)) same.1 (subst (λ n. IsTold h (actor_at n) x) same.0 own)
-    on (inr other) = others place e other.0 other.1
+    on : ((p ≡ index) × (x ≡ e)) ⊎ ((p ≡ index → ⊥) × (slice_get es index ≡ Some e)) → IsTold h (actor_at index) e
+    on (inl same) = subst (IsTold h (actor_at index)) same.1 (subst (λ n. IsTold h (actor_at n) x) same.0 own)
+    on (inr other) = others index e other.0 other.1
 
 -- If only the record of the worker at the index `p` changes, to `x`, and `IsTold` holds for `x`, then `AreTold` still
 -- holds.
@@ -237,7 +238,7 @@ kept : (ran : Ran) (p : ℕ) (x : Employed) → AreTold ran → IsTold ran.histo
     → AreTold (record ran { workers = slice_set ran.workers p x })
 kept ran p x t own = record {
   each = changed ran.history ran.workers p x own (λ q e other is. t.each q e is);
-  later = λ place past. t.later place (omega (arith, past, length-set ran.workers p x));
+  later = λ index past. t.later index (omega (arith, past, length-set ran.workers p x));
 }
 
 -- If the worker at the index `p` made a turn, and `IsTold` holds for its new record `x` and the history with this turn,
@@ -248,10 +249,10 @@ turned : (ran : Ran) (turn : Turn) (p : ℕ) (x : Employed) → turn.by ≡ acto
 turned ran turn p x by lt t own = record {
   each = changed (turn ∷ ran.history) ran.workers p x own (λ q e other is.
       told_on (actor_at q) turn ran.history e (differs q other) (t.each q e is));
-  later = λ place past.
-      let beyond : length ran.workers ≤ place = omega (arith, past, length-set ran.workers p x) in
-      others_turn (actor_at place) turn ran.history (differs place (λ same. absurd (omega arith)))
-      ∙ t.later place beyond;
+  later = λ index past.
+      let beyond : length ran.workers ≤ index = omega (arith, past, length-set ran.workers p x) in
+      others_turn (actor_at index) turn ran.history (differs index (λ same. absurd (omega arith)))
+      ∙ t.later index beyond;
 }
   where
     differs : (q : ℕ) → (p ≡ q → ⊥) → (turn.by == actor_at q) ≡ false
@@ -267,9 +268,9 @@ handed ran h p x lt t own others = record {
   each = changed h ran.workers p x own (λ q e other is.
       let k = t.each q e is in
       record { orderly = k.orderly; told = others q other ∙ k.told; free = k.free });
-  later = λ place past.
-      let beyond : length ran.workers ≤ place = omega (arith, past, length-set ran.workers p x) in
-      others place (λ same. absurd (omega arith)) ∙ t.later place beyond;
+  later = λ index past.
+      let beyond : length ran.workers ≤ index = omega (arith, past, length-set ran.workers p x) in
+      others index (λ same. absurd (omega arith)) ∙ t.later index beyond;
 }
 
 -- ---- Lines
@@ -366,17 +367,17 @@ got_more (d ∷ es) x (suc q) e is = on (got_more es x q e is)
 hired_told : (ran : Ran) (name : ℕ) (kind : Kind) (from : Origin) → AreTold ran
     → AreTold (record ran { workers = ran.workers ++ hired name kind from ∷ [] })
 hired_told ran name kind from t = record {
-  each = λ place e is. on place e (got_more ran.workers (hired name kind from) place e is);
-  later = λ place past. t.later place (omega (arith, past, length_push ran.workers (hired name kind from)));
+  each = λ index e is. on index e (got_more ran.workers (hired name kind from) index e is);
+  later = λ index past. t.later index (omega (arith, past, length_push ran.workers (hired name kind from)));
 }
   where
-    none : (place : ℕ) → place ≡ length ran.workers → IsTold ran.history (actor_at place) (hired name kind from)
-    none place is = record { orderly = tt; told = t.later place (omega arith); free = refl }
+    none : (index : ℕ) → index ≡ length ran.workers → IsTold ran.history (actor_at index) (hired name kind from)
+    none index is = record { orderly = tt; told = t.later index (omega arith); free = refl }
 
-    on : (place : ℕ) (e : Employed) → ((place ≡ length ran.workers) × (hired name kind from ≡ e))
-        ⊎ (slice_get ran.workers place ≡ Some e) → IsTold ran.history (actor_at place) e
-    on place e (inl h) = subst (IsTold ran.history (actor_at place)) h.1 (none place h.0)
-    on place e (inr h) = t.each place e h
+    on : (index : ℕ) (e : Employed) → ((index ≡ length ran.workers) × (hired name kind from ≡ e))
+        ⊎ (slice_get ran.workers index ≡ Some e) → IsTold ran.history (actor_at index) e
+    on index e (inl h) = subst (IsTold ran.history (actor_at index)) h.1 (none index h.0)
+    on index e (inr h) = t.each index e h
 
 -- `AreTold` still holds after a request, since the actor of requests has no worker.
 request_told : (ran : Ran) (at : ℕ) (r : Result Command Fault) → AreTold ran
@@ -402,11 +403,11 @@ schedule_told ran (l ∷ ls) are t = schedule_told (with_line ran l) ls are.1 (l
 all_told : (ls : List Line) → AllByRecursion IsLine ls → AreTold (with_schedule fresh ls)
 all_told ls are =
     let none : AreTold fresh =
-    record { each = λ place e is. absurd (nothing place e is); later = λ place past. refl } in
+    record { each = λ index e is. absurd (nothing index e is); later = λ index past. refl } in
     schedule_told fresh ls are none
   where
-    nothing : (place : ℕ) (e : Employed) → slice_get fresh.workers place ≡ Some e → ⊥
-    nothing place e is = absurd cc
+    nothing : (index : ℕ) (e : Employed) → slice_get fresh.workers index ≡ Some e → ⊥
+    nothing index e is = absurd cc
 
 -- The first of three laws for one worker that the lemmas take as given. If the joint record is possible (`AreOrderly`),
 -- and the actor's turns are its answered commands, then the processors of the worker and of its hand-offs are called
@@ -420,8 +421,8 @@ Serves = (by : ℕ) (h : List Turn) (made : WorkerMade) (past : JointPast) → A
 pub all_served : Serves → (ls : List Line) → AllByRecursion IsLine ls → AreAllServed (with_schedule fresh ls)
 all_served serves ls are =
     let t = all_told ls are in
-    λ place e is. serves (actor_at place) (with_schedule fresh ls).history e.made e.past (t.each place e is).orderly
-    (t.each place e is).told
+    λ index e is. serves (actor_at index) (with_schedule fresh ls).history e.made e.past (t.each index e is).orderly
+    (t.each index e is).told
 
 -- The second of these laws. The actor's turns are the answered commands of the joint record. Then for each hand-off
 -- that has freed its row, every batch that its processor was handed is given. The records that were given in its tenure
@@ -436,8 +437,8 @@ pub all_handed : Hands → (ls : List Line) → AllByRecursion IsLine ls → IsH
     → AreHandedOff (with_schedule fresh ls)
 all_handed hands ls are lawful =
     let t = all_told ls are in
-    λ place e is. hands (actor_at place) (with_schedule fresh ls).history e.made e.past lawful
-    (t.each place e is).orderly (t.each place e is).told
+    λ index e is. hands (actor_at index) (with_schedule fresh ls).history e.made e.past lawful
+    (t.each index e is).orderly (t.each index e is).told
 
 -- The third of these laws. The actor's turns in `before` are the answered commands of the joint record, which has a
 -- hand-off that has freed its row. Then a tenure of the key that begins in `h` right after `before` reads no record
@@ -454,5 +455,5 @@ pub all_read_once : ReadsOnce → (h : List Turn) (ls : List Line) → AllByRecu
     → AreNeverReadAgain h (with_schedule fresh ls)
 all_read_once once h ls are whole first =
     let t = all_told ls are in
-    λ place e is. once (actor_at place) h (with_schedule fresh ls).history e.made e.past whole first
-    (t.each place e is).orderly (t.each place e is).told
+    λ index e is. once (actor_at index) h (with_schedule fresh ls).history e.made e.past whole first
+    (t.each index e is).orderly (t.each index e is).told

@@ -1,8 +1,11 @@
 -- The texts that a run adds to its output if it outputs answers (`wanted` is true). If it doesn't, `if_wanted` makes
 -- each of these texts empty.
 use Rattle.std.proofs.Common.{◌≡◌, ℕ, Bool, true, false, List, [], ◌++◌, refl, sym, ap, ◌∙◌}
+use Rattle.std.specs.Prelude.{Result, Ok, Err}
 use Rattle.std.proofs.lemmas.List.{append-nil}
 use Rattle.kcl_sim.specs.Keeping.{if_wanted}
+use Rattle.kcl_sim.specs.Output.{AddsWhole}
+use Rattle.kcl_sim.proofs.Running.{on_ok_so}
 
 -- What is wanted of `xs`, followed by what is wanted of `ys`, is what is wanted of the two texts together.
 pub joined : (wanted : Bool) (xs ys : List ℕ) → if_wanted wanted xs ++ if_wanted wanted ys ≡ if_wanted wanted (xs ++ ys)
@@ -23,3 +26,19 @@ said wanted text before after is wrote = wrote ∙ ap (λ w. before ++ if_wanted
 -- nothing.
 pub unsaid : (wanted : Bool) (text before : List ℕ) → false ≡ wanted → before ≡ before ++ if_wanted wanted text
 unsaid wanted text before is = sym (append-nil before) ∙ ap (λ w. before ++ if_wanted w text) is
+
+-- If answers are wanted, and a function added `text` or failed without adding anything (`AddsWhole`), then the same is
+-- true of what is wanted of `text`.
+pub said_whole : {A E : Type 0} (wanted : Bool) (result : Result A E) (before after text : List ℕ) → true ≡ wanted
+    → AddsWhole result before after text → AddsWhole result before after (if_wanted wanted text)
+said_whole wanted result before after text is added = record {
+  ok = on_ok_so result added.ok (λ wrote. said wanted text before after is wrote);
+  err = added.err;
+}
+
+-- If answers aren't wanted, and a function added nothing to the output, then `AddsWhole` holds with what is wanted of
+-- `text`, which is nothing.
+pub unsaid_whole : {A E : Type 0} (wanted : Bool) (result : Result A E) (text before : List ℕ) → false ≡ wanted
+    → AddsWhole result before before (if_wanted wanted text)
+unsaid_whole wanted (Ok x) text before is = record { ok = unsaid wanted text before is; err = tt }
+unsaid_whole wanted (Err e) text before is = record { ok = tt; err = refl }

@@ -1,6 +1,6 @@
--- What a line of a schedule makes of a run, and what the line adds to the output.
-use Rattle.std.specs.Prelude.{ℕ, List, [], ◌∷◌, ◌++◌, codes, decimal, length, Bool, false, Option, Some, None}
-use Rattle.std.specs.Prelude.{option_map, Result, Ok, Err}
+-- The run of a schedule: what each line adds to the run's turns and workers, and what it adds to the output.
+use Rattle.std.specs.Prelude.{ℕ, ◌≡◌, List, [], ◌∷◌, ◌++◌, codes, decimal, length, Bool, false, Option, Some, None}
+use Rattle.std.specs.Prelude.{option_map, Result, Ok, Err, OnErr, OnOk}
 use Rattle.kds_base.specs.declared.lease_key.ShardRef.{ShardRef}
 use Rattle.kds_defs.specs.declared.command.Turn.{Turn}
 use Rattle.kds_defs.specs.declared.command.Command.{Command}
@@ -32,8 +32,13 @@ body_part (b ∷ bs) = 32 ∷ b ∷ bs
 abbrev pub printed : ℕ × List ℕ → List ℕ
 printed r = decimal r.0 ++ (body_part r.1 ++ 10 ∷ [])
 
--- What a run of lines has made so far: the history of its turns, the newest first, and its workers, in the order of
--- their making.
+-- If `result` is Ok, the output `new` is the output `old` with `text` added. If it is an error, `new` is `old`.
+pub record AddsWhole {A E : Type 0} (result : Result A E) (old new text : List ℕ) : Type 0 where
+  pub ok : OnOk result (new ≡ old ++ text)
+  pub err : OnErr result (new ≡ old)
+
+-- The state of a run: the history of its turns, the newest first, and its workers, in the order in which they were
+-- made.
 pub record Ran : Type 0 where
   pub history : List Turn
   pub workers : List Employed

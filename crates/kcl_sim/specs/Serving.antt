@@ -12,17 +12,17 @@ use Rattle.kcl_sim.specs.Workers.{Employed, actor_at}
 -- For each worker and each of its hand-offs, the calls of the processors are for the given reads of their tenures in
 -- the run's history (`joint.AreAllServed`).
 abbrev pub AreAllServed : Ran → Type 0
-AreAllServed ran = (place : ℕ) (e : Employed) → slice_get ran.workers place ≡ Some e
-    → joint.AreAllServed (actor_at place) ran.history e.made e.past
+AreAllServed ran = (index : ℕ) (e : Employed) → slice_get ran.workers index ≡ Some e
+    → joint.AreAllServed (actor_at index) ran.history e.made e.past
 
 -- For each hand-off that has freed its row: every batch that its processor was handed is given, and every record that
 -- was given in its tenure is at or below the row's checkpoint, if the row still exists.
 abbrev pub AreHandedOff : Ran → Type 0
-AreHandedOff ran = (place : ℕ) (e : Employed) → slice_get ran.workers place ≡ Some e
-    → AllByRecursion (IsHandedOffIfFreed (actor_at place) ran.history) (hands_after e.made e.past)
+AreHandedOff ran = (index : ℕ) (e : Employed) → slice_get ran.workers index ≡ Some e
+    → AllByRecursion (IsHandedOffIfFreed (actor_at index) ran.history) (hands_after e.made e.past)
 
 -- For each hand-off that has freed its row in the run `ran`: no record that was given in its tenure is read, in the
 -- history `h`, in a tenure of the same key that begins right after the run.
 abbrev pub AreNeverReadAgain : List Turn → Ran → Type 0
-AreNeverReadAgain h ran = (place : ℕ) (e : Employed) → slice_get ran.workers place ≡ Some e
-    → AllByRecursion (IsNeverReadAgain (actor_at place) h ran.history) (hands_after e.made e.past)
+AreNeverReadAgain h ran = (index : ℕ) (e : Employed) → slice_get ran.workers index ≡ Some e
+    → AllByRecursion (IsNeverReadAgain (actor_at index) h ran.history) (hands_after e.made e.past)

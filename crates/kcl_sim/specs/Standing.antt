@@ -26,9 +26,9 @@ Stepped = WorkerStanding Stock Kind
 -- hasn't finished, since memory ran out in it.
 pub record SimValue : Type 0 where
   pub history : List Turn
-  pub told : List Turn
+  pub since : List Turn
   pub workers : List Stepped
-  pub over : Bool
+  pub unfinished : Bool
 
 -- The run `s` with the turn added to its history.
 abbrev pub turned : SimValue → Turn → SimValue
@@ -56,7 +56,7 @@ EmployAll (w ∷ ws) [] = ⊥
 -- a worker's step or a hand-off (`unfinished`), only the history is the same.
 pub record RunsSo (s : SimValue) (ran : Ran) : Type 0 where
   pub history : s.history ≡ ran.history
-  pub workers : s.over ≡ false → EmployAll s.workers ran.workers
+  pub workers : s.unfinished ≡ false → EmployAll s.workers ran.workers
 
 -- ---- What a line changes
 
@@ -65,7 +65,7 @@ pub record RunsSo (s : SimValue) (ran : Ran) : Type 0 where
 pub record GoesOn (wanted : Bool) (s : SimValue) (ran : Ran) (line : Line) (before after : List ℕ) : Type 0 where
   pub made : RunsSo s (with_line ran line)
   pub wrote : after ≡ before ++ if_wanted wanted (output_of ran line)
-  pub going : s.over ≡ false
+  pub going : s.unfinished ≡ false
 
 -- What is to be written for a line, run after `ran`, was added to the output, which was `before` and is now `after`. If
 -- the Bool is true, this is the line's output. Otherwise it is what the line's turns add to the text of the history.
@@ -92,7 +92,7 @@ pub record HasRunPart (s : SimValue) (ran : Ran) (line : Line) : Type 0 where
   pub ran_of_it : ℕ
   pub few : ran_of_it ≤ 3
   pub history : part_of ran_of_it ran line ≡ Some s.history
-  pub over : s.over ≡ true
+  pub unfinished : s.unfinished ≡ true
 
 -- Memory ran out, and the line was run as a whole, not at all, or, if it is a hand-off, in part.
 abbrev pub MayHaveBroken : SimValue → Ran → Line → Type 0
@@ -125,12 +125,13 @@ abbrev pub TookAnswer : ℕ → ℕ → Command → List Turn → Stepped → St
 TookAnswer at by what h w v =
     IsFree v × ((e : Employed) → HasAsked at w e → Employs v (answered at (answer h (raw_turn at by what)) e))
 
--- The worker at the index `place` became another one, and `R` relates the two.
-pub record ChangedAt (place : ℕ) (R : Stepped → Stepped → Type 0) (old new : List Stepped) : Type 0 where
+-- `new` is the list `old` with the worker `is` in the place of the worker `was` at the index `index`, and `R` holds
+-- between `was` and `is`.
+pub record ChangedAt (index : ℕ) (R : Stepped → Stepped → Type 0) (old new : List Stepped) : Type 0 where
   pub was : Stepped
-  pub stood : slice_get old place ≡ Some was
+  pub stood : slice_get old index ≡ Some was
   pub is : Stepped
-  pub stands : new ≡ slice_set old place is
+  pub stands : new ≡ slice_set old index is
   pub related : R was is
 
 -- The history after a step of the actor `by` at the moment `at`: `h` with the turn of the step's command added, if the
@@ -152,17 +153,20 @@ MadeStep at by what h w v =
     IsFree v × ((e : Employed) → Employs w e → (command_at at (all_called e) ≡ what)
     × Employs v (employed_after h at by what e))
 
--- The worker at the index `place` made a step, which gave the command that comes next, if there is one.
-pub record StepsAt (wanted : Bool) (at by place : ℕ) (old new : SimValue) (before after : List ℕ) : Type 0 where
+-- The worker at the index `index` made a step at the moment `at`, in which `what` was its command, if it had one. `old`
+-- and `new` are the run before and after. If answers are wanted (`wanted`), the output of the step was added to the
+-- output, which was `before` and is now `after`.
+pub record StepsAt (wanted : Bool) (at by index : ℕ) (old new : SimValue) (before after : List ℕ) : Type 0 where
   pub what : Option Command
   pub history : new.history ≡ history_after old.history at by what
-  pub workers : ChangedAt place (MadeStep at by what old.history) old.workers new.workers
+  pub workers : ChangedAt index (MadeStep at by what old.history) old.workers new.workers
   pub wrote : after ≡ before ++ if_wanted wanted (command_output old.history at by what)
 
--- Memory ran out after the turn of the step had run.
-pub record TurnRan (at by place : ℕ) (old new : SimValue) : Type 0 where
+-- Memory ran out in a step of the worker at the index `index`, after its command `what` became a turn. `old` and `new`
+-- are the run before and after.
+pub record TurnRan (at by index : ℕ) (old new : SimValue) : Type 0 where
   pub was : Stepped
-  pub stood : slice_get old.workers place ≡ Some was
+  pub stood : slice_get old.workers index ≡ Some was
   pub what : Command
   pub next : (e : Employed) → Employs was e → command_at at (all_called e) ≡ Some what
   pub history : new.history ≡ (raw_turn at by what ∷ old.history)

@@ -43,7 +43,7 @@ hired name kind from = record {
 
 -- The actor of the worker at the index `index`, counted from 0.
 abbrev pub actor_at : ℕ → ℕ
-actor_at place = MOST_ACTOR + 1 + place
+actor_at index = MOST_ACTOR + 1 + index
 
 -- The index of the worker of the actor `by`, if `by` is above `MOST_ACTOR`.
 abbrev pub index_of : ℕ → ℕ

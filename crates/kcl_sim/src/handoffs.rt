@@ -40,7 +40,7 @@ fn call_hand(hand: &mut Handover<Stock>) -> Result<(), Memory>
 impl<M: Machine, K: Keep> Sim<M, K> {
     /// Applies the command `what` of a hand-off as a turn, and adds the command and its answer to the line of output.
     /// If memory runs out, the turn may already have been applied.
-    fn hand_turn(
+    fn make_hand_turn(
         &mut self,
         alloc: Global,
         at: Moment,
@@ -76,9 +76,9 @@ impl<M: Machine, K: Keep> Sim<M, K> {
         requires early { at < 2 ^ 62 }
         requires none_due { due_call hand.old.consumer.stage ≡ None }
         requires going { left_at hand.old.stand ≡ None }
-        ensures over { self.new.over ≡ self.old.over }
+        ensures unfinished { self.new.unfinished ≡ self.old.unfinished }
         ensures workers { self.new.workers ≡ self.old.workers }
-        ensures told { self.new.told ≡ self.old.told }
+        ensures since { self.new.since ≡ self.old.since }
         ensures fewer { OnOk result (turns_left_in hand.new < turns_left_in hand.old) }
         ensures none_due { OnOk result (due_call hand.new.consumer.stage ≡ None) }
         ensures made { OnOk result (MadeRound K.wanted at by self.old self.new hand.old hand.new text.old text.new) }
@@ -86,7 +86,7 @@ impl<M: Machine, K: Keep> Sim<M, K> {
             ⊎ RanCommand at by self.old self.new hand.old) }
     {
         let what = hand.next();
-        let answer = self.hand_turn(alloc, at, by, what, text)?;
+        let answer = self.make_hand_turn(alloc, at, by, what, text)?;
         hand.absorb(answer);
         call_hand(hand)
     }
@@ -103,9 +103,9 @@ impl<M: Machine, K: Keep> Sim<M, K> {
     ) -> Result<(), Memory>
         requires early { at < 2 ^ 62 }
         requires few { turns_left_in hand ≤ 3 }
-        ensures over { self.new.over ≡ self.old.over }
+        ensures unfinished { self.new.unfinished ≡ self.old.unfinished }
         ensures workers { self.new.workers ≡ self.old.workers }
-        ensures told { self.new.told ≡ self.old.told }
+        ensures since { self.new.since ≡ self.old.since }
         ensures ran { OnOk result (RanToEnd K.wanted at by self.old self.new hand to.old to.new) }
         ensures breaks { OnErr result (RanFirst at by self.old self.new hand) }
         ensures same { OnErr result (to.new ≡ to.old) }
@@ -133,24 +133,24 @@ impl<M: Machine, K: Keep> Sim<M, K> {
         to: &mut Octets,
     ) -> Result<(), Memory>
         requires early { at < 2 ^ 62 }
-        requires going { self.old.over ≡ false }
+        requires going { self.old.unfinished ≡ false }
         ensures goes { OnOk result ((ran : Ran) → RunsSo self.old ran
             → GoesOn K.wanted self.new ran (line.Hand at by key) to.old to.new) }
-        ensures told { OnOk result (self.new.told ≡ self.old.told) }
+        ensures since { OnOk result (self.new.since ≡ self.old.since) }
         ensures breaks { OnErr result ((ran : Ran) → RunsSo self.old ran
             → MayHaveBroken self.new ran (line.Hand at by key)) }
         ensures same { OnErr result (to.new ≡ to.old) }
     {
-        let Some(place) = self.index_of(by) else {
+        let Some(index) = self.index_of(by) else {
             return say_word::<K>(b"none".as_slice(), &mut self.line, to);
         };
-        let released = self.workers[place].release(key);
+        let released = self.workers[index].release(key);
         let Some((held, consumer)) = released else {
             return say_word::<K>(b"none".as_slice(), &mut self.line, to);
         };
-        self.over = true;
+        self.unfinished = true;
         self.hand_over(alloc, at, by, Handover::new(held, consumer), to)?;
-        self.over = false;
+        self.unfinished = false;
         Ok(())
     }
 }

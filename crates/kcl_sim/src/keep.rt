@@ -64,7 +64,7 @@ pub trait Keep {
 
     /// Appends to `to` the text that was gathered from the turns since the text was last emptied. If memory runs out,
     /// nothing is appended. The error is also returned if memory for this text ran out in an earlier turn.
-    fn tell(&self, to: &mut Octets) -> Result<(), Memory>
+    fn append_text(&self, to: &mut Octets) -> Result<(), Memory>
         ensures ok { (since h : List Turn) → keeps self.now since h
             → OnOk result (AddsText (text since) (text h) to.old to.new) }
         ensures err { OnErr result (to.new ≡ to.old) };
@@ -122,7 +122,7 @@ impl Keep for AllTurns {
 
     fn clear(&mut self) {}
 
-    fn tell(&self, to: &mut Octets) -> Result<(), Memory> {
+    fn append_text(&self, to: &mut Octets) -> Result<(), Memory> {
         let _ = to;
         Ok(())
     }
@@ -159,7 +159,7 @@ impl Keep for NoTurns {
 
     fn clear(&mut self) {}
 
-    fn tell(&self, to: &mut Octets) -> Result<(), Memory> {
+    fn append_text(&self, to: &mut Octets) -> Result<(), Memory> {
         let _ = to;
         Ok(())
     }

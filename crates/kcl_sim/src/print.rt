@@ -6,7 +6,7 @@ ghost use Rattle.std.specs.Prelude.{OnErr};
 ghost use Rattle.kds_defs.specs.Kinds.{is_lease_answer};
 ghost use Rattle.kds_reply.specs.Replies.{fault_reply};
 ghost use Rattle.kcl_script_fields.specs.Answers.{answer_text};
-ghost use Rattle.kcl_sim.specs.Output.{body_part, left_text, printed};
+ghost use Rattle.kcl_sim.specs.Output.{AddsWhole, body_part, left_text, printed};
 
 use kcl_hand::Left;
 use kcl_script_fields::fill_answer;
@@ -72,8 +72,7 @@ pub fn print_fault(
     to: &mut Octets,
 ) -> Result<(), Memory>
     requires { IsUtf8 problem.now.member }
-    ensures ok { OnOk result (to.new ≡ to.old ++ printed (fault_reply problem.now)) }
-    ensures err { OnErr result (to.new ≡ to.old) }
+    ensures { AddsWhole result to.old to.new (printed (fault_reply problem.now)) }
 {
     let (status, body) = fault(alloc, problem)?;
     print(alloc, status, body.as_slice(), line, to)
@@ -90,8 +89,7 @@ pub fn print_raw(
     to: &mut Octets,
 ) -> Result<(), Memory>
     requires { is_lease_answer answer.now ≡ true }
-    ensures ok { OnOk result (to.new ≡ to.old ++ (answer_text long answer.now ++ 10 ∷ [])) }
-    ensures err { OnErr result (to.new ≡ to.old) }
+    ensures { AddsWhole result to.old to.new (answer_text long answer.now ++ 10 ∷ []) }
 {
     line.clear();
     fill_answer(alloc, answer, long, line)?;
@@ -101,8 +99,7 @@ pub fn print_raw(
 
 /// Adds a line that consists only of `word`. If memory runs out, nothing is added.
 pub fn print_word(word: &[u8], line: &mut Octets, to: &mut Octets) -> Result<(), Memory>
-    ensures ok { OnOk result (to.new ≡ to.old ++ (word.now ++ 10 ∷ [])) }
-    ensures err { OnErr result (to.new ≡ to.old) }
+    ensures { AddsWhole result to.old to.new (word.now ++ 10 ∷ []) }
 {
     line.clear();
     line.extend(word)?;
@@ -117,8 +114,7 @@ pub fn print_worker(
     line: &mut Octets,
     to: &mut Octets,
 ) -> Result<(), Memory>
-    ensures ok { OnOk result (to.new ≡ to.old ++ (codes "worker " ++ (decimal by ++ 10 ∷ []))) }
-    ensures err { OnErr result (to.new ≡ to.old) }
+    ensures { AddsWhole result to.old to.new (codes "worker " ++ (decimal by ++ 10 ∷ [])) }
 {
     line.clear();
     line.extend(b"worker ".as_slice())?;

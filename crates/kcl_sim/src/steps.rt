@@ -17,7 +17,7 @@ ghost use Rattle.kcl_sim.specs.Workers.{Employed, answered, stopped};
 use crate::keep::Keep;
 use crate::sim::Sim;
 use crate::wanted::{say_answered, say_command, say_word, say_worker};
-use crate::workers::{absorb, ask, call_all};
+use crate::workers::{absorb, call_all, next_command};
 use kcl_defs::Settings;
 use kcl_proc::Kind;
 use kcl_worker::Worker;
@@ -49,10 +49,10 @@ impl<M: Machine, K: Keep> Sim<M, K> {
         to: &mut Octets,
     ) -> Result<(), Memory>
         requires name { 1 ≤ name }
-        requires going { self.old.over ≡ false }
+        requires going { self.old.unfinished ≡ false }
         ensures goes { OnOk result ((ran : Ran) → RunsSo self.old ran
             → GoesOn K.wanted self.new ran (line.Worker at name kind from) to.old to.new) }
-        ensures told { OnOk result (self.new.told ≡ self.old.told) }
+        ensures since { OnOk result (self.new.since ≡ self.old.since) }
         ensures kept { OnErr result (self.new ≡ self.old) }
         ensures same { OnErr result (to.new ≡ to.old) }
     {
@@ -74,9 +74,9 @@ impl<M: Machine, K: Keep> Sim<M, K> {
         if by <= MOST_ACTOR {
             return None;
         }
-        let place = (by - (MOST_ACTOR + 1)) as usize;
-        if place < self.workers.len() {
-            Some(place)
+        let index = (by - (MOST_ACTOR + 1)) as usize;
+        if index < self.workers.len() {
+            Some(index)
         } else {
             None
         }
@@ -85,18 +85,18 @@ impl<M: Machine, K: Keep> Sim<M, K> {
     /// Stops the worker that is the actor `by`, and adds the line `stopping` to the output. If no worker is this actor,
     /// only the line `none` is added. If memory runs out, the run and the output are unchanged.
     pub(crate) fn stop(&mut self, at: Moment, by: u32, to: &mut Octets) -> Result<(), Memory>
-        requires { self.old.over ≡ false }
+        requires { self.old.unfinished ≡ false }
         ensures goes { OnOk result ((ran : Ran) → RunsSo self.old ran
             → GoesOn K.wanted self.new ran (line.Stop at by) to.old to.new) }
-        ensures told { OnOk result (self.new.told ≡ self.old.told) }
+        ensures since { OnOk result (self.new.since ≡ self.old.since) }
         ensures kept { OnErr result (self.new ≡ self.old) }
         ensures same { OnErr result (to.new ≡ to.old) }
     {
         let _ = at;
         match self.index_of(by) {
-            Some(place) => {
+            Some(index) => {
                 say_word::<K>(b"stopping".as_slice(), &mut self.line, to)?;
-                self.workers[place].stop();
+                self.workers[index].stop();
                 Ok(())
             }
             None => say_word::<K>(b"none".as_slice(), &mut self.line, to),
@@ -105,26 +105,26 @@ impl<M: Machine, K: Keep> Sim<M, K> {
 
     /// Applies the command `what` as a turn of the worker at the index `index`, and adds a line of output with the
     /// command and its answer. If memory runs out, no output is added, and the turn may already have been applied.
-    fn turn_of(
+    fn make_turn(
         &mut self,
         alloc: Global,
         at: Moment,
         by: u32,
-        place: usize,
+        index: usize,
         what: Command,
         to: &mut Octets,
     ) -> Result<(), Memory>
         requires early { at < 2 ^ 62 }
         requires lawful { IsLawfulCommand what }
         requires lease { is_service what ≡ false }
-        requires over { self.old.over ≡ true }
-        requires asked { IfSome (slice_get self.old.workers place) (λ w. IsSome w.waiting) }
-        requires there { place < length self.old.workers }
-        ensures over { self.new.over ≡ true }
-        ensures told { OnOk result (self.new.told ≡ self.old.told) }
+        requires unfinished { self.old.unfinished ≡ true }
+        requires asked { IfSome (slice_get self.old.workers index) (λ w. IsSome w.waiting) }
+        requires there { index < length self.old.workers }
+        ensures unfinished { self.new.unfinished ≡ true }
+        ensures since { OnOk result (self.new.since ≡ self.old.since) }
         ensures history { OnOk result (self.new.history ≡ raw_turn at by what ∷ self.old.history) }
         ensures worker { OnOk result
-            (ChangedAt place (TookAnswer at by what self.old.history) self.old.workers self.new.workers) }
+            (ChangedAt index (TookAnswer at by what self.old.history) self.old.workers self.new.workers) }
         ensures output { OnOk result (to.new ≡ to.old
             ++ if_wanted K.wanted (command_output self.old.history at by (Some what))) }
         ensures breaks { OnErr result ((self.new.history ≡ self.old.history)
@@ -135,7 +135,7 @@ impl<M: Machine, K: Keep> Sim<M, K> {
         say_command::<K>(alloc, &what, &mut text)?;
         let answer = self.run(alloc, Turn { by, at, what })?;
         say_answered::<K>(alloc, &answer, &mut text)?;
-        absorb(&mut self.workers[place], at, answer)?;
+        absorb(&mut self.workers[index], at, answer)?;
         to.extend(text.as_slice())
     }
 
@@ -147,22 +147,22 @@ impl<M: Machine, K: Keep> Sim<M, K> {
         alloc: Global,
         at: Moment,
         by: u32,
-        place: usize,
+        index: usize,
         to: &mut Octets,
     ) -> Result<(), Memory>
         requires early { at < 2 ^ 62 }
-        requires over { self.old.over ≡ true }
-        requires there { place < length self.old.workers }
-        requires free { IfSome (slice_get self.old.workers place) IsFree }
-        ensures over { self.new.over ≡ true }
-        ensures told { OnOk result (self.new.told ≡ self.old.told) }
-        ensures steps { OnOk result (StepsAt K.wanted at by place self.old self.new to.old to.new) }
-        ensures breaks { OnErr result ((self.new.history ≡ self.old.history) ⊎ TurnRan at by place self.old self.new) }
+        requires unfinished { self.old.unfinished ≡ true }
+        requires there { index < length self.old.workers }
+        requires free { IfSome (slice_get self.old.workers index) IsFree }
+        ensures unfinished { self.new.unfinished ≡ true }
+        ensures since { OnOk result (self.new.since ≡ self.old.since) }
+        ensures steps { OnOk result (StepsAt K.wanted at by index self.old self.new to.old to.new) }
+        ensures breaks { OnErr result ((self.new.history ≡ self.old.history) ⊎ TurnRan at by index self.old self.new) }
         ensures same { OnErr result (to.new ≡ to.old) }
     {
-        call_all(&mut self.workers[place])?;
-        match ask(&mut self.workers[place], at) {
-            Some(what) => self.turn_of(alloc, at, by, place, what, to),
+        call_all(&mut self.workers[index])?;
+        match next_command(&mut self.workers[index], at) {
+            Some(what) => self.make_turn(alloc, at, by, index, what, to),
             None => say_word::<K>(b"idle".as_slice(), &mut self.line, to),
         }
     }
@@ -178,19 +178,19 @@ impl<M: Machine, K: Keep> Sim<M, K> {
         to: &mut Octets,
     ) -> Result<(), Memory>
         requires early { at < 2 ^ 62 }
-        requires going { self.old.over ≡ false }
+        requires going { self.old.unfinished ≡ false }
         ensures goes { OnOk result ((ran : Ran) → RunsSo self.old ran
             → GoesOn K.wanted self.new ran (line.Step at by) to.old to.new) }
-        ensures told { OnOk result (self.new.told ≡ self.old.told) }
+        ensures since { OnOk result (self.new.since ≡ self.old.since) }
         ensures breaks { OnErr result ((ran : Ran) → RunsSo self.old ran → MayHaveRun self.new ran (line.Step at by)) }
         ensures same { OnErr result (to.new ≡ to.old) }
     {
-        let Some(place) = self.index_of(by) else {
+        let Some(index) = self.index_of(by) else {
             return say_word::<K>(b"none".as_slice(), &mut self.line, to);
         };
-        self.over = true;
-        self.step_at(alloc, at, by, place, to)?;
-        self.over = false;
+        self.unfinished = true;
+        self.step_at(alloc, at, by, index, to)?;
+        self.unfinished = false;
         Ok(())
     }
 }

@@ -1,13 +1,13 @@
 //! Functions that add lines of output if the run outputs answers. The type `K` decides whether it does: `K` wants
 //! answers if the run outputs them. If `K` doesn't want answers, these functions make no text and add nothing. A survey
 //! is the lease command that lists the shards and the rows of the lease table.
-ghost use Rattle.std.specs.Prelude.{◌≡◌, ◌∷◌, ◌++◌, [], codes, decimal, true, false, IsUtf8, OnErr, OnOk};
+ghost use Rattle.std.specs.Prelude.{◌≡◌, ◌∷◌, ◌++◌, [], codes, decimal, true, false, IsUtf8, OnOk};
 ghost use Rattle.kds_defs.specs.Kinds.{is_lease_answer, is_service, is_service_answer};
 ghost use Rattle.kds_reply.specs.Replies.{fault_reply, reply_of};
 ghost use Rattle.kcl_script_fields.specs.Answers.{answer_text};
 ghost use Rattle.kcl_script_fields.specs.Commands.{command_text};
 ghost use Rattle.kcl_sim.specs.Keeping.{if_wanted};
-ghost use Rattle.kcl_sim.specs.Output.{left_text, printed};
+ghost use Rattle.kcl_sim.specs.Output.{AddsWhole, left_text, printed};
 
 use crate::keep::Keep;
 use crate::print::{
@@ -29,8 +29,7 @@ fn print_reply(
     to: &mut Octets,
 ) -> Result<(), Memory>
     requires { is_service_answer answer.now ≡ true }
-    ensures ok { OnOk result (to.new ≡ to.old ++ printed (reply_of answer.now)) }
-    ensures err { OnErr result (to.new ≡ to.old) }
+    ensures { AddsWhole result to.old to.new (printed (reply_of answer.now)) }
 {
     let (status, body) = reply(alloc, answer)?;
     print(alloc, status, body.as_slice(), line, to)
@@ -45,8 +44,7 @@ pub fn say_reply<K: Keep>(
     to: &mut Octets,
 ) -> Result<(), Memory>
     requires { is_service_answer answer.now ≡ true }
-    ensures ok { OnOk result (to.new ≡ to.old ++ if_wanted K.wanted (printed (reply_of answer.now))) }
-    ensures err { OnErr result (to.new ≡ to.old) }
+    ensures { AddsWhole result to.old to.new (if_wanted K.wanted (printed (reply_of answer.now))) }
 {
     if K::wants_answers() {
         print_reply(alloc, answer, line, to)
@@ -63,8 +61,7 @@ pub fn say_fault<K: Keep>(
     to: &mut Octets,
 ) -> Result<(), Memory>
     requires { IsUtf8 problem.now.member }
-    ensures ok { OnOk result (to.new ≡ to.old ++ if_wanted K.wanted (printed (fault_reply problem.now))) }
-    ensures err { OnErr result (to.new ≡ to.old) }
+    ensures { AddsWhole result to.old to.new (if_wanted K.wanted (printed (fault_reply problem.now))) }
 {
     if K::wants_answers() {
         print_fault(alloc, problem, line, to)
@@ -84,8 +81,7 @@ pub fn say_raw<K: Keep>(
     to: &mut Octets,
 ) -> Result<(), Memory>
     requires { is_lease_answer answer.now ≡ true }
-    ensures ok { OnOk result (to.new ≡ to.old ++ if_wanted K.wanted (answer_text long answer.now ++ 10 ∷ [])) }
-    ensures err { OnErr result (to.new ≡ to.old) }
+    ensures { AddsWhole result to.old to.new (if_wanted K.wanted (answer_text long answer.now ++ 10 ∷ [])) }
 {
     if K::wants_answers() {
         print_raw(alloc, answer, long, line, to)
@@ -96,8 +92,7 @@ pub fn say_raw<K: Keep>(
 
 /// Adds a line that consists only of `word`, if `K` wants answers. If memory runs out, nothing is added.
 pub fn say_word<K: Keep>(word: &[u8], line: &mut Octets, to: &mut Octets) -> Result<(), Memory>
-    ensures ok { OnOk result (to.new ≡ to.old ++ if_wanted K.wanted (word.now ++ 10 ∷ [])) }
-    ensures err { OnErr result (to.new ≡ to.old) }
+    ensures { AddsWhole result to.old to.new (if_wanted K.wanted (word.now ++ 10 ∷ [])) }
 {
     if K::wants_answers() {
         print_word(word, line, to)
@@ -114,8 +109,7 @@ pub fn say_worker<K: Keep>(
     line: &mut Octets,
     to: &mut Octets,
 ) -> Result<(), Memory>
-    ensures ok { OnOk result (to.new ≡ to.old ++ if_wanted K.wanted (codes "worker " ++ (decimal by ++ 10 ∷ []))) }
-    ensures err { OnErr result (to.new ≡ to.old) }
+    ensures { AddsWhole result to.old to.new (if_wanted K.wanted (codes "worker " ++ (decimal by ++ 10 ∷ []))) }
 {
     if K::wants_answers() {
         print_worker(alloc, by, line, to)
@@ -127,8 +121,7 @@ pub fn say_worker<K: Keep>(
 /// Adds the text of a lease command, if `K` wants answers. If memory runs out, nothing is added.
 pub fn say_command<K: Keep>(alloc: Global, what: &Command, to: &mut Octets) -> Result<(), Memory>
     requires { is_service what.now ≡ false }
-    ensures ok { OnOk result (to.new ≡ to.old ++ if_wanted K.wanted (command_text what.now)) }
-    ensures err { OnErr result (to.new ≡ to.old) }
+    ensures { AddsWhole result to.old to.new (if_wanted K.wanted (command_text what.now)) }
 {
     if K::wants_answers() {
         print_command(alloc, what, to)

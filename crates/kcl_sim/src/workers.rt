@@ -27,7 +27,7 @@ pub fn call_all(worker: &mut Worker<Stock, Kind>) -> Result<(), Memory>
 
 /// Returns the worker's next command at the time `now`. If the worker was stopped and has nothing left to do, it is
 /// idle, and the result is `None`. Preconditions: no processor call is due, and the worker waits for no answer.
-pub fn ask(worker: &mut Worker<Stock, Kind>, now: Moment) -> Option<Command>
+pub fn next_command(worker: &mut Worker<Stock, Kind>, now: Moment) -> Option<Command>
     requires free { worker.old.waiting ≡ None }
     requires none_due { due_in worker.old.consumers ≡ None }
     ensures lawful { IfSome result IsLawfulCommand }
@@ -45,7 +45,7 @@ pub fn ask(worker: &mut Worker<Stock, Kind>, now: Moment) -> Option<Command>
 }
 
 /// Drops the answer that the worker couldn't process because memory ran out, and returns the error.
-fn without(left: NoRoom) -> Memory {
+fn drop_answer(left: NoRoom) -> Memory {
     let_go(left.answer);
     Memory
 }
@@ -59,6 +59,6 @@ pub fn absorb(worker: &mut Worker<Stock, Kind>, now: Moment, answer: Answer) -> 
 {
     match worker.absorb(now, answer) {
         Ok(()) => Ok(()),
-        Err(left) => Err(without(left)),
+        Err(left) => Err(drop_answer(left)),
     }
 }

@@ -72,7 +72,7 @@ pub fn find<'a>(streams: &'a [Known], name: &Name) -> Option<&'a Known>
 
 /// Updates the live streams after an entry. A stream that the entry deletes is removed. Entries that create a stream
 /// aren't handled here.
-pub fn keep(streams: &mut Vec<Known>, what: &Entry)
+pub fn change(streams: &mut Vec<Known>, what: &Entry)
     ensures { streams.new.items ≡ changed what.now streams.old.items }
 {
     for i in 0..streams.len() {

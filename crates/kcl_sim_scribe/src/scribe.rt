@@ -12,7 +12,7 @@ ghost use Rattle.kcl_sim_scribe.specs.Telling.{CanTell, MayNumber, told_after, t
 ghost use Rattle.kcl_sim_scribe.specs.Telling.{changed_name as name_changed, entries_of, line_by, lines_by};
 
 use crate::entries::on_stream;
-use crate::known::{Known, find, keep};
+use crate::known::{Known, change, find};
 use crate::leases::on_leases;
 use kcl_journal::EntryLine;
 use kds_base::{Items, Memory, Moment, Name, StreamNo};
@@ -87,11 +87,11 @@ fn lines_of(
 }
 
 /// Updates the live streams after the entries of `lines`, one after another.
-fn keep_all(streams: &mut Vec<Known>, lines: &[EntryLine])
+fn change_all(streams: &mut Vec<Known>, lines: &[EntryLine])
     ensures { streams.new.items ≡ changed_by (map (λ l. l.what) lines.now) streams.old.items }
 {
     for line in lines {
-        keep(streams, &line.what);
+        change(streams, &line.what);
     }
 }
 
@@ -109,7 +109,7 @@ impl Scribe {
 
     /// Notes that the actor `by` created a stream. Returns a list with the journal line of this creation. If memory
     /// runs out, the scribe is unchanged.
-    fn make(
+    fn note_created(
         &mut self,
         alloc: Global,
         clock: Moment,
@@ -146,7 +146,7 @@ impl Scribe {
 
     /// Notes that the command `what` of the actor `by` was accepted with the reply `reply`. Returns the lines that the
     /// command adds to the journal. If memory runs out, the scribe is unchanged.
-    fn accept(
+    fn note_accepted(
         &mut self,
         alloc: Global,
         clock: Moment,
@@ -160,11 +160,11 @@ impl Scribe {
         ensures err { OnErr result (self.new ≡ self.old) }
     {
         if let Command::Create { name, shards } = what {
-            return self.make(alloc, clock, by, name, *shards);
+            return self.note_created(alloc, clock, by, name, *shards);
         }
         let entries = entries_of(alloc, &self.streams, what, reply)?;
         let lines = lines_of(alloc, clock, by, entries)?;
-        keep_all(&mut self.streams, lines.as_slice());
+        change_all(&mut self.streams, lines.as_slice());
         Ok(lines)
     }
 
@@ -182,13 +182,13 @@ impl Scribe {
         requires answered { (h : List Turn) × (StandsFor self.old h × (answer.now ≡ answer_after h turn.now)) }
         ensures lines { (h : List Turn) → StandsFor self.old h → answer.now ≡ answer_after h turn.now
             → IfOk result (λ ls. ls ≡ added_entries h turn.now) }
-        ensures after { (h : List Turn) → StandsFor self.old h → answer.now ≡ answer_after h turn.now
+        ensures stands { (h : List Turn) → StandsFor self.old h → answer.now ≡ answer_after h turn.now
             → OnOk result (StandsFor self.new (turn.now ∷ h)) }
         ensures kept { OnErr result (self.new ≡ self.old) }
     {
         let clock = self.clock.later(turn.at);
         let lines = match answer {
-            Ok(reply) => self.accept(alloc, clock, turn.by, &turn.what, reply)?,
+            Ok(reply) => self.note_accepted(alloc, clock, turn.by, &turn.what, reply)?,
             Err(_) => Items::new(alloc),
         };
         self.clock = clock;

@@ -36,13 +36,14 @@ partitioned key (r ∷ rs) order (suc i) zero d le within is = absurd (omega ari
 partitioned key (r ∷ rs) order (suc i) (suc j) d le within is =
     partitioned key rs order.1 i j d (omega arith) (omega arith) is
 
-pub place_is : (key : ShardRef) (rs : List Row) (i : ℕ) → i ≤ length rs
+-- If `i` parts the rows before the key `key` from the others, `i` is the index of this key (`index_of`).
+pub index_is : (key : ShardRef) (rs : List Row) (i : ℕ) → i ≤ length rs
     → IsPartitionPoint (λ r. comes_before key r ≡ true) (λ r. comes_before key r ≡ false) rs i → i ≡ index_of key rs
-place_is key [] i le h = omega arith
-place_is key (r ∷ rs) zero le h =
+index_is key [] i le h = omega arith
+index_is key (r ∷ rs) zero le h =
     ap (λ b. if b then suc (index_of key rs) else 0) (sym (h.1 0 r (omega arith) (omega arith)))
-place_is key (r ∷ rs) (suc i) le h =
-    let rest = place_is key rs i (omega arith) (
+index_is key (r ∷ rs) (suc i) le h =
+    let rest = index_is key rs i (omega arith) (
       λ k d low high. h.0 (suc k) d (omega arith) (omega arith),
       λ k d low high. h.1 (suc k) d (omega arith) (omega arith),
     ) in

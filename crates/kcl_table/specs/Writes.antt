@@ -11,9 +11,10 @@ use Rattle.kds_defs.specs.StreamCommands.{last_number}
 use Rattle.kcl_table.specs.declared.writes.Change.{Change}
 use Rattle.kcl_table.specs.declared.writes.Change.TheVariants as change
 
--- The counter after one more write, or a refusal if the counter can't rise.
-abbrev pub counted : ℕ → Result ℕ Refusal
-counted counter = if counter == last_number then Err refusal.Spent else Ok (counter + 1)
+-- The counter after one more write of a row that has the counter `counter`, or the refusal `Spent` if it is the
+-- greatest possible counter.
+abbrev pub next_counter : ℕ → Result ℕ Refusal
+next_counter counter = if counter == last_number then Err refusal.Spent else Ok (counter + 1)
 
 -- The answer to a take of the row `o`: its counter after the take. It is refused if there is no row, its counter isn't
 -- `counter` or can't rise, or its checkpoint is the shard's end.
@@ -24,9 +25,10 @@ take_answer o counter = past_take results o counter (λ r. r.counter == last_num
 abbrev pub held_answer : Option Row → ℕ → ℕ → Result ℕ Refusal → Result ℕ Refusal
 held_answer o tenure counter next = past_held results o tenure counter next
 
--- The answer if the tenure renews its row, or frees it.
-abbrev pub renew_answer : Option Row → ℕ → ℕ → Result ℕ Refusal
-renew_answer o tenure counter = past_renewal results o tenure counter (Ok (counter_in o + 1))
+-- The answer to a renewal or a freeing of the row `o` by the tenure `tenure`: the row's counter after the write. It is
+-- refused if the row doesn't name this tenure, or if its counter isn't `counter` or can't rise.
+abbrev pub write_answer : Option Row → ℕ → ℕ → Result ℕ Refusal
+write_answer o tenure counter = past_renewal results o tenure counter (Ok (counter_in o + 1))
 
 -- The row after this change: after a renewal, or after a freeing.
 abbrev pub written_row : Change → Row → Row
@@ -37,7 +39,7 @@ written_row change.Freed = freed_row
 -- is refused if the checkpoint can't be set to `to`, or if the counter can't rise. Below `delivered` are the numbers
 -- that were given in the tenure, and `at_end` is true if its last given read ended the shard.
 abbrev pub target_answer : Option Row → Target → ℕ → Bool → Result ℕ Refusal
-target_answer o to delivered at_end = past_checkpoint results o to delivered at_end (counted (counter_in o))
+target_answer o to delivered at_end = past_checkpoint results o to delivered at_end (next_counter (counter_in o))
 
 -- The answer to a mark of the row `o` at `to` by the tenure `tenure`: the row's counter after the mark. It is refused
 -- if the row doesn't name this tenure, its counter isn't `counter` or can't rise, or the checkpoint can't be set to

@@ -5,11 +5,11 @@ ghost use Rattle.std.specs.Option.{option_map};
 ghost use Rattle.kds_defs.specs.declared.reply.Refusal.TheVariants as refusal;
 ghost use Rattle.kds_defs.specs.Leases.{marked_row, new_row, taken_row};
 ghost use Rattle.kcl_table.specs.Rows.{changed, row_of, with_row, without_row};
-ghost use Rattle.kcl_table.specs.Writes.{cut_answer, mark_answer, renew_answer, take_answer, written_row};
+ghost use Rattle.kcl_table.specs.Writes.{cut_answer, mark_answer, write_answer, take_answer, written_row};
 
 use crate::search::{index_of, row_of};
 use crate::writes::{
-    Change, check_owner, marked, next_counter, take_counter, taken, target_counter, written,
+    Change, held_row, marked, take_counter, taken, target_counter, write_counter, written,
 };
 use kds_base::{Checkpoint, Items, Memory, Seq, ShardNo, ShardRef, TenureNo, WorkerNo};
 use kds_defs::{Refusal, Row, Target};
@@ -136,12 +136,12 @@ impl Table {
         change: Change,
     ) -> Result<u64, Refusal>
         requires { tenure ≢ 0 }
-        ensures value { result ≡ renew_answer (row_of self.old key) tenure counter }
+        ensures value { result ≡ write_answer (row_of self.old key) tenure counter }
         ensures written { OnOk result (self.new ≡ changed (written_row change) key self.old) }
         ensures refused { OnErr result (self.new ≡ self.old) }
     {
-        let row = check_owner(&self.rows, &key, tenure, counter)?;
-        let next = next_counter(&row)?;
+        let row = held_row(&self.rows, &key, tenure, counter)?;
+        let next = write_counter(&row)?;
         self.put(written(&row, change));
         Ok(next)
     }
@@ -168,7 +168,7 @@ impl Table {
         ensures marked { OnOk result (self.new ≡ changed (marked_row to) key self.old) }
         ensures refused { OnErr result (self.new ≡ self.old) }
     {
-        let row = check_owner(&self.rows, &key, tenure, counter)?;
+        let row = held_row(&self.rows, &key, tenure, counter)?;
         let next = target_counter(&row, &to, delivered, at_end)?;
         self.put(marked(&row, &to));
         Ok(next)

@@ -5,7 +5,7 @@ ghost use Rattle.kds_defs.specs.declared.reply.Refusal.{Refusal};
 ghost use Rattle.kds_defs.specs.RowWrites.{least};
 ghost use Rattle.kds_defs.specs.Leases.{checkpoint_at, marked_row, taken_row};
 ghost use Rattle.kcl_table.specs.Rows.{AreInOrder, row_of};
-ghost use Rattle.kcl_table.specs.Writes.{counted, held_answer, take_answer, target_answer, written_row};
+ghost use Rattle.kcl_table.specs.Writes.{next_counter, held_answer, take_answer, target_answer, written_row};
 
 use crate::search::row_of;
 use kds_base::{Checkpoint, Seq, ShardRef, TenureNo, WorkerNo};
@@ -20,8 +20,8 @@ pub enum Change {
 
 /// Returns the counter that a row has after its next write. The refusal is `Spent` if the present counter, `counter`,
 /// is the greatest `u64`.
-fn counted(counter: u64) -> Result<u64, Refusal>
-    ensures { result ≡ counted counter }
+fn next_counter(counter: u64) -> Result<u64, Refusal>
+    ensures { result ≡ next_counter counter }
 {
     if counter == u64::MAX {
         return Err(Refusal::Spent);
@@ -40,12 +40,12 @@ pub fn take_counter(row: &Row, counter: u64) -> Result<u64, Refusal>
     if row.checkpoint.is_end() {
         return Err(Refusal::Ended);
     }
-    counted(row.counter)
+    next_counter(row.counter)
 }
 
 /// Returns the row of `key` if the tenure `tenure` holds the row and the row's counter is `counter`. The refusals
 /// `Lost` and `Moved` are as in `Table::write`.
-pub fn check_owner(
+pub fn held_row(
     rows: &[Row],
     key: &ShardRef,
     tenure: TenureNo,
@@ -72,10 +72,10 @@ pub fn check_owner(
 }
 
 /// Returns the counter that the row has after it is renewed or freed. The refusal `Spent` is as in `Table::write`.
-pub fn next_counter(row: &Row) -> Result<u64, Refusal>
-    ensures { result ≡ counted row.now.counter }
+pub fn write_counter(row: &Row) -> Result<u64, Refusal>
+    ensures { result ≡ next_counter row.now.counter }
 {
-    counted(row.counter)
+    next_counter(row.counter)
 }
 
 /// Returns the least sequence number to which the row's checkpoint may be set. It is the present checkpoint if this
@@ -114,7 +114,7 @@ pub fn target_counter(row: &Row, to: &Target, delivered: u64, at_end: bool) -> R
             }
         }
     }
-    counted(row.counter)
+    next_counter(row.counter)
 }
 
 /// Returns the row as it is after the worker `owner` takes it and the tenure `tenure` begins.

@@ -43,13 +43,14 @@ partitioned key (s ∷ xs) order (suc i) zero d le within is = absurd (omega ari
 partitioned key (s ∷ xs) order (suc i) (suc j) d le within is =
     partitioned key xs order.1 i j d (omega arith) (omega arith) is
 
-pub place_is : (key : ShardRef) (xs : List Seen) (i : ℕ) → i ≤ length xs
+-- If `i` parts the notes before the key `key` from the others, `i` is the index of this key (`index_of`).
+pub index_is : (key : ShardRef) (xs : List Seen) (i : ℕ) → i ≤ length xs
     → IsPartitionPoint (λ s. comes_before key s ≡ true) (λ s. comes_before key s ≡ false) xs i → i ≡ index_of key xs
-place_is key [] i le h = omega arith
-place_is key (s ∷ xs) zero le h =
+index_is key [] i le h = omega arith
+index_is key (s ∷ xs) zero le h =
     ap (λ b. if b then suc (index_of key xs) else 0) (sym (h.1 0 s (omega arith) (omega arith)))
-place_is key (s ∷ xs) (suc i) le h =
-    let rest = place_is key xs i (omega arith) (
+index_is key (s ∷ xs) (suc i) le h =
+    let rest = index_is key xs i (omega arith) (
       λ k d low high. h.0 (suc k) d (omega arith) (omega arith),
       λ k d low high. h.1 (suc k) d (omega arith) (omega arith),
     ) in

@@ -15,15 +15,15 @@ use Rattle.kcl_defs.specs.Consumers.{Losing}
 use Rattle.kcl_defs.specs.Workers.{AtConsumers, AtRenewals, AtSync, Chore, Consuming, Finishing, Freeing, Got_answer}
 use Rattle.kcl_defs.specs.Workers.{Known, Pending, Renewing, Round, WorkerPast, WorkerState, absorbed, after_chore}
 use Rattle.kcl_defs.specs.Workers.{after_renewal, consumed, happens_to, held_after, held_unless_over, id_of, id_of_held}
-use Rattle.kcl_defs.specs.Workers.{known_of, stage_in, same_id, settled, without_held, worker_after}
-use Rattle.kcl_consumer.specs.Standing.{Standing}
-use Rattle.kcl_worker_lists.specs.Changes.{answered_among, held_in, kept_unless_over, live_among, lost_among, one_of}
+use Rattle.kcl_defs.specs.Workers.{known_of, stage_in, same_id, after_retiring, without_held, worker_after}
+use Rattle.kcl_consumer.specs.Standing.{ConsumerValue}
+use Rattle.kcl_worker_lists.specs.Changes.{answered_among, held_in, kept_unless_over, live_among, lost_among, first_of}
 use Rattle.kcl_worker_lists.specs.Changes.{stage_or_opening, retired_among}
 use Rattle.kcl_worker.specs.Standing.{settled_in}
 use Rattle.kcl_worker_lists.specs.Lists.{Retirement}
 use Rattle.kcl_worker.specs.Standing.{ConsumersStand, RetirementsStand, ShowsState, StandsFor, WorkerStanding}
 use Rattle.kcl_worker.specs.Written.{Leaves, renewal_by}
-use Rattle.kcl_worker.specs.declared.answers.Written.TheVariants as written
+use Rattle.kcl_worker.specs.declared.answers.RowAnswer.TheVariants as row_answer
 use Rattle.kcl_worker.proofs.Happenings.{answered_stand, lost_stand}
 use Rattle.kcl_worker.proofs.Outlooks.{IsFoundSo, found_so}
 use Rattle.kcl_worker.proofs.Standings.{settled_shows}
@@ -39,7 +39,7 @@ waits_for (Some p) chore e = (p, refl, cc)
 -- state after the answer to the chore `chore`, and with the consumers that are over retired.
 pub absorbed_stands : {P F : Type 0} (stands : P → List Call → Type 0) (w new : WorkerStanding P F) (now : ℕ)
     (answer : Result Reply Refusal) (chore : Chore) (round : Round) (seen : List Seen) (held : List Held)
-    (consumers : List (Standing P)) (maker : F) (past : WorkerPast) → w.waiting ≡ Some chore
+    (consumers : List (ConsumerValue P)) (maker : F) (past : WorkerPast) → w.waiting ≡ Some chore
     → new ≡ settled_in (record w {
       round = round;
       waiting = None;
@@ -67,7 +67,7 @@ absorbed_stands {P} {F} stands w new now answer chore round seen held consumers 
     subst S (sym is) (record {
       orderly = (tt, st.orderly);
       shows =
-          subst T (ap (λ c. settled (after_chore w.made now answer c (record s { waiting = None }))) (sym p.2)
+          subst T (ap (λ c. after_retiring (after_chore w.made now answer c (record s { waiting = None }))) (sym p.2)
           ∙ ap (λ o. absorbed w.made now answer s o) (sym p.1))
           (settled_shows stands before _ (leads s st.shows));
     })
@@ -119,15 +119,16 @@ finished_shows stands w s id answer h = record {
   retired = h.retired;
 }
 
--- The consumer of a lease is in the same stage in the code's list and in the record.
-stage_found : {P : Type 0} (o : Option (Standing P)) (k : Option Known) → IsFoundSo o k
+-- The consumer `o` of the code has the stage of the consumer `k` of the record, if both were found by the same lease.
+stage_found : {P : Type 0} (o : Option (ConsumerValue P)) (k : Option Known) → IsFoundSo o k
     → stage_or_opening o ≡ stage_in k
 stage_found None None f = refl
 stage_found (Some c) (Some k) f = f.1
 stage_found None (Some k) f = absurd f
 stage_found (Some c) None f = absurd f
 
-kept_found : {P : Type 0} (id : LeaseId) (o : Option (Standing P)) (k : Option Known) (held : List Held) → IsFoundSo o k
+kept_found : {P : Type 0} (id : LeaseId) (o : Option (ConsumerValue P)) (k : Option Known) (held : List Held)
+    → IsFoundSo o k
     → kept_unless_over id o held ≡ held_unless_over id k held
 kept_found id None None held f = refl
 kept_found id (Some c) (Some k) held f = ap (λ p. kept_unless_over id (Some (record c { stage = p })) held) f.1
@@ -155,12 +156,12 @@ consumed_shows stands w s now id answer h =
       waiting = refl;
       seen = h.seen;
       held =
-          ap (λ hs. kept_unless_over id (one_of id (answered_among id answer w.consumers))
-          (held_after now id (stage_or_opening (one_of id w.consumers)) answer hs)) h.held
-          ∙ ap (λ p. kept_unless_over id (one_of id (answered_among id answer w.consumers))
+          ap (λ hs. kept_unless_over id (first_of id (answered_among id answer w.consumers))
+          (held_after now id (stage_or_opening (first_of id w.consumers)) answer hs)) h.held
+          ∙ ap (λ p. kept_unless_over id (first_of id (answered_among id answer w.consumers))
           (held_after now id p answer s.held))
-          (stage_found (one_of id w.consumers) (known_of id s.consumers) first)
-          ∙ kept_found id (one_of id (answered_among id answer w.consumers))
+          (stage_found (first_of id w.consumers) (known_of id s.consumers) first)
+          ∙ kept_found id (first_of id (answered_among id answer w.consumers))
           (known_of id (consumed id answer s.consumers))
           (held_after now id (stage_in (known_of id s.consumers)) answer s.held) last;
       consumers = after;
@@ -173,7 +174,7 @@ consumed_shows stands w s now id answer h =
 -- the consumers that are over retired, stands for its record with the answer added.
 pub absorbed_leaves : {P F : Type 0} (stands : P → List Call → Type 0) (w old : WorkerStanding P F) → w ≡ old
     → (now : ℕ) (answer : Result Reply Refusal) (chore : Chore) (round : Round) (held : List Held)
-    (consumers cs : List (Standing P)) (rs : List (Retirement P)) (past : WorkerPast) → old.waiting ≡ Some chore
+    (consumers cs : List (ConsumerValue P)) (rs : List (Retirement P)) (past : WorkerPast) → old.waiting ≡ Some chore
     → cs ≡ live_among consumers → rs ≡ w.retired ++ retired_among consumers
     → ((s : WorkerState) → ShowsState stands w s
     → ShowsState stands (record w { round = round; waiting = None; held = held; consumers = consumers })
@@ -195,7 +196,7 @@ absorbed_leaves stands w old is now answer chore round held consumers cs rs past
 -- If the worker `w` agrees with the state `s`, it agrees with the state `t` after it got the leases and the consumers
 -- of `t`, which otherwise equals `s` with the round `round` and no waiting command.
 left_shows : {P F : Type 0} (stands : P → List Call → Type 0) (w : WorkerStanding P F) (s t : WorkerState)
-    (round : Round) (held : List Held) (cs : List (Standing P)) → ShowsState stands w s
+    (round : Round) (held : List Held) (cs : List (ConsumerValue P)) → ShowsState stands w s
     → Leaves stands (record s { waiting = None; round = round }) t held cs
     → ShowsState stands (record w { round = round; waiting = None; held = held; consumers = cs }) t
 left_shows stands w s t round held cs h l = record {
@@ -211,7 +212,7 @@ left_shows stands w s t round held cs h l = record {
 -- stands for its record with this answer added.
 pub renewal_leaves : {P F : Type 0} (stands : P → List Call → Type 0) (w old : WorkerStanding P F) → w ≡ old
     → (now : ℕ) (answer : Result Reply Refusal) (h : Held) (id : LeaseId) (held : List Held)
-    (consumers cs : List (Standing P)) (rs : List (Retirement P)) (past : WorkerPast) → id ≡ id_of_held h
+    (consumers cs : List (ConsumerValue P)) (rs : List (Retirement P)) (past : WorkerPast) → id ≡ id_of_held h
     → old.waiting ≡ Some (Renewing h) → cs ≡ live_among consumers → rs ≡ w.retired ++ retired_among consumers
     → ((s : WorkerState) → w.held ≡ s.held → ConsumersStand stands w.consumers s.consumers
     → Leaves stands s (after_renewal now h answer s) held consumers) → StandsFor stands old past
@@ -239,7 +240,8 @@ renewal_leaves stands w old is now answer h id held consumers cs rs past same wa
 -- After the answer to a command of the consumer of the lease `id`, the worker with the leases and consumers to which
 -- the answer leads stands for its record with this answer added.
 pub consumer_leaves : {P F : Type 0} (stands : P → List Call → Type 0) (w old : WorkerStanding P F) → w ≡ old
-    → (now : ℕ) (answer : Result Reply Refusal) (id : LeaseId) (held : List Held) (consumers cs : List (Standing P))
+    → (now : ℕ) (answer : Result Reply Refusal) (id : LeaseId) (held : List Held)
+    (consumers cs : List (ConsumerValue P))
     (rs : List (Retirement P)) (past : WorkerPast) → old.waiting ≡ Some (Consuming id)
     → held ≡ held_in now id answer w.consumers w.held → consumers ≡ answered_among id answer w.consumers
     → cs ≡ live_among consumers → rs ≡ w.retired ++ retired_among consumers → StandsFor stands old past
@@ -261,7 +263,7 @@ consumer_leaves stands w old is now answer id held consumers cs rs past waits a 
 -- After the answer to a Give of the stopped worker, by the consumer of the lease `id`, the worker stands for its record
 -- with this answer added.
 pub give_leaves : {P F : Type 0} (stands : P → List Call → Type 0) (w old : WorkerStanding P F) → w ≡ old
-    → (now : ℕ) (answer : Result Reply Refusal) (id : LeaseId) (consumers cs : List (Standing P))
+    → (now : ℕ) (answer : Result Reply Refusal) (id : LeaseId) (consumers cs : List (ConsumerValue P))
     (rs : List (Retirement P)) (past : WorkerPast) → old.waiting ≡ Some (Finishing id)
     → consumers ≡ answered_among id answer w.consumers → cs ≡ live_among consumers
     → rs ≡ w.retired ++ retired_among consumers → StandsFor stands old past
@@ -276,7 +278,7 @@ give_leaves stands w old is now answer id consumers cs rs past waits b live over
 -- After the answer to the freeing of the lease `h`, the worker without this lease stands for its record with this
 -- answer added.
 pub freeing_leaves : {P F : Type 0} (stands : P → List Call → Type 0) (w old : WorkerStanding P F) → w ≡ old
-    → (now : ℕ) (answer : Result Reply Refusal) (h : Held) (held : List Held) (cs : List (Standing P))
+    → (now : ℕ) (answer : Result Reply Refusal) (h : Held) (held : List Held) (cs : List (ConsumerValue P))
     (rs : List (Retirement P)) (past : WorkerPast) → old.waiting ≡ Some (Freeing h)
     → held ≡ without_held (id_of_held h) w.held → cs ≡ live_among w.consumers
     → rs ≡ w.retired ++ retired_among w.consumers → StandsFor stands old past
@@ -292,8 +294,9 @@ freeing_leaves stands w old is now answer h held cs rs past waits a live over st
 -- After a refused renewal of the lease `h`, the worker's leases are `held` without `h`, and its consumers are `cs`
 -- after the consumer of `h` has learnt of the loss. This is what `after_renewal` leads to.
 pub refused_leaves : {P : Type 0} (stands : P → List Call → Type 0) (s : WorkerState) (now : ℕ) (h : Held)
-    (answer : Result Reply Refusal) (loss : Bool) (id : LeaseId) (held held' : List Held) (cs cs' : List (Standing P))
-    → id ≡ id_of_held h → after_renewal now h answer s ≡ renewal_by now h (written.Refused loss) s
+    (answer : Result Reply Refusal) (loss : Bool) (id : LeaseId) (held held' : List Held)
+    (cs cs' : List (ConsumerValue P))
+    → id ≡ id_of_held h → after_renewal now h answer s ≡ renewal_by now h (row_answer.Refused loss) s
     → held' ≡ without_held id held → cs' ≡ lost_among (λ i. same_id i id) cs → held ≡ s.held
     → ConsumersStand stands cs s.consumers → Leaves stands s (after_renewal now h answer s) held' cs'
 refused_leaves stands s now h answer loss id held held' cs cs' same by a b e stand =

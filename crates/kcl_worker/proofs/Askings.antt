@@ -12,7 +12,7 @@ use Rattle.kds_defs.specs.declared.reply.Stored.{Stored}
 use Rattle.kcl_defs.specs.Consumers.{Stage, Opening, Starting, Filling, Holding, Giving, Marking, Ending, MarkingEnd}
 use Rattle.kcl_defs.specs.Consumers.{Leaving, Over, due_call}
 use Rattle.kcl_defs.specs.Workers.{Known, is_before_id, is_due_known, same_id}
-use Rattle.kcl_consumer.specs.Standing.{HasAsked, Standing}
+use Rattle.kcl_consumer.specs.Standing.{HasAsked, ConsumerValue}
 use Rattle.kcl_worker.specs.Asks.{AskWithin, IsAsk, IsAskOf, IsWithin, processors}
 use Rattle.kcl_worker_lists.specs.Changes.{FirstCalled, FirstUncalled, answered_among, answered_in, is_over_in}
 use Rattle.kcl_worker_lists.specs.Changes.{live_among, lost_among, lost_in, with_consumer}
@@ -24,7 +24,7 @@ use Rattle.kcl_worker.proofs.Happenings.{stage_known}
 -- If `may` allows whatever the consumers' processors may ask for (`AskWithin`), it still does after the consumers of
 -- the leases for which `t` is true have lost them.
 pub within_lost : {P : Type 0} (asks : P → List Stored → Ask → Type 0) (may : List Stored → Ask → Type 0) (t : LeaseId
-    → Bool) (cs : List (Standing P)) → AskWithin asks may cs → AskWithin asks may (lost_among t cs)
+    → Bool) (cs : List (ConsumerValue P)) → AskWithin asks may cs → AskWithin asks may (lost_among t cs)
 within_lost asks may t [] w = tt
 within_lost asks may t (c ∷ cs) w = (head (t (id_in c)), within_lost asks may t cs w.1)
   where
@@ -35,7 +35,7 @@ within_lost asks may t (c ∷ cs) w = (head (t (id_in c)), within_lost asks may 
 -- If `may` allows whatever the consumers' processors may ask for (`AskWithin`), it still does after the consumer of the
 -- lease `id` took the answer `answer`.
 pub within_answered : {P : Type 0} (asks : P → List Stored → Ask → Type 0) (may : List Stored → Ask
-    → Type 0) (id : LeaseId) (answer : Result Reply Refusal) (cs : List (Standing P)) → AskWithin asks may cs
+    → Type 0) (id : LeaseId) (answer : Result Reply Refusal) (cs : List (ConsumerValue P)) → AskWithin asks may cs
     → AskWithin asks may (answered_among id answer cs)
 within_answered asks may id answer [] w = tt
 within_answered asks may id answer (c ∷ cs) w = head (same_id (id_in c) id) (within_answered asks may id answer cs w.1)
@@ -48,7 +48,8 @@ within_answered asks may id answer (c ∷ cs) w = head (same_id (id_in c) id) (w
 -- If `may` allows whatever the processors of the consumers `ds` and of the consumer `c` may ask for (`AskWithin`), it
 -- does so with `c` inserted into `ds`.
 pub within_with : {P : Type 0} (asks : P → List Stored → Ask → Type 0) (may : List Stored → Ask
-    → Type 0) (c : Standing P) (ds : List (Standing P)) → IsWithin asks may c.processor → AskWithin asks may ds
+    → Type 0) (c : ConsumerValue P) (ds : List (ConsumerValue P)) → IsWithin asks may c.processor
+    → AskWithin asks may ds
     → AskWithin asks may (with_consumer c ds)
 within_with asks may c [] one w = (one, tt)
 within_with asks may c (d ∷ ds) one w = head (is_before_id (id_in c) (id_in d)) (within_with asks may c ds one w.1)
@@ -61,7 +62,7 @@ within_with asks may c (d ∷ ds) one w = head (is_before_id (id_in c) (id_in d)
 -- If `may` allows whatever the consumers' processors may ask for (`AskWithin`), it does so for those of the consumers
 -- that aren't over.
 pub within_live : {P : Type 0} (asks : P → List Stored → Ask → Type 0) (may : List Stored → Ask
-    → Type 0) (cs : List (Standing P)) → AskWithin asks may cs → AskWithin asks may (live_among cs)
+    → Type 0) (cs : List (ConsumerValue P)) → AskWithin asks may cs → AskWithin asks may (live_among cs)
 within_live asks may [] w = tt
 within_live asks may (c ∷ cs) w = head (is_over_in c) (within_live asks may cs w.1)
   where
@@ -73,11 +74,12 @@ within_live asks may (c ∷ cs) w = head (is_over_in c) (within_live asks may cs
 -- If `may` allows whatever the consumers' processors may ask for (`AskWithin`), it does so for `live`, the consumers
 -- that are left after those that are over were retired.
 pub within_settled : {P : Type 0} (asks : P → List Stored → Ask → Type 0) (may : List Stored → Ask
-    → Type 0) (cs live : List (Standing P)) → live ≡ live_among cs → AskWithin asks may cs → AskWithin asks may live
+    → Type 0) (cs live : List (ConsumerValue P)) → live ≡ live_among cs → AskWithin asks may cs
+    → AskWithin asks may live
 within_settled asks may cs live is w = subst (AskWithin asks may) (sym is) (within_live asks may cs w)
 
--- A loss changes no processor.
-pub lost_processors : {P : Type 0} (t : LeaseId → Bool) (cs : List (Standing P))
+-- If consumers lose their leases, their processors don't change.
+pub lost_processors : {P : Type 0} (t : LeaseId → Bool) (cs : List (ConsumerValue P))
     → processors (lost_among t cs) ≡ processors cs
 lost_processors t [] = refl
 lost_processors t (c ∷ cs) = head (t (id_in c)) (lost_processors t cs)
@@ -90,7 +92,7 @@ lost_processors t (c ∷ cs) = head (t (id_in c)) (lost_processors t cs)
 -- If `may` allows whatever the consumers' processors may ask for (`AskWithin`), so does `more`, which allows at least
 -- as much after each batch.
 pub within_more : {P : Type 0} (asks : P → List Stored → Ask → Type 0) (may more : List Stored → Ask
-    → Type 0) (cs : List (Standing P)) → ((batch : List Stored) (a : Ask) → may batch a → more batch a)
+    → Type 0) (cs : List (ConsumerValue P)) → ((batch : List Stored) (a : Ask) → may batch a → more batch a)
     → AskWithin asks may cs → AskWithin asks more cs
 within_more asks may more [] f w = tt
 within_more asks may more (c ∷ cs) f w = (λ batch a h. f batch a (w.0 batch a h), within_more asks may more cs f w.1)
@@ -98,7 +100,7 @@ within_more asks may more (c ∷ cs) f w = (λ batch a h. f batch a (w.0 batch a
 -- ---- The processor that is called
 
 steady_among : {P : Type 0} (asks : P → List Stored → Ask → Type 0) (may : List Stored → Ask
-    → Type 0) (before behind : List (Standing P)) (one same : Standing P)
+    → Type 0) (before behind : List (ConsumerValue P)) (one same : ConsumerValue P)
     → ((batch : List Stored) (a : Ask) → asks same.processor batch a → asks one.processor batch a)
     → AskWithin asks may (before ++ (one ∷ behind)) → AskWithin asks may (before ++ (same ∷ behind))
 steady_among asks may [] behind one same f w = (λ batch a h. w.0 batch a (f batch a h), w.1)
@@ -107,7 +109,7 @@ steady_among asks may (c ∷ before) behind one same f w = (w.0, steady_among as
 -- If `may` allows whatever the consumers' processors may ask for (`AskWithin`), it still does after the first due
 -- processor call has returned.
 pub within_called : {P : Type 0} (stands : P → List Call → Type 0) (asks : P → List Stored → Ask
-    → Type 0) (may : List Stored → Ask → Type 0) (asked : Ask) (old new : List (Standing P))
+    → Type 0) (may : List Stored → Ask → Type 0) (asked : Ask) (old new : List (ConsumerValue P))
     → FirstCalled stands asks asked old new → AskWithin asks may old → AskWithin asks may new
 within_called stands asks may asked old new f w =
     subst (AskWithin asks may) (sym f.is)
@@ -116,7 +118,7 @@ within_called stands asks may asked old new f w =
 -- If `may` allows whatever the consumers' processors may ask for (`AskWithin`), it still does after a processor call
 -- that ran out of memory.
 pub within_uncalled : {P : Type 0} (stands : P → List Call → Type 0) (asks : P → List Stored → Ask
-    → Type 0) (may : List Stored → Ask → Type 0) (old new : List (Standing P)) → FirstUncalled stands asks old new
+    → Type 0) (may : List Stored → Ask → Type 0) (old new : List (ConsumerValue P)) → FirstUncalled stands asks old new
     → AskWithin asks may old → AskWithin asks may new
 within_uncalled stands asks may old new f w =
     subst (AskWithin asks may) (sym f.is)
@@ -137,7 +139,7 @@ is_ask asks may p (Leaving why) asked h f = h
 is_ask asks may p (Over why) asked h f = h
 
 ask_among : {P : Type 0} (stands : P → List Call → Type 0) (asks : P → List Stored → Ask → Type 0) (may : List Stored
-    → Ask → Type 0) (asked : Ask) (before behind : List (Standing P)) (one : Standing P) (ks : List Known)
+    → Ask → Type 0) (asked : Ask) (before behind : List (ConsumerValue P)) (one : ConsumerValue P) (ks : List Known)
     → AllByRecursion (λ c. is_due c ≡ false) before → is_due one ≡ true → HasAsked asks one.processor one.stage asked
     → AskWithin asks may (before ++ (one ∷ behind)) → ConsumersStand stands (before ++ (one ∷ behind)) ks
     → IsAskOf may (find is_due_known ks) asked
@@ -162,7 +164,7 @@ ask_among stands asks may asked (c ∷ before) behind one (k ∷ ks) none due ha
 -- What the processor asks for after the first due call is what `may` allows after a batch, and nothing after any other
 -- call (`IsAskOf`).
 pub asked_so : {P : Type 0} (stands : P → List Call → Type 0) (asks : P → List Stored → Ask → Type 0) (may : List Stored
-    → Ask → Type 0) (asked : Ask) (old new : List (Standing P)) (ks : List Known)
+    → Ask → Type 0) (asked : Ask) (old new : List (ConsumerValue P)) (ks : List Known)
     → FirstCalled stands asks asked old new → AskWithin asks may old → ConsumersStand stands old ks
     → IsAskOf may (find is_due_known ks) asked
 asked_so stands asks may asked old new ks f w s =

@@ -9,7 +9,7 @@ use Rattle.kcl_defs.specs.declared.consumer.Call.{Call}
 use Rattle.kcl_defs.specs.declared.consumer.Tenancy.{Tenancy}
 use Rattle.kcl_defs.specs.Consumers.{Stage, Opening, Starting, Filling, Holding, Giving, Marking, Ending, MarkingEnd}
 use Rattle.kcl_defs.specs.Consumers.{Leaving, Over, after_call, due_call}
-use Rattle.kcl_consumer.specs.Standing.{Standing}
+use Rattle.kcl_consumer.specs.Standing.{ConsumerValue}
 use Rattle.kcl_worker_lists.specs.Changes.{FirstCalled, is_over_in, live_among}
 use Rattle.kcl_worker_lists.specs.Lists.{due_count, is_due}
 
@@ -27,17 +27,17 @@ not_again made a MarkingEnd h = absurd cc
 not_again made a (Leaving why) h = refl
 not_again made a (Over why) h = absurd cc
 
-more_by : {P : Type 0} (b : Bool) (c : Standing P) (cs : List (Standing P)) (n m : ℕ) → length cs ≡ n + m
+more_by : {P : Type 0} (b : Bool) (c : ConsumerValue P) (cs : List (ConsumerValue P)) (n m : ℕ) → length cs ≡ n + m
     → length (cond b (c ∷ cs) cs) ≡ length (cond b (c ∷ []) []) + n + m
 more_by true c cs n m h = omega arith
 more_by false c cs n m h = omega arith
 
-one_by : {P : Type 0} (b : Bool) (c : Standing P) (cs : List (Standing P))
+one_by : {P : Type 0} (b : Bool) (c : ConsumerValue P) (cs : List (ConsumerValue P))
     → length (cond b (c ∷ cs) cs) ≡ length (cond b (c ∷ []) []) + length cs
 one_by true c cs = omega arith
 one_by false c cs = omega arith
 
-count-append : {P : Type 0} (xs ys : List (Standing P)) → due_count (xs ++ ys) ≡ due_count xs + due_count ys
+count-append : {P : Type 0} (xs ys : List (ConsumerValue P)) → due_count (xs ++ ys) ≡ due_count xs + due_count ys
 count-append [] ys = omega arith
 count-append (c ∷ xs) ys =
     omega (
@@ -46,27 +46,28 @@ count-append (c ∷ xs) ys =
       one_by (is_due c) c (filter is_due xs),
     )
 
-live_by : {P : Type 0} (over : Bool) (c : Standing P) (live cs : List (Standing P)) → due_count live ≤ due_count cs
+live_by : {P : Type 0} (over : Bool) (c : ConsumerValue P) (live cs : List (ConsumerValue P))
+    → due_count live ≤ due_count cs
     → due_count (cond (not over) (c ∷ live) live) ≤ due_count (c ∷ cs)
 live_by true c live cs h = omega (arith, h, one_by (is_due c) c (filter is_due cs))
 live_by false c live cs h =
     omega (arith, h, one_by (is_due c) c (filter is_due cs), one_by (is_due c) c (filter is_due live))
 
-count-live : {P : Type 0} (cs : List (Standing P)) → due_count (live_among cs) ≤ due_count cs
+count-live : {P : Type 0} (cs : List (ConsumerValue P)) → due_count (live_among cs) ≤ due_count cs
 count-live [] = omega arith
 count-live (c ∷ cs) = live_by (is_over_in c) c (live_among cs) cs (count-live cs)
 
-count_due : {P : Type 0} (c : Standing P) (cs : List (Standing P)) → is_due c ≡ true
+count_due : {P : Type 0} (c : ConsumerValue P) (cs : List (ConsumerValue P)) → is_due c ≡ true
     → due_count (c ∷ cs) ≡ 1 + due_count cs
 count_due c cs h = ap (λ b. length (cond b (c ∷ filter is_due cs) (filter is_due cs))) h ∙ omega arith
 
-count_quiet : {P : Type 0} (c : Standing P) (cs : List (Standing P)) → is_due c ≡ false
+count_quiet : {P : Type 0} (c : ConsumerValue P) (cs : List (ConsumerValue P)) → is_due c ≡ false
     → due_count (c ∷ cs) ≡ due_count cs
 count_quiet c cs h = ap (λ b. length (cond b (c ∷ filter is_due cs) (filter is_due cs))) h
 
 -- After the first due call has returned, and the consumers that are over are retired, fewer processor calls are due.
 pub fewer_due : {P : Type 0} (stands : P → List Call → Type 0) (asks : P → List Stored → Ask
-    → Type 0) (asked : Ask) (old new settled : List (Standing P)) → FirstCalled stands asks asked old new
+    → Type 0) (asked : Ask) (old new settled : List (ConsumerValue P)) → FirstCalled stands asks asked old new
     → settled ≡ live_among new → due_count settled < due_count old
 fewer_due stands asks asked old new settled f is =
     let quiet : is_due f.called ≡ false =

@@ -23,9 +23,9 @@ use Rattle.kcl_defs.specs.Workers.{Consuming, Finishing, Freeing, chore_from, co
 use Rattle.kcl_defs.specs.Workers.{counter_of, freeing_chore, from_consumers, id_of, is_giving, is_giving_stage}
 use Rattle.kcl_defs.specs.Workers.{is_nothing_held, is_past, is_stopping, known_of, next_pending, pending_chore}
 use Rattle.kcl_defs.specs.Workers.{pending_of, stage_of_known, same_id, stopping_chore, worker_after}
-use Rattle.kcl_consumer.specs.Standing.{Standing}
-use Rattle.kcl_worker.specs.declared.round.Asked.{Asked}
-use Rattle.kcl_worker.specs.declared.round.Asked.TheVariants as asked
+use Rattle.kcl_consumer.specs.Standing.{ConsumerValue}
+use Rattle.kcl_worker.specs.declared.round.Awaited.{Awaited}
+use Rattle.kcl_worker.specs.declared.round.Awaited.TheVariants as awaited
 use Rattle.kcl_worker_lists.specs.Lists.{giving_in, id_in, past_in}
 use Rattle.kcl_worker.specs.Outlook.{IsGiven, IsReady}
 use Rattle.kcl_worker.specs.Parts.{chore_of}
@@ -36,13 +36,17 @@ use Rattle.kcl_worker.proofs.Happenings.{stage_known}
 
 -- ---- The same consumer is found in the code and in the record
 
-abbrev pub IsFoundSo : {P : Type 0} → Option (Standing P) → Option Known → Type 0
+-- Either no consumer was found, neither in the code nor in the record; or one was found in each, and both were made
+-- with the same values and are in the same stage.
+abbrev pub IsFoundSo : {P : Type 0} → Option (ConsumerValue P) → Option Known → Type 0
 IsFoundSo None None = Unit {0}
 IsFoundSo (Some c) (Some k) = (c.made ≡ k.made) × (c.stage ≡ stage_of_known k)
 IsFoundSo None (Some k) = ⊥
 IsFoundSo (Some c) None = ⊥
 
-pub found_so : {P : Type 0} (stands : P → List Call → Type 0) (t : LeaseId → Stage → Bool) (cs : List (Standing P))
+-- If the test `t` depends only on the lease and the stage, the first consumer for which it is true is the same in the
+-- code as in the record.
+pub found_so : {P : Type 0} (stands : P → List Call → Type 0) (t : LeaseId → Stage → Bool) (cs : List (ConsumerValue P))
     (ks : List Known) → ConsumersStand stands cs ks
     → IsFoundSo (find (λ c. t (id_in c) c.stage) cs) (find (λ k. t (id_of k) (stage_of_known k)) ks)
 found_so stands t [] [] s = tt
@@ -136,8 +140,9 @@ all_found {A} P t x (y ∷ ys) h all = head (t y) h (λ g. all_found P t x ys g 
     head true g rest = subst P (same y x g) all.0
     head false g rest = rest g
 
--- If no call is due and no consumer is over, each consumer is ready.
-pub ready : {P : Type 0} (cs : List (Standing P)) → due_in cs ≡ None → AllByRecursion (λ c. over_at c.stage ≡ None) cs
+-- If no processor call is due and no consumer is over, each consumer can send its next command (`IsReady`).
+pub ready : {P : Type 0} (cs : List (ConsumerValue P)) → due_in cs ≡ None
+    → AllByRecursion (λ c. over_at c.stage ≡ None) cs
     → AllByRecursion IsReady cs
 ready [] none all = tt
 ready (c ∷ cs) none all = head (due_call c.stage) refl none (λ n. ready cs n all.1)
@@ -152,17 +157,19 @@ ready (c ∷ cs) none all = head (due_call c.stage) refl none (λ n. ready cs n 
 -- If the worker is among its consumers and `c` is the first one after the lease `last`, then the next command of `c` is
 -- the worker's next command.
 pub consumer_given : {P : Type 0} (stands : P → List Call → Type 0) (made : WorkerMade) (s : WorkerState)
-    (syncs : List SyncStep) (takes : List TakeStep) (place : Option LeaseId) (cs : List (Standing P)) (held : List Held)
-    (c : Standing P) (what : Command) → ConsumersStand stands cs s.consumers → held ≡ s.held → past_in place cs ≡ Some c
+    (syncs : List SyncStep) (takes : List TakeStep) (last : Option LeaseId) (cs : List (ConsumerValue P))
+    (held : List Held)
+    (c : ConsumerValue P) (what : Command) → ConsumersStand stands cs s.consumers → held ≡ s.held
+    → past_in last cs ≡ Some c
     → next_command c.made c.stage (counter_of (id_in c) held) ≡ Some what
-    → IsGiven made s syncs takes (Some (from_consumers place s)) (asked.Consume (id_in c)) what
-consumer_given {P} stands made s syncs takes place cs held c what stand same found next =
-    go (find (λ k. is_past place (id_of k)) s.consumers) refl
-    (subst (λ o. IsFoundSo o (find (λ k. is_past place (id_of k)) s.consumers)) found
-    (found_so stands (λ id p. is_past place id) cs s.consumers stand))
+    → IsGiven made s syncs takes (Some (from_consumers last s)) (awaited.Consume (id_in c)) what
+consumer_given {P} stands made s syncs takes last cs held c what stand same found next =
+    go (find (λ k. is_past last (id_of k)) s.consumers) refl
+    (subst (λ o. IsFoundSo o (find (λ k. is_past last (id_of k)) s.consumers)) found
+    (found_so stands (λ id p. is_past last id) cs s.consumers stand))
   where
-    go : (o : Option Known) → find (λ k. is_past place (id_of k)) s.consumers ≡ o → IsFoundSo (Some c) o
-        → IsGiven made s syncs takes (Some (consumer_chore o)) (asked.Consume (id_in c)) what
+    go : (o : Option Known) → find (λ k. is_past last (id_of k)) s.consumers ≡ o → IsFoundSo (Some c) o
+        → IsGiven made s syncs takes (Some (consumer_chore o)) (awaited.Consume (id_in c)) what
     go None e f = absurd f
     go (Some k) e f =
         let of_known : next_command k.made (stage_of_known k) (counter_of (id_of k) s.held) ≡ Some what =
@@ -174,21 +181,21 @@ consumer_given {P} stands made s syncs takes place cs held c what stand same fou
           which = Consuming (id_of k);
           is = refl;
           asks = ap (λ m. Some (Consuming (record { key = m.key; tenure = m.tenure }))) f.0;
-          command = ap (λ o. consumer_command s o) (by_id (is_past place) k s.consumers e).0 ∙ of_known;
+          command = ap (λ o. consumer_command s o) (by_id (is_past last) k s.consumers e).0 ∙ of_known;
         }
 
 -- If the worker is among its consumers and none comes after the lease `last`, a survey comes next.
 pub survey_given : {P : Type 0} (stands : P → List Call → Type 0) (made : WorkerMade) (s : WorkerState)
-    (syncs : List SyncStep) (takes : List TakeStep) (place : Option LeaseId) (cs : List (Standing P))
-    → ConsumersStand stands cs s.consumers → past_in place cs ≡ None
-    → IsGiven made s syncs takes (Some (from_consumers place s)) asked.Survey command.Survey
-survey_given {P} stands made s syncs takes place cs stand found =
-    go (find (λ k. is_past place (id_of k)) s.consumers)
-    (subst (λ o. IsFoundSo o (find (λ k. is_past place (id_of k)) s.consumers)) found
-    (found_so stands (λ id p. is_past place id) cs s.consumers stand))
+    (syncs : List SyncStep) (takes : List TakeStep) (last : Option LeaseId) (cs : List (ConsumerValue P))
+    → ConsumersStand stands cs s.consumers → past_in last cs ≡ None
+    → IsGiven made s syncs takes (Some (from_consumers last s)) awaited.Survey command.Survey
+survey_given {P} stands made s syncs takes last cs stand found =
+    go (find (λ k. is_past last (id_of k)) s.consumers)
+    (subst (λ o. IsFoundSo o (find (λ k. is_past last (id_of k)) s.consumers)) found
+    (found_so stands (λ id p. is_past last id) cs s.consumers stand))
   where
     go : (o : Option Known) → IsFoundSo {P = P} None o
-        → IsGiven made s syncs takes (Some (consumer_chore o)) asked.Survey command.Survey
+        → IsGiven made s syncs takes (Some (consumer_chore o)) awaited.Survey command.Survey
     go None f = record { which = Surveying; is = refl; asks = refl; command = refl }
     go (Some k) f = absurd f
 
@@ -196,9 +203,9 @@ survey_given {P} stands made s syncs takes place cs stand found =
 
 -- If the worker is stopped and `c` is the first consumer that has a batch to give, the Give of `c` comes next.
 pub giving_given : {P : Type 0} (stands : P → List Call → Type 0) (made : WorkerMade) (s : WorkerState)
-    (syncs : List SyncStep) (takes : List TakeStep) (cs : List (Standing P)) (c : Standing P)
+    (syncs : List SyncStep) (takes : List TakeStep) (cs : List (ConsumerValue P)) (c : ConsumerValue P)
     → ConsumersStand stands cs s.consumers → giving_in cs ≡ Some c
-    → IsGiven made s syncs takes (stopping_chore s (find is_giving s.consumers)) (asked.Finish (id_in c))
+    → IsGiven made s syncs takes (stopping_chore s (find is_giving s.consumers)) (awaited.Finish (id_in c))
     (command.Give c.made.tenure)
 giving_given stands made s syncs takes cs c stand found =
     go (find is_giving s.consumers)
@@ -206,7 +213,7 @@ giving_given stands made s syncs takes cs c stand found =
     (found_so stands (λ id p. is_giving_stage p) cs s.consumers stand))
   where
     go : (o : Option Known) → IsFoundSo (Some c) o
-        → IsGiven made s syncs takes (stopping_chore s o) (asked.Finish (id_in c)) (command.Give c.made.tenure)
+        → IsGiven made s syncs takes (stopping_chore s o) (awaited.Finish (id_in c)) (command.Give c.made.tenure)
     go None f = absurd f
     go (Some k) f = record {
       which = Finishing (id_of k);
@@ -215,7 +222,7 @@ giving_given stands made s syncs takes cs c stand found =
       command = ap (λ m. Some (command.Give m.tenure)) (sym f.0);
     }
 
-none_giving : {P : Type 0} (stands : P → List Call → Type 0) (s : WorkerState) (cs : List (Standing P))
+none_giving : {P : Type 0} (stands : P → List Call → Type 0) (s : WorkerState) (cs : List (ConsumerValue P))
     → ConsumersStand stands cs s.consumers → giving_in cs ≡ None
     → stopping_chore s (find is_giving s.consumers) ≡ freeing_chore s.held
 none_giving {P} stands s cs stand found =
@@ -229,9 +236,9 @@ none_giving {P} stands s cs stand found =
 
 -- If the worker is stopped, no consumer has a batch to give, and `h` is the first lease, the freeing of `h` comes next.
 pub freeing_given : {P : Type 0} (stands : P → List Call → Type 0) (made : WorkerMade) (s : WorkerState)
-    (syncs : List SyncStep) (takes : List TakeStep) (cs : List (Standing P)) (held : List Held) (h : Held)
+    (syncs : List SyncStep) (takes : List TakeStep) (cs : List (ConsumerValue P)) (held : List Held) (h : Held)
     (rest : List Held) → ConsumersStand stands cs s.consumers → held ≡ s.held → giving_in cs ≡ None → held ≡ h ∷ rest
-    → IsGiven made s syncs takes (stopping_chore s (find is_giving s.consumers)) (asked.Free h)
+    → IsGiven made s syncs takes (stopping_chore s (find is_giving s.consumers)) (awaited.Free h)
     (command.Free h.tenure h.counter)
 freeing_given stands made s syncs takes cs held h rest stand same found first = record {
   which = Freeing h;
@@ -240,7 +247,8 @@ freeing_given stands made s syncs takes cs held h rest stand same found first = 
   command = refl;
 }
 
-pub nothing_given : {P : Type 0} (stands : P → List Call → Type 0) (s : WorkerState) (cs : List (Standing P))
+-- If the worker is stopped, no consumer has a batch to give, and the worker has no lease, no command comes next.
+pub nothing_given : {P : Type 0} (stands : P → List Call → Type 0) (s : WorkerState) (cs : List (ConsumerValue P))
     (held : List Held) → ConsumersStand stands cs s.consumers → held ≡ s.held → giving_in cs ≡ None → held ≡ []
     → stopping_chore s (find is_giving s.consumers) ≡ None
 nothing_given stands s cs held stand same found none =
@@ -255,13 +263,13 @@ none_mapped (Some p) e = absurd cc
 -- If `awaited` and `what` are the next chore and its command, the worker `new`, in which this command waits for its
 -- answer, stands for the record `past` with the command added.
 pub asked_stands : {P F : Type 0} (stands : P → List Call → Type 0) (w new : WorkerStanding P F) (now : ℕ)
-    (syncs : List SyncStep) (takes : List TakeStep) (asked : Asked) (what : Command) (past : WorkerPast)
-    → w.waiting ≡ None → new ≡ record w { waiting = chore_of asked syncs takes }
+    (syncs : List SyncStep) (takes : List TakeStep) (awaited : Awaited) (what : Command) (past : WorkerPast)
+    → w.waiting ≡ None → new ≡ record w { waiting = chore_of awaited syncs takes }
     → IsGiven w.made (worker_after w.made past) syncs takes
-    (chore_from w.made.settings.failover now (worker_after w.made past) w.round) asked what → StandsFor stands w past
+    (chore_from w.made.settings.failover now (worker_after w.made past) w.round) awaited what → StandsFor stands w past
     → (p : Pending) × (next_pending w.made now (worker_after w.made past) ≡ Some p) × (p.what ≡ what)
     × StandsFor stands new (Gave_command now ∷ past)
-asked_stands {P} {F} stands w new now syncs takes asked what past free is g st =
+asked_stands {P} {F} stands w new now syncs takes awaited what past free is g st =
     let s : WorkerState = worker_after w.made past in
     let p : Pending = record { chore = g.which; what = what } in
     let next : next_pending w.made now s ≡ Some p =
@@ -306,33 +314,35 @@ first_list (y ∷ ys) x h e = ap (λ z. z ∷ ys) (sym e)
 -- If the worker is stopped and `c` is the first consumer that has a batch to give, the Give of `c` comes next. `id` is
 -- the lease of `c`, and `t` is its tenure.
 pub giving_as : {P : Type 0} (stands : P → List Call → Type 0) (made : WorkerMade) (s : WorkerState)
-    (syncs : List SyncStep) (takes : List TakeStep) (cs : List (Standing P)) (c : Standing P) (id : LeaseId) (t : ℕ)
+    (syncs : List SyncStep) (takes : List TakeStep) (cs : List (ConsumerValue P)) (c : ConsumerValue P) (id : LeaseId)
+    (t : ℕ)
     → id ≡ id_in c → t ≡ c.made.tenure → ConsumersStand stands cs s.consumers → giving_in cs ≡ Some c
-    → IsGiven made s syncs takes (stopping_chore s (find is_giving s.consumers)) (asked.Finish id) (command.Give t)
+    → IsGiven made s syncs takes (stopping_chore s (find is_giving s.consumers)) (awaited.Finish id) (command.Give t)
 giving_as stands made s syncs takes cs c id t a b stand found =
-    subst (λ i. IsGiven made s syncs takes (stopping_chore s (find is_giving s.consumers)) (asked.Finish i)
+    subst (λ i. IsGiven made s syncs takes (stopping_chore s (find is_giving s.consumers)) (awaited.Finish i)
     (command.Give t)) (sym a)
-    (subst (λ n. IsGiven made s syncs takes (stopping_chore s (find is_giving s.consumers)) (asked.Finish (id_in c))
+    (subst (λ n. IsGiven made s syncs takes (stopping_chore s (find is_giving s.consumers)) (awaited.Finish (id_in c))
     (command.Give n)) (sym b)
     (giving_given stands made s syncs takes cs c stand found))
 
 -- If the worker is among its consumers and `c` is the first one after the lease `last`, then the next command of `c` is
 -- the worker's next command. `id` is the lease of `c`, and `counter` is the lease's counter.
 pub consumer_as : {P : Type 0} (stands : P → List Call → Type 0) (made : WorkerMade) (s : WorkerState)
-    (syncs : List SyncStep) (takes : List TakeStep) (place : Option LeaseId) (cs : List (Standing P)) (held : List Held)
-    (c : Standing P) (id : LeaseId) (counter : ℕ) (what : Command) → id ≡ id_in c → counter ≡ counter_of id held
-    → ConsumersStand stands cs s.consumers → held ≡ s.held → past_in place cs ≡ Some c
+    (syncs : List SyncStep) (takes : List TakeStep) (last : Option LeaseId) (cs : List (ConsumerValue P))
+    (held : List Held)
+    (c : ConsumerValue P) (id : LeaseId) (counter : ℕ) (what : Command) → id ≡ id_in c → counter ≡ counter_of id held
+    → ConsumersStand stands cs s.consumers → held ≡ s.held → past_in last cs ≡ Some c
     → next_command c.made c.stage counter ≡ Some what
-    → IsGiven made s syncs takes (Some (from_consumers place s)) (asked.Consume id) what
-consumer_as stands made s syncs takes place cs held c id counter what a b stand same found next =
-    subst (λ i. IsGiven made s syncs takes (Some (from_consumers place s)) (asked.Consume i) what) (sym a)
-    (consumer_given stands made s syncs takes place cs held c what stand same found
+    → IsGiven made s syncs takes (Some (from_consumers last s)) (awaited.Consume id) what
+consumer_as stands made s syncs takes last cs held c id counter what a b stand same found next =
+    subst (λ i. IsGiven made s syncs takes (Some (from_consumers last s)) (awaited.Consume i) what) (sym a)
+    (consumer_given stands made s syncs takes last cs held c what stand same found
     (ap (λ i. next_command c.made c.stage (counter_of i held)) (sym a) ∙ ap (λ n. next_command c.made c.stage n) (sym b)
     ∙ next))
 
 -- ---- Nothing is left to do
 
-none_due_any : {P : Type 0} (cs : List (Standing P)) → due_in cs ≡ None → list_any is_due cs ≡ false
+none_due_any : {P : Type 0} (cs : List (ConsumerValue P)) → due_in cs ≡ None → list_any is_due cs ≡ false
 none_due_any [] none = refl
 none_due_any (c ∷ cs) none = head (due_call c.stage) none (λ n. none_due_any cs n)
   where
@@ -351,13 +361,13 @@ none_found_any {A} t (x ∷ xs) none = head (t x) none (λ n. none_found_any t x
     head true n rest = absurd cc
     head false n rest = rest n
 
-none_giving_in : {P : Type 0} (stands : P → List Call → Type 0) (cs : List (Standing P)) (ks : List Known)
+none_giving_in : {P : Type 0} (stands : P → List Call → Type 0) (cs : List (ConsumerValue P)) (ks : List Known)
     → ConsumersStand stands cs ks → find is_giving ks ≡ None → giving_in cs ≡ None
 none_giving_in {P} stands cs ks stand none =
     go (giving_in cs) (subst (λ o. IsFoundSo (giving_in cs) o) none
     (found_so stands (λ id p. is_giving_stage p) cs ks stand))
   where
-    go : (o : Option (Standing P)) → IsFoundSo o None → o ≡ None
+    go : (o : Option (ConsumerValue P)) → IsFoundSo o None → o ≡ None
     go None f = refl
     go (Some c) f = absurd f
 
@@ -396,18 +406,18 @@ idle_so stands w s failover now shows none chore =
 -- If `awaited` and `what` are the next chore and its command in each state with the worker's consumers and leases, the
 -- worker that waits for the answer to `what` stands for its record with this command added.
 pub asked_leaves : {P F : Type 0} (stands : P → List Call → Type 0) (w old : WorkerStanding P F) → w ≡ old
-    → (now : ℕ) (syncs : List SyncStep) (takes : List TakeStep) (asked : Asked) (what : Command) (past : WorkerPast)
+    → (now : ℕ) (syncs : List SyncStep) (takes : List TakeStep) (awaited : Awaited) (what : Command) (past : WorkerPast)
     → old.waiting ≡ None → ((s : WorkerState) → ConsumersStand stands w.consumers s.consumers → w.held ≡ s.held
-    → IsGiven w.made s syncs takes (chore_from w.made.settings.failover now s w.round) asked what)
+    → IsGiven w.made s syncs takes (chore_from w.made.settings.failover now s w.round) awaited what)
     → StandsFor stands old past → (p : Pending) × (next_pending old.made now (worker_after old.made past) ≡ Some p)
-    × (p.what ≡ what) × StandsFor stands (record w { waiting = chore_of asked syncs takes }) (Gave_command now ∷ past)
-asked_leaves {P} {F} stands w old is now syncs takes asked what past free given st =
+    × (p.what ≡ what) × StandsFor stands (record w { waiting = chore_of awaited syncs takes }) (Gave_command now ∷ past)
+asked_leaves {P} {F} stands w old is now syncs takes awaited what past free given st =
     let st0 : StandsFor stands w past = subst (λ v. StandsFor stands v past) (sym is) st in
     let Q : WorkerStanding P F → Type 0 =
     λ v. (p : Pending) × (next_pending v.made now (worker_after v.made past) ≡ Some p) × (p.what ≡ what)
-    × StandsFor stands (record w { waiting = chore_of asked syncs takes }) (Gave_command now ∷ past) in
+    × StandsFor stands (record w { waiting = chore_of awaited syncs takes }) (Gave_command now ∷ past) in
     subst Q is
-    (asked_stands stands w (record w { waiting = chore_of asked syncs takes }) now syncs takes asked what past
+    (asked_stands stands w (record w { waiting = chore_of awaited syncs takes }) now syncs takes awaited what past
     (ap (λ v. v.waiting) is ∙ free) refl
     (given (worker_after w.made past) st0.shows.consumers st0.shows.held) st0)
 
@@ -426,8 +436,8 @@ none_left stands w old is now past none busy left st =
 
 -- ---- What callers see of a worker, and its record
 
--- If no call is due, none is due in the record.
-pub none_due : {P : Type 0} (stands : P → List Call → Type 0) (cs : List (Standing P)) (ks : List Known)
+-- If no processor call of the code's consumers is due, none of the record's consumers is due.
+pub none_due : {P : Type 0} (stands : P → List Call → Type 0) (cs : List (ConsumerValue P)) (ks : List Known)
     → due_in cs ≡ None → ConsumersStand stands cs ks → find is_due_known ks ≡ None
 none_due stands [] [] none s = refl
 none_due stands [] (k ∷ ks) none s = absurd s
@@ -442,7 +452,8 @@ none_due stands (c ∷ cs) (k ∷ ks) none s =
     head None (Some due) e n rest = absurd cc
     head None None e n rest = rest n
 
-any_same : {P : Type 0} (stands : P → List Call → Type 0) (f : Stage → Bool) (cs : List (Standing P)) (ks : List Known)
+any_same : {P : Type 0} (stands : P → List Call → Type 0) (f : Stage → Bool) (cs : List (ConsumerValue P))
+    (ks : List Known)
     → ConsumersStand stands cs ks
     → list_any (λ c. f c.stage) cs ≡ list_any (λ k. f (stage_of_known k)) ks
 any_same stands f [] [] s = refl

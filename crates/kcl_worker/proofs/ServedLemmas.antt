@@ -8,12 +8,12 @@ use Rattle.kcl_defs.specs.Lives.{IsLifeIn}
 use Rattle.kcl_defs.specs.Workers.{Known, WorkerPast, worker_after}
 use Rattle.kcl_defs.specs.WorkerLives.{IsOfTenure, IsToldIn, IsServed, IsServedWhole}
 use Rattle.kcl_defs.proofs.RetiredLemmas.{are_served}
-use Rattle.kcl_consumer.specs.Standing.{Standing}
+use Rattle.kcl_consumer.specs.Standing.{ConsumerValue}
 use Rattle.kcl_worker_lists.specs.Lists.{Retirement}
 use Rattle.kcl_worker.specs.Standing.{WorkerStanding, ConsumersStand, RetirementsStand, StandsFor, IsRetiredIn}
 use Rattle.kcl_worker.specs.Standing.{IsServedIn, AreServedIn}
 
-consumers_served : {P : Type 0} (stands : P → List Call → Type 0) (by : ℕ) (h : List Turn) (cs : List (Standing P))
+consumers_served : {P : Type 0} (stands : P → List Call → Type 0) (by : ℕ) (h : List Turn) (cs : List (ConsumerValue P))
     (ks : List Known) → ConsumersStand stands cs ks → AllByRecursion (IsServed by h) ks
     → AllByRecursion (IsServedIn stands by h) cs
 consumers_served stands by h [] [] s all = tt

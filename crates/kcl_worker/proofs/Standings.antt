@@ -8,8 +8,8 @@ use Rattle.kcl_defs.specs.declared.consumer.Call.{Call}
 use Rattle.kds_defs.specs.declared.reply.Stored.{Stored}
 use Rattle.kcl_defs.specs.Consumers.{Called, Losing}
 use Rattle.kcl_defs.specs.Workers.{AtStopping, Made_call, Pending, Stopped, WorkerPast, WorkerState, happens_to}
-use Rattle.kcl_defs.specs.Workers.{happens_to_first, is_due_known, settled, worker_after}
-use Rattle.kcl_consumer.specs.Standing.{Standing}
+use Rattle.kcl_defs.specs.Workers.{happens_to_first, is_due_known, after_retiring, worker_after}
+use Rattle.kcl_consumer.specs.Standing.{ConsumerValue}
 use Rattle.kcl_worker_lists.specs.Changes.{FirstCalled, FirstUncalled, live_among, lost_among, retired_among}
 use Rattle.kcl_worker.specs.Standing.{settled_in}
 use Rattle.kcl_worker_lists.specs.Lists.{Retirement}
@@ -29,7 +29,7 @@ is_free stands w s free shows = none_mapped s.waiting (sym free ∙ shows.waitin
 -- If the worker `w` agrees with the state `s` (`ShowsState`), both still agree after the consumers that are over are
 -- retired.
 pub settled_shows : {P F : Type 0} (stands : P → List Call → Type 0) (w : WorkerStanding P F) (s : WorkerState)
-    → ShowsState stands w s → ShowsState stands (settled_in w) (settled s)
+    → ShowsState stands w s → ShowsState stands (settled_in w) (after_retiring s)
 settled_shows stands w s h = record {
   round = h.round;
   waiting = h.waiting;
@@ -66,7 +66,7 @@ stop_stands {P} {F} stands w new past free is st =
 -- The worker `new` stands for the record `past` with a processor call added, if it is `w` after its first due call has
 -- returned, with the consumers that are over retired.
 pub call_stands : {P F : Type 0} (stands : P → List Call → Type 0) (asks : P → List Stored → Ask
-    → Type 0) (asked : Ask) (w new : WorkerStanding P F) (cs : List (Standing P)) (past : WorkerPast)
+    → Type 0) (asked : Ask) (w new : WorkerStanding P F) (cs : List (ConsumerValue P)) (past : WorkerPast)
     → w.waiting ≡ None → FirstCalled stands asks asked w.consumers cs → new ≡ settled_in (record w { consumers = cs })
     → StandsFor stands w past → StandsFor stands new (Made_call asked ∷ past)
 call_stands {P} {F} stands asks asked w new cs past free called is st =
@@ -88,7 +88,7 @@ call_stands {P} {F} stands asks asked w new cs past free called is st =
 
 -- The worker `new` stands for the same record as `w`, if it is `w` after a processor call that ran out of memory.
 pub uncalled_stands : {P F : Type 0} (stands : P → List Call → Type 0) (asks : P → List Stored → Ask
-    → Type 0) (w new : WorkerStanding P F) (cs : List (Standing P)) (past : WorkerPast)
+    → Type 0) (w new : WorkerStanding P F) (cs : List (ConsumerValue P)) (past : WorkerPast)
     → FirstUncalled stands asks w.consumers cs → new ≡ record w { consumers = cs } → StandsFor stands w past
     → StandsFor stands new past
 uncalled_stands {P} {F} stands asks w new cs past f is st =
@@ -108,8 +108,9 @@ uncalled_stands {P} {F} stands asks w new cs past f is st =
 
 -- ---- The fields that the code has written
 
--- The worker stands for the record with a stop added, given what was written of its consumers.
-pub stop_leaves : {P F : Type 0} (stands : P → List Call → Type 0) (w : WorkerStanding P F) (cs : List (Standing P))
+-- After a stop, the worker with the fields that the code has written stands for its record with the stop added.
+pub stop_leaves : {P F : Type 0} (stands : P → List Call → Type 0) (w : WorkerStanding P F)
+    (cs : List (ConsumerValue P))
     (rs : List (Retirement P)) (past : WorkerPast) → w.waiting ≡ None
     → cs ≡ live_among (lost_among (λ id. true) w.consumers)
     → rs ≡ w.retired ++ retired_among (lost_among (λ id. true) w.consumers) → StandsFor stands w past
@@ -121,7 +122,7 @@ stop_leaves stands w cs rs past free live over st =
 -- After the first due processor call has returned, the worker with the fields that the code has written stands for its
 -- record with this call added.
 pub call_leaves : {P F : Type 0} (stands : P → List Call → Type 0) (asks : P → List Stored → Ask
-    → Type 0) (asked : Ask) (w : WorkerStanding P F) (called cs : List (Standing P)) (rs : List (Retirement P))
+    → Type 0) (asked : Ask) (w : WorkerStanding P F) (called cs : List (ConsumerValue P)) (rs : List (Retirement P))
     (past : WorkerPast) → w.waiting ≡ None → FirstCalled stands asks asked w.consumers called → cs ≡ live_among called
     → rs ≡ w.retired ++ retired_among called → StandsFor stands w past
     → StandsFor stands (record w { consumers = cs; retired = rs }) (Made_call asked ∷ past)

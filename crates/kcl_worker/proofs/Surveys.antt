@@ -15,10 +15,10 @@ use Rattle.kcl_defs.specs.Consumers.{Losing}
 use Rattle.kcl_defs.specs.Plans.{after_rows, expiry, seen_at, sync_plan, take_plan}
 use Rattle.kcl_defs.specs.Workers.{AtSync, Got_answer, Surveying, WorkerPast, WorkerState, after_chore, happens_to}
 use Rattle.kcl_defs.specs.Workers.{id_of, still_stands}
-use Rattle.kcl_consumer.specs.Standing.{Standing}
+use Rattle.kcl_consumer.specs.Standing.{ConsumerValue}
 use Rattle.kcl_worker_lists.specs.declared.planning.Planned.{Planned}
 use Rattle.kcl_worker_lists.specs.Changes.{live_among, lost_among, retired_among}
-use Rattle.kcl_worker_lists.specs.Planning.{IsPlanned, IsPlannedAfter, gone, is_among}
+use Rattle.kcl_worker_lists.specs.Planning.{IsPlanned, IsPlannedAfter, lost_of, is_among}
 use Rattle.kcl_worker_lists.specs.Lists.{Retirement}
 use Rattle.kcl_worker.specs.Standing.{ConsumersStand, ShowsState, StandsFor, WorkerStanding}
 use Rattle.kcl_worker.proofs.Absorbings.{absorbed_leaves, absorbed_stands}
@@ -32,7 +32,7 @@ surveyed_shows : {P F : Type 0} (stands : P → List Call → Type 0) (w : Worke
       waiting = None;
       seen = p.observed;
       held = p.held.items;
-      consumers = lost_among (is_among p.gone.items) w.consumers;
+      consumers = lost_among (is_among p.lost.items) w.consumers;
     })
     (after_chore w.made now (Ok (reply.Survey shards rows)) Surveying (record s { waiting = None }))
 surveyed_shows stands w s now shards rows p is h =
@@ -40,7 +40,7 @@ surveyed_shows stands w s now shards rows p is h =
     let seen : seen_at p.observed ≡ after_rows rows now s.seen =
     (λ i k. is.seen_so k i) ∙ ap (after_rows rows now) before in
     let held : p.held.items ≡ filter (still_stands rows) s.held = is.held_so ∙ ap (filter (still_stands rows)) h.held in
-    let lost : p.gone.items ≡ gone rows s.held = is.gone_so ∙ ap (gone rows) h.held in
+    let lost : p.lost.items ≡ lost_of rows s.held = is.lost_so ∙ ap (lost_of rows) h.held in
     record {
       round =
           ap (λ a. AtSync a p.takes) is.syncs_so
@@ -52,9 +52,9 @@ surveyed_shows stands w s now shards rows p is h =
       seen = λ k. ap (λ f. f k) seen;
       held = held;
       consumers = subst (λ hs.
-          ConsumersStand stands (lost_among (is_among p.gone.items) w.consumers)
+          ConsumersStand stands (lost_among (is_among p.lost.items) w.consumers)
           (happens_to (λ k. is_among hs (id_of k)) Losing s.consumers)) lost
-          (lost_stand stands (is_among p.gone.items) w.consumers s.consumers h.consumers);
+          (lost_stand stands (is_among p.lost.items) w.consumers s.consumers h.consumers);
       retired = h.retired;
     }
 
@@ -62,9 +62,10 @@ surveyed_shows stands w s now shards rows p is h =
 -- with this answer added.
 pub planned_leaves : {P F : Type 0} (stands : P → List Call → Type 0) (w old : WorkerStanding P F) → w ≡ old
     → (now : ℕ) (answer : Result Reply Refusal) (p : Planned) (syncs : List SyncStep) (takes : List TakeStep)
-    (consumers cs : List (Standing P)) (rs : List (Retirement P)) (past : WorkerPast) → old.waiting ≡ Some Surveying
+    (consumers cs : List (ConsumerValue P)) (rs : List (Retirement P)) (past : WorkerPast)
+    → old.waiting ≡ Some Surveying
     → IsPlannedAfter old.made old.seen old.held now answer (Some p) → syncs ≡ p.syncs → takes ≡ p.takes
-    → consumers ≡ lost_among (is_among p.gone.items) w.consumers → cs ≡ live_among consumers
+    → consumers ≡ lost_among (is_among p.lost.items) w.consumers → cs ≡ live_among consumers
     → rs ≡ w.retired ++ retired_among consumers → StandsFor stands old past
     → StandsFor stands (record w {
       round = AtSync syncs takes;
@@ -134,7 +135,8 @@ unplanned_shows stands w s now (Err r) none h = kept_shows stands w s h
 -- After an answer from which nothing was planned, such as a refusal, the worker stands for its record with this answer
 -- added. Only the waiting command is gone, and the consumers that are over are retired.
 pub unplanned_leaves : {P F : Type 0} (stands : P → List Call → Type 0) (w old : WorkerStanding P F) → w ≡ old
-    → (now : ℕ) (answer : Result Reply Refusal) (cs : List (Standing P)) (rs : List (Retirement P)) (past : WorkerPast)
+    → (now : ℕ) (answer : Result Reply Refusal) (cs : List (ConsumerValue P)) (rs : List (Retirement P))
+    (past : WorkerPast)
     → old.waiting ≡ Some Surveying → IsPlannedAfter old.made old.seen old.held now answer None
     → cs ≡ live_among w.consumers → rs ≡ w.retired ++ retired_among w.consumers → StandsFor stands old past
     → StandsFor stands (record w { waiting = None; consumers = cs; retired = rs }) (Got_answer now answer ∷ past)

@@ -3,7 +3,7 @@ use Rattle.std.proofs.Common.{ℕ, ◌+◌, ◌≤◌, List, Option}
 use Rattle.kcl_defs.specs.declared.consumer.Ask.{Ask}
 use Rattle.kcl_defs.specs.Workers.{Chore}
 use Rattle.kds_defs.specs.declared.reply.Stored.{Stored}
-use Rattle.kcl_consumer.specs.Standing.{Standing}
+use Rattle.kcl_consumer.specs.Standing.{ConsumerValue}
 use Rattle.kcl_worker.specs.Asks.{AskWithin}
 use Rattle.kcl_worker.specs.Outlook.{IsAsking, NoneOver}
 use Rattle.kcl_worker.specs.Whole.{IsWorker}
@@ -12,7 +12,8 @@ use Rattle.kcl_worker.specs.Whole.{IsWorker}
 -- due while a command waits for its answer, there is room for all retired consumers, and the processors ask only for
 -- what `other` allows. The names with a prime are those after the call.
 pub still_worker : {P : Type 0} {asks : P → List Stored → Ask → Type 0} {may other : List Stored → Ask → Type 0}
-    {name most retired many room retired' many' room' : ℕ} {chore chore' : Option Chore} {cs cs' : List (Standing P)}
+    {name most retired many room retired' many' room' : ℕ} {chore chore' : Option Chore} {cs cs' :
+    List (ConsumerValue P)}
     → IsWorker asks may name most chore cs retired many room → NoneOver cs' → IsAsking chore' cs'
     → retired' + many' ≤ room' → AskWithin asks other cs'
     → IsWorker asks other name most chore' cs' retired' many' room'

@@ -7,18 +7,18 @@ use Rattle.kcl_defs.specs.declared.consumer.Ask.TheVariants as ask
 use Rattle.kds_defs.specs.declared.reply.Stored.{Stored}
 use Rattle.kcl_defs.specs.Consumers.{Stage, Holding, first_batch}
 use Rattle.kcl_defs.specs.Workers.{Known, stage_of_known}
-use Rattle.kcl_consumer.specs.Standing.{Standing}
+use Rattle.kcl_consumer.specs.Standing.{ConsumerValue}
 
 -- Whatever the processor `p` may ask for after a batch, `may` allows.
 abbrev pub IsWithin : {P : Type 0} → (P → List Stored → Ask → Type 0) → (List Stored → Ask → Type 0) → P → Type 0
 IsWithin asks may p = (batch : List Stored) (a : Ask) → asks p batch a → may batch a
 
-abbrev pub processors : {P : Type 0} → List (Standing P) → List P
+abbrev pub processors : {P : Type 0} → List (ConsumerValue P) → List P
 processors cs = map (λ c. c.processor) cs
 
 -- Whatever the processor of any of the consumers `cs` may ask for after a batch, `may` allows.
 abbrev pub AskWithin : {P : Type 0} → (P → List Stored → Ask → Type 0) → (List Stored → Ask → Type 0)
-    → List (Standing P) → Type 0
+    → List (ConsumerValue P) → Type 0
 AskWithin asks may cs = AllByRecursion (IsWithin asks may) (processors cs)
 
 -- The processor may ask for `asked` after the call that is due in the stage. After a batch it may ask for what `may`

@@ -12,44 +12,46 @@ use Rattle.kcl_defs.specs.Consumers.{due_call, over_at}
 use Rattle.kds_defs.specs.Kinds.{is_service}
 use Rattle.kds_defs.specs.Lawful.{IsLawfulCommand}
 use Rattle.kcl_defs.specs.Workers.{Chore, WorkerState, chore_from, command_of, is_giving, stopping_chore}
-use Rattle.kcl_consumer.specs.Standing.{Standing}
-use Rattle.kcl_worker.specs.declared.round.Asked.{Asked}
+use Rattle.kcl_consumer.specs.Standing.{ConsumerValue}
+use Rattle.kcl_worker.specs.declared.round.Awaited.{Awaited}
 use Rattle.kcl_worker.specs.declared.round.Part.{Part}
 use Rattle.kcl_worker.specs.Parts.{chore_of, round_of}
 use Rattle.kcl_worker.specs.Standing.{ConsumersStand}
 use Rattle.kcl_worker_lists.specs.Lists.{due_in}
 
--- No call of the consumer's processor is due, and the consumer isn't over.
-abbrev pub IsReady : {P : Type 0} → Standing P → Type 0
+-- No call of the consumer's processor is due, and the consumer isn't over. So its next command can be sent.
+abbrev pub IsReady : {P : Type 0} → ConsumerValue P → Type 0
 IsReady c = (due_call c.stage ≡ None) × (over_at c.stage ≡ None)
 
 -- There is a chore in `chore`, and `what` is its command in the state `s`. The code stores this chore as `awaited`,
 -- with the steps `syncs` and `takes` left of the two plans.
 pub record IsGiven (made : WorkerMade) (s : WorkerState) (syncs : List SyncStep) (takes : List TakeStep)
-    (chore : Option Chore) (asked : Asked)
+    (chore : Option Chore) (awaited : Awaited)
     (what : Command) : Type 0 where
   pub which : Chore
   pub is : chore ≡ Some which
-  pub asks : chore_of asked syncs takes ≡ Some which
+  pub asks : chore_of awaited syncs takes ≡ Some which
   pub command : command_of made s which ≡ Some what
 
--- In each state with the consumers `cs` and the leases `held`, the chore `chore` is the one in `given`, with its
--- command.
-abbrev pub IsNext : {P : Type 0} → (P → List Call → Type 0) → List (Standing P) → List Held → WorkerMade → List SyncStep
+-- In each state with the consumers `cs` and the leases `held`, the function `chore` gives a chore. `given` has this
+-- chore, in the form in which the code stores it, and the chore's command.
+abbrev pub IsNext : {P : Type 0} → (P → List Call → Type 0) → List (ConsumerValue P) → List Held → WorkerMade
+    → List SyncStep
     → List TakeStep
-    → (WorkerState → Option Chore) → Asked × Command → Type 0
+    → (WorkerState → Option Chore) → Awaited × Command → Type 0
 IsNext stands cs held made syncs takes chore given = (s : WorkerState) → ConsumersStand stands cs s.consumers
     → held ≡ s.held
     → IsGiven made s syncs takes (chore s) given.0 given.1
 
--- `IsNext` holds for every worker, whatever it was made with and has planned.
-abbrev pub IsNextOfAny : {P : Type 0} → (P → List Call → Type 0) → List (Standing P) → List Held
-    → (WorkerState → Option Chore) → Asked × Command → Type 0
+-- `given` has the chore that `chore` gives in each state with the consumers `cs` and the leases `held`, and this
+-- chore's command (`IsNext`). This is so whatever the worker was made with, and whatever steps are left of its plans.
+abbrev pub IsNextOfAny : {P : Type 0} → (P → List Call → Type 0) → List (ConsumerValue P) → List Held
+    → (WorkerState → Option Chore) → Awaited × Command → Type 0
 IsNextOfAny stands cs held chore given = (made : WorkerMade) (syncs : List SyncStep) (takes : List TakeStep)
     → IsNext stands cs held made syncs takes chore given
 
--- No state with the consumers `cs` and the leases `held` has the chore `chore`.
-abbrev pub HasNoChore : {P : Type 0} → (P → List Call → Type 0) → List (Standing P) → List Held
+-- In each state with the consumers `cs` and the leases `held`, the function `chore` gives no chore.
+abbrev pub HasNoChore : {P : Type 0} → (P → List Call → Type 0) → List (ConsumerValue P) → List Held
     → (WorkerState → Option Chore) → Type 0
 HasNoChore stands cs held chore = (s : WorkerState) → ConsumersStand stands cs s.consumers → held ≡ s.held
     → chore s ≡ None
@@ -68,11 +70,12 @@ chore_at_stop s = stopping_chore s (find is_giving s.consumers)
 abbrev pub IsLeaseCommand : Command → Type 0
 IsLeaseCommand what = IsLawfulCommand what × (is_service what ≡ false)
 
--- While a command waits, no processor call is due.
-abbrev pub IsAsking : {P : Type 0} → Option Chore → List (Standing P) → Type 0
+-- If a command waits for its answer (for the chore in the first argument), no processor call of the consumers `cs` is
+-- due.
+abbrev pub IsAsking : {P : Type 0} → Option Chore → List (ConsumerValue P) → Type 0
 IsAsking None cs = Unit {0}
 IsAsking (Some chore) cs = due_in cs ≡ None
 
 -- None of the consumers is over.
-abbrev pub NoneOver : {P : Type 0} → List (Standing P) → Type 0
+abbrev pub NoneOver : {P : Type 0} → List (ConsumerValue P) → Type 0
 NoneOver cs = AllByRecursion (λ c. over_at c.stage ≡ None) cs

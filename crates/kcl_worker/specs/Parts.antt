@@ -7,8 +7,8 @@ use Rattle.kcl_defs.specs.Workers.{Round, AtSurvey, AtSync, AtTakes, AtRenewals,
 use Rattle.kcl_defs.specs.Workers.{Surveying, Syncing, Taking, Renewing, Consuming, Finishing, Freeing}
 use Rattle.kcl_worker.specs.declared.round.Part.{Part}
 use Rattle.kcl_worker.specs.declared.round.Part.TheVariants as part
-use Rattle.kcl_worker.specs.declared.round.Asked.{Asked}
-use Rattle.kcl_worker.specs.declared.round.Asked.TheVariants as asked
+use Rattle.kcl_worker.specs.declared.round.Awaited.{Awaited}
+use Rattle.kcl_worker.specs.declared.round.Awaited.TheVariants as awaited
 
 -- The round of a worker that is at the part in the first argument, with the steps `syncs` and `takes` left of its
 -- plans.
@@ -16,8 +16,8 @@ abbrev pub round_of : Part → List SyncStep → List TakeStep → Round
 round_of part.Survey syncs takes = AtSurvey
 round_of part.Sync syncs takes = AtSync syncs takes
 round_of part.Takes syncs takes = AtTakes takes
-round_of (part.Renewals place) syncs takes = AtRenewals place
-round_of (part.Consumers place) syncs takes = AtConsumers place
+round_of (part.Renewals last) syncs takes = AtRenewals last
+round_of (part.Consumers last) syncs takes = AtConsumers last
 round_of part.Stopping syncs takes = AtStopping
 
 -- The chore that is the first of these steps of the sync plan, or None if no step is left. The chore contains the steps
@@ -32,15 +32,17 @@ abbrev pub taking : List TakeStep → Option Chore
 taking [] = None
 taking (step ∷ takes) = Some (Taking step takes)
 
-abbrev pub chore_of : Asked → List SyncStep → List TakeStep → Option Chore
-chore_of asked.Nothing syncs takes = None
-chore_of asked.Survey syncs takes = Some Surveying
-chore_of asked.Sync syncs takes = syncing syncs takes
-chore_of asked.Take syncs takes = taking takes
-chore_of (asked.Renew h) syncs takes = Some (Renewing h)
-chore_of (asked.Consume id) syncs takes = Some (Consuming id)
-chore_of (asked.Finish id) syncs takes = Some (Finishing id)
-chore_of (asked.Free h) syncs takes = Some (Freeing h)
+-- The chore whose command waits for its answer, or None if no command waits. If the chore is a step of a plan, it is
+-- the first of the steps that are left of this plan.
+abbrev pub chore_of : Awaited → List SyncStep → List TakeStep → Option Chore
+chore_of awaited.Nothing syncs takes = None
+chore_of awaited.Survey syncs takes = Some Surveying
+chore_of awaited.Sync syncs takes = syncing syncs takes
+chore_of awaited.Take syncs takes = taking takes
+chore_of (awaited.Renew h) syncs takes = Some (Renewing h)
+chore_of (awaited.Consume id) syncs takes = Some (Consuming id)
+chore_of (awaited.Finish id) syncs takes = Some (Finishing id)
+chore_of (awaited.Free h) syncs takes = Some (Freeing h)
 
 -- There is a chore, and it is a step of the sync plan.
 abbrev pub IsSyncing : Option Chore → Type 0

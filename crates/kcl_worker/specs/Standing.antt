@@ -18,7 +18,7 @@ use Rattle.kds_defs.specs.declared.reply.Refusal.{Refusal}
 use Rattle.kds_defs.specs.declared.reply.Reply.{Reply}
 use Rattle.kcl_defs.specs.Lives.{IsLifeIn, IsWholeLifeIn}
 use Rattle.kcl_defs.specs.WorkerLives.{IsOfTenure, IsOrderly}
-use Rattle.kcl_consumer.specs.Standing.{Standing, StandsFor as ConsumerStandsFor}
+use Rattle.kcl_consumer.specs.Standing.{ConsumerValue, StandsFor as ConsumerStandsFor}
 use Rattle.kcl_worker_lists.specs.declared.planning.Planned.{Planned}
 use Rattle.kcl_worker_lists.specs.Changes.{live_among, retired_among}
 use Rattle.kcl_worker_lists.specs.Lists.{Retirement, is_due}
@@ -33,7 +33,7 @@ pub record WorkerStanding (P F : Type 0) : Type 0 where
   pub waiting : Option Chore
   pub seen : List Seen
   pub held : List Held
-  pub consumers : List (Standing P)
+  pub consumers : List (ConsumerValue P)
   pub retired : List (Retirement P)
   pub maker : F
 
@@ -42,8 +42,9 @@ pub record IsSameWorker {P F : Type 0} (new old : WorkerStanding P F) : Type 0 w
   pub made : new.made ≡ old.made
   pub maker : new.maker ≡ old.maker
 
--- `new` is the worker `old` after a call, and awaits no answer.
-pub record IsFreed {P F : Type 0} (new old : WorkerStanding P F) : Type 0 where
+-- The worker `new` was made with the same values as the worker `old` and has the same maker of processors, and no
+-- command of `new` waits for its answer.
+pub record AwaitsNone {P F : Type 0} (new old : WorkerStanding P F) : Type 0 where
   pub made : new.made ≡ old.made
   pub maker : new.maker ≡ old.maker
   pub free : new.waiting ≡ None
@@ -75,8 +76,9 @@ is_idle_in w = is_stopping w.round && not (is_due_in w) && not (is_giving_in w) 
 
 -- ---- The record that a worker stands for
 
--- Each consumer stands for its own record.
-abbrev pub ConsumersStand : {P : Type 0} → (P → List Call → Type 0) → List (Standing P) → List Known → Type 0
+-- The two lists are equally long, and each consumer of the first list stands for the record of the consumer at the same
+-- index of the second list, and was made with the same values.
+abbrev pub ConsumersStand : {P : Type 0} → (P → List Call → Type 0) → List (ConsumerValue P) → List Known → Type 0
 ConsumersStand stands [] [] = Unit {0}
 ConsumersStand stands (c ∷ cs) (k ∷ ks) = (c.made ≡ k.made) × ConsumerStandsFor stands c k.past
     × ConsumersStand stands cs ks
@@ -119,9 +121,9 @@ pub record StandsFor {P F : Type 0} (stands : P → List Call → Type 0) (w : W
 
 -- ---- What a worker's processors were called for
 
--- The consumer `c` is of a tenure of the history `h`, and its processor's calls are those for the given reads of that
--- tenure.
-abbrev pub IsServedIn : {P : Type 0} → (P → List Call → Type 0) → ℕ → List Turn → Standing P → Type 0
+-- The consumer `c` belongs to a tenure of the actor `by` in the history `h`, and its processor stands for calls that
+-- are for the given reads of this tenure, in order (`IsLifeIn`).
+abbrev pub IsServedIn : {P : Type 0} → (P → List Call → Type 0) → ℕ → List Turn → ConsumerValue P → Type 0
 IsServedIn stands by h c =
     IsOfTenure by h c.made × ((calls : List Call) × stands c.processor calls × IsLifeIn by h c.made calls)
 

@@ -4,7 +4,7 @@ use Rattle.kcl_defs.specs.declared.consumer.Ask.{Ask}
 use Rattle.kcl_defs.specs.Workers.{Chore}
 use Rattle.kds_defs.specs.declared.reply.Stored.{Stored}
 use Rattle.kds_defs.specs.Lawful.{IsLimit}
-use Rattle.kcl_consumer.specs.Standing.{Standing}
+use Rattle.kcl_consumer.specs.Standing.{ConsumerValue}
 use Rattle.kcl_worker.specs.Asks.{AskWithin}
 use Rattle.kcl_worker.specs.Outlook.{IsAsking, NoneOver}
 
@@ -13,7 +13,7 @@ use Rattle.kcl_worker.specs.Outlook.{IsAsking, NoneOver}
 -- retired ones has room for all (`room`). The worker's name is at least 1, and its limit of records per Read, `most`,
 -- is allowed. Whatever a processor may ask for (`asks`), `may` allows.
 pub record IsWorker {P : Type 0} (asks : P → List Stored → Ask → Type 0) (may : List Stored → Ask → Type 0)
-    (name most : ℕ) (chore : Option Chore) (cs : List (Standing P)) (retired many room : ℕ) : Type 0 where
+    (name most : ℕ) (chore : Option Chore) (cs : List (ConsumerValue P)) (retired many room : ℕ) : Type 0 where
   pub live : NoneOver cs
   pub quiet : IsAsking chore cs
   pub fits : retired + many ≤ room

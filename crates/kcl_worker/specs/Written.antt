@@ -10,28 +10,33 @@ use Rattle.kds_defs.specs.declared.reply.Reply.TheVariants as reply
 use Rattle.kcl_defs.specs.Consumers.{Losing, Stage}
 use Rattle.kcl_defs.specs.Workers.{WorkerState, after_renewal, happens_to, held_after, id_of, id_of_held}
 use Rattle.kcl_defs.specs.Workers.{is_writing, renewed, same_id, without_held}
-use Rattle.kcl_consumer.specs.Standing.{Standing}
+use Rattle.kcl_consumer.specs.Standing.{ConsumerValue}
 use Rattle.kcl_worker.specs.declared.answers.Taken.{Taken}
-use Rattle.kcl_worker.specs.declared.answers.Written.{Written}
-use Rattle.kcl_worker.specs.declared.answers.Written.TheVariants as written
+use Rattle.kcl_worker.specs.declared.answers.RowAnswer.{RowAnswer}
+use Rattle.kcl_worker.specs.declared.answers.RowAnswer.TheVariants as row_answer
 use Rattle.kcl_worker.specs.Standing.{ConsumersStand}
 
--- The leases after the answer to a consumer's command. `writing` says whether the command was a Mark or an OpenShard.
-abbrev pub held_by : ℕ → LeaseId → Bool → Written → List Held → List Held
-held_by now id writing (written.Counter counter) held = renewed id counter now held
-held_by now id writing written.Nothing held = held
-held_by now id writing (written.Refused loss) held = if loss && writing then without_held id held else held
+-- The leases `held` after the answer to a command of the consumer of the lease `id` came at `now`. A counter in the
+-- answer becomes the lease's. A refusal that means a loss drops the lease if `was_writing` is true, which is so if the
+-- command was a Mark or an OpenShard.
+abbrev pub held_by : ℕ → LeaseId → Bool → RowAnswer → List Held → List Held
+held_by now id was_writing (row_answer.Counter counter) held = renewed id counter now held
+held_by now id was_writing row_answer.NoCounter held = held
+held_by now id was_writing (row_answer.Refused loss) held = if loss && was_writing then without_held id held else held
 
--- The worker after the answer to a renewal of the lease `h`.
-abbrev pub renewal_by : ℕ → Held → Written → WorkerState → WorkerState
-renewal_by now h (written.Counter counter) w = record w { held = renewed (id_of_held h) counter now w.held }
-renewal_by now h written.Nothing w = w
-renewal_by now h (written.Refused loss) w = record w {
+-- The worker after the answer to the renewal of the lease `h` came at `now`. A counter in the answer becomes the
+-- lease's. After a refusal the worker no longer has the lease, and the lease's consumer knows of the loss.
+abbrev pub renewal_by : ℕ → Held → RowAnswer → WorkerState → WorkerState
+renewal_by now h (row_answer.Counter counter) w = record w { held = renewed (id_of_held h) counter now w.held }
+renewal_by now h row_answer.NoCounter w = w
+renewal_by now h (row_answer.Refused loss) w = record w {
   held = without_held (id_of_held h) w.held;
   consumers = happens_to (λ k. same_id (id_of k) (id_of_held h)) Losing w.consumers;
 }
 
-pub record IsWritten (answer : Result Reply Refusal) (w : Written) : Type 0 where
+-- `w` is the answer `answer` in the form in which a worker uses it. Both change the worker in the same way, as the
+-- answer to a renewal and as the answer to a consumer's command.
+pub record IsWritten (answer : Result Reply Refusal) (w : RowAnswer) : Type 0 where
   pub renewal : (now : ℕ) (h : Held) (s : WorkerState) → after_renewal now h answer s ≡ renewal_by now h w s
   pub held : (now : ℕ) (id : LeaseId) (stage : Stage) (held : List Held)
       → held_after now id stage answer held ≡ held_by now id (is_writing stage) w held
@@ -39,7 +44,7 @@ pub record IsWritten (answer : Result Reply Refusal) (w : Written) : Type 0 wher
 -- The state `t` has the leases `held`, and its consumers are those for which `cs` stands. In the round, the waiting
 -- command, what was seen and the retired consumers it equals the state `s`.
 pub record Leaves {P : Type 0} (stands : P → List Call → Type 0) (s t : WorkerState) (held : List Held)
-    (cs : List (Standing P)) : Type 0 where
+    (cs : List (ConsumerValue P)) : Type 0 where
   pub held_so : held ≡ t.held
   pub consumers : ConsumersStand stands cs t.consumers
   pub round : t.round ≡ s.round
@@ -50,8 +55,8 @@ pub record Leaves {P : Type 0} (stands : P → List Call → Type 0) (s t : Work
 -- If a state has the leases `held` and the consumers `cs`, then `change` leads to a state with the leases `held_after`
 -- and the consumers `cs_after`, which is otherwise the same.
 abbrev pub LeadsTo : {P : Type 0} → (P → List Call → Type 0) → (WorkerState → WorkerState) → List Held
-    → List (Standing P) → List Held
-    → List (Standing P) → Type 0
+    → List (ConsumerValue P) → List Held
+    → List (ConsumerValue P) → Type 0
 LeadsTo stands change held cs held_after cs_after = (s : WorkerState) → held ≡ s.held
     → ConsumersStand stands cs s.consumers
     → Leaves stands s (change s) held_after cs_after

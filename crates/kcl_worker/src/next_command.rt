@@ -12,7 +12,7 @@ ghost use Rattle.kcl_worker.specs.Outlook.{HasNoChore, IsLeaseCommand, IsNext, I
 ghost use Rattle.kcl_worker.specs.Outlook.{chore_in};
 ghost use Rattle.kcl_worker.specs.Parts.{chore_of};
 
-use crate::round::{Asked, Part};
+use crate::round::{Awaited, Part};
 use kcl_consumer::{Consumer, Processor};
 use kcl_defs::{Held, LeaseId, SyncStep, TakeStep, WorkerMade};
 use kcl_worker_lists::consumers::{first_giving, first_past, id_of};
@@ -25,19 +25,19 @@ use kds_defs::Command;
 pub fn from_consumers<P: Processor>(
     consumers: &[Consumer<P>],
     held: &[Held],
-    place: Option<LeaseId>,
-) -> (Asked, Command)
+    last: Option<LeaseId>,
+) -> (Awaited, Command)
     requires { AllByRecursion IsReady consumers.now }
-    ensures given { IsNextOfAny P.stands_for consumers.now held.now (λ s. Some (from_consumers place s)) result }
+    ensures next { IsNextOfAny P.stands_for consumers.now held.now (λ s. Some (from_consumers last s)) result }
     ensures lawful { IsLeaseCommand result.1 }
     ensures asks { (syncs : List SyncStep) (takes : List TakeStep) → IsSome (chore_of result.0 syncs takes) }
 {
-    match first_past(consumers, &place) {
+    match first_past(consumers, &last) {
         Some(c) => {
             let id = id_of(c);
-            (Asked::Consume(id), c.next(counter_of(held, &id)))
+            (Awaited::Consume(id), c.next(counter_of(held, &id)))
         }
-        None => (Asked::Survey, Command::Survey),
+        None => (Awaited::Survey, Command::Survey),
     }
 }
 
@@ -57,18 +57,18 @@ fn renewal_of(h: &Held) -> Command
 pub fn from_renewals<P: Processor>(
     consumers: &[Consumer<P>],
     held: &[Held],
-    place: Option<LeaseId>,
+    last: Option<LeaseId>,
     now: Moment,
     failover: u64,
-) -> (Asked, Command)
+) -> (Awaited, Command)
     requires { AllByRecursion IsReady consumers.now }
-    ensures given { IsNextOfAny P.stands_for consumers.now held.now (λ s. Some (from_renewals failover now place s))
+    ensures next { IsNextOfAny P.stands_for consumers.now held.now (λ s. Some (from_renewals failover now last s))
         result }
     ensures lawful { IsLeaseCommand result.1 }
     ensures asks { (syncs : List SyncStep) (takes : List TakeStep) → IsSome (chore_of result.0 syncs takes) }
 {
-    match next_due(held, &place, now, failover) {
-        Some(h) => (Asked::Renew(h), renewal_of(&h)),
+    match next_due(held, &last, now, failover) {
+        Some(h) => (Awaited::Renew(h), renewal_of(&h)),
         None => from_consumers(consumers, held, None),
     }
 }
@@ -82,10 +82,10 @@ pub fn from_takes<P: Processor>(
     consumers: &[Consumer<P>],
     held: &[Held],
     now: Moment,
-) -> (Asked, Command)
+) -> (Awaited, Command)
     requires ready { AllByRecursion IsReady consumers.now }
     requires name { 1 ≤ made.now.name }
-    ensures given { (syncs : List SyncStep)
+    ensures next { (syncs : List SyncStep)
         → IsNext P.stands_for consumers.now held.now made.now syncs takes.now
         (λ s. Some (from_takes made.now.settings.failover now takes.now s)) result }
     ensures lawful { IsLeaseCommand result.1 }
@@ -93,7 +93,7 @@ pub fn from_takes<P: Processor>(
 {
     match takes {
         [step, ..] => (
-            Asked::Take,
+            Awaited::Take,
             Command::Take {
                 key: step.key,
                 counter: step.counter,
@@ -130,16 +130,16 @@ pub fn from_sync<P: Processor>(
     consumers: &[Consumer<P>],
     held: &[Held],
     now: Moment,
-) -> (Asked, Command)
+) -> (Awaited, Command)
     requires ready { AllByRecursion IsReady consumers.now }
     requires name { 1 ≤ made.now.name }
-    ensures given { IsNext P.stands_for consumers.now held.now made.now syncs.now takes.now
+    ensures next { IsNext P.stands_for consumers.now held.now made.now syncs.now takes.now
         (λ s. Some (from_sync made.now.settings.failover now syncs.now takes.now s)) result }
     ensures lawful { IsLeaseCommand result.1 }
     ensures asks { IsSome (chore_of result.0 syncs.now takes.now) }
 {
     match syncs {
-        [step, ..] => (Asked::Sync, sync_command(step)),
+        [step, ..] => (Awaited::Sync, sync_command(step)),
         [] => from_takes(made, takes, consumers, held, now),
     }
 }
@@ -150,21 +150,21 @@ pub fn from_sync<P: Processor>(
 pub fn next_while_stopping<P: Processor>(
     consumers: &[Consumer<P>],
     held: &[Held],
-) -> Option<(Asked, Command)>
+) -> Option<(Awaited, Command)>
     ensures none { IfNone result (HasNoChore P.stands_for consumers.now held.now chore_at_stop) }
     ensures some { IfSome result (IsNextOfAny P.stands_for consumers.now held.now chore_at_stop) }
-    ensures lawful { IfSome result (λ given. IsLeaseCommand given.1) }
-    ensures asks { IfSome result (λ given. (syncs : List SyncStep) (takes : List TakeStep)
-        → IsSome (chore_of given.0 syncs takes)) }
+    ensures lawful { IfSome result (λ next. IsLeaseCommand next.1) }
+    ensures asks { IfSome result (λ next. (syncs : List SyncStep) (takes : List TakeStep)
+        → IsSome (chore_of next.0 syncs takes)) }
 {
     match first_giving(consumers) {
         Some(c) => Some((
-            Asked::Finish(id_of(c)),
+            Awaited::Finish(id_of(c)),
             Command::Give { tenure: c.tenure() },
         )),
         None => match held {
             [h, ..] => Some((
-                Asked::Free(*h),
+                Awaited::Free(*h),
                 Command::Free {
                     tenure: h.tenure,
                     counter: h.counter,
@@ -185,7 +185,7 @@ pub fn next_in_part<P: Processor>(
     consumers: &[Consumer<P>],
     held: &[Held],
     now: Moment,
-) -> Option<(Asked, Command)>
+) -> Option<(Awaited, Command)>
     requires ready { AllByRecursion IsReady consumers.now }
     requires name { 1 ≤ made.now.name }
     ensures none { IfNone result
@@ -193,21 +193,21 @@ pub fn next_in_part<P: Processor>(
     ensures some { IfSome result
         (IsNext P.stands_for consumers.now held.now made.now syncs.now takes.now
         (chore_in made.now now part syncs.now takes.now)) }
-    ensures lawful { IfSome result (λ given. IsLeaseCommand given.1) }
-    ensures asks { IfSome result (λ given. IsSome (chore_of given.0 syncs.now takes.now)) }
+    ensures lawful { IfSome result (λ next. IsLeaseCommand next.1) }
+    ensures asks { IfSome result (λ next. IsSome (chore_of next.0 syncs.now takes.now)) }
 {
     match part {
-        Part::Survey => Some((Asked::Survey, Command::Survey)),
+        Part::Survey => Some((Awaited::Survey, Command::Survey)),
         Part::Sync => Some(from_sync(made, syncs, takes, consumers, held, now)),
         Part::Takes => Some(from_takes(made, takes, consumers, held, now)),
-        Part::Renewals(place) => Some(from_renewals(
+        Part::Renewals(last) => Some(from_renewals(
             consumers,
             held,
-            place,
+            last,
             now,
             made.settings.failover,
         )),
-        Part::Consumers(place) => Some(from_consumers(consumers, held, place)),
+        Part::Consumers(last) => Some(from_consumers(consumers, held, last)),
         Part::Stopping => next_while_stopping(consumers, held),
     }
 }

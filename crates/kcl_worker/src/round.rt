@@ -23,7 +23,7 @@ pub enum Part {
 
 /// The purpose of the command whose answer the worker awaits. `Nothing` means that the worker awaits no answer.
 #[derive(Clone, Copy, Debug, PartialEq, Eq)]
-pub enum Asked {
+pub enum Awaited {
     Nothing,
     Survey,
     Sync,

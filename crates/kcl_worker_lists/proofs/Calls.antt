@@ -12,7 +12,7 @@ use Rattle.kcl_defs.specs.declared.plans.LeaseId.{LeaseId}
 use Rattle.kds_defs.specs.declared.reply.Refusal.{Refusal}
 use Rattle.kds_defs.specs.declared.reply.Reply.{Reply}
 use Rattle.kcl_defs.specs.Consumers.{after_answer, given_after}
-use Rattle.kcl_consumer.specs.Standing.{HasCalled, IsAsBefore, Standing}
+use Rattle.kcl_consumer.specs.Standing.{HasCalled, IsAsBefore, ConsumerValue}
 use Rattle.kcl_worker_lists.specs.Changes.{FirstCalled, FirstUncalled, IsFirstDue, IsFirstOf, answered_among}
 use Rattle.kcl_worker_lists.specs.Changes.{answered_in}
 
@@ -26,7 +26,7 @@ split_at xs i x lt at =
 -- Let the consumer at the index `i` be the first with a due processor call, and let `d` be this consumer after the
 -- call. Then the list with `d` in its place is the list after the first due call (`FirstCalled`).
 pub first_called : {P : Type 0} (stands : P → List Call → Type 0) (asks : P → List Stored → Ask
-    → Type 0) (asked : Ask) (i : ℕ) (cs new : List (Standing P)) (c d : Standing P) → IsFirstDue i cs
+    → Type 0) (asked : Ask) (i : ℕ) (cs new : List (ConsumerValue P)) (c d : ConsumerValue P) → IsFirstDue i cs
     → c ≡ get_or cs i c → new ≡ set cs i d → HasCalled stands asks asked c d → FirstCalled stands asks asked cs new
 first_called stands asks asked i cs new c d f at is has = record {
   before = take i cs;
@@ -43,7 +43,7 @@ first_called stands asks asked i cs new c d f at is has = record {
 -- Let the consumer at the index `i` be the first with a due processor call, and let `d` be this consumer after the call
 -- ran out of memory. Then the list with `d` in its place is the list after this call (`FirstUncalled`).
 pub first_uncalled : {P : Type 0} (stands : P → List Call → Type 0) (asks : P → List Stored → Ask
-    → Type 0) (i : ℕ) (cs new : List (Standing P)) (c d : Standing P) → IsFirstDue i cs → c ≡ get_or cs i c
+    → Type 0) (i : ℕ) (cs new : List (ConsumerValue P)) (c d : ConsumerValue P) → IsFirstDue i cs → c ≡ get_or cs i c
     → new ≡ set cs i d → IsAsBefore stands asks c d → FirstUncalled stands asks cs new
 first_uncalled stands asks i cs new c d f at is has = record {
   before = take i cs;
@@ -76,13 +76,17 @@ map_over f xs ys i x y lt so_far at is = ap (λ z. set ys i z) is ∙ map_over_m
 
 -- ---- The consumer that takes an answer
 
-pub answered_same : {P : Type 0} (answer : Result Reply Refusal) (c d : Standing P) → d.made ≡ c.made
+-- If `d` differs from the consumer `c` only in the stage and the given number, as after the answer `answer`, then `d`
+-- is `c` after this answer (`answered_in`).
+pub answered_same : {P : Type 0} (answer : Result Reply Refusal) (c d : ConsumerValue P) → d.made ≡ c.made
     → d.stage ≡ after_answer c.made answer c.stage → d.given ≡ given_after answer c.stage c.given
     → d.processor ≡ c.processor → d ≡ answered_in answer c
 answered_same answer c d a b g e = λ i. record { made = a i; stage = b i; given = g i; processor = e i }
 
-pub answered_here : {P : Type 0} (id : LeaseId) (answer : Result Reply Refusal) (i : ℕ) (cs : List (Standing P))
-    (c d : Standing P) → IsFirstOf id i cs → c ≡ get_or cs i c → d ≡ answered_in answer c
+-- If the consumer at the index `i` is the first one of the lease `id`, the list in which it took the answer is the list
+-- after the answer (`answered_among`).
+pub answered_here : {P : Type 0} (id : LeaseId) (answer : Result Reply Refusal) (i : ℕ) (cs : List (ConsumerValue P))
+    (c d : ConsumerValue P) → IsFirstOf id i cs → c ≡ get_or cs i c → d ≡ answered_in answer c
     → set cs i d ≡ answered_among id answer cs
 answered_here id answer i cs c d f at is =
     set_split cs i d f.within

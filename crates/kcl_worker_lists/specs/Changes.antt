@@ -16,23 +16,24 @@ use Rattle.kds_defs.specs.declared.reply.Reply.{Reply}
 use Rattle.kds_defs.specs.declared.reply.Stored.{Stored}
 use Rattle.kcl_defs.specs.Consumers.{Stage, Opening, Over, after_answer, after_loss, given_after, over_at}
 use Rattle.kcl_defs.specs.Workers.{held_after, id_of_held, is_before_id, same_id, without_held}
-use Rattle.kcl_consumer.specs.Standing.{HasCalled, IsAsBefore, Standing}
+use Rattle.kcl_consumer.specs.Standing.{HasCalled, IsAsBefore, ConsumerValue}
 use Rattle.kcl_worker_lists.specs.Lists.{id_in}
 use Rattle.kcl_worker_lists.specs.Lists.{Retirement, is_due}
 
 -- ---- One consumer
 
--- `lost_in` is the consumer once its lease is known to be lost, and `answered_in` is the consumer after it absorbed an
--- answer.
-abbrev pub lost_in : {P : Type 0} → Standing P → Standing P
+-- The consumer `c` once its lease is known to be lost.
+abbrev pub lost_in : {P : Type 0} → ConsumerValue P → ConsumerValue P
 lost_in c = record c { stage = after_loss c.stage }
 
-abbrev pub answered_in : {P : Type 0} → Result Reply Refusal → Standing P → Standing P
+-- The consumer `c` after it took the answer `answer` to its command: its stage and the last number that it gave may
+-- have changed.
+abbrev pub answered_in : {P : Type 0} → Result Reply Refusal → ConsumerValue P → ConsumerValue P
 answered_in answer c =
     record c { stage = after_answer c.made answer c.stage; given = given_after answer c.stage c.given }
 
--- Whether the consumer is over, why it is, and what is kept of it.
-abbrev pub is_over_in : {P : Type 0} → Standing P → Bool
+-- Whether the consumer `c` has ended.
+abbrev pub is_over_in : {P : Type 0} → ConsumerValue P → Bool
 is_over_in c = is_some (over_at c.stage)
 
 -- The reason why a consumer in the stage `Over` has ended. In any other stage the result is `Lost`, and isn't used.
@@ -40,60 +41,65 @@ abbrev pub why_of : Stage → Why
 why_of (Over why) = why
 why_of _ = why.Lost
 
-abbrev pub retire : {P : Type 0} → Standing P → Retirement P
+-- What is kept of the consumer `c` once it has ended: its key, its tenure, the reason, and its processor.
+abbrev pub retire : {P : Type 0} → ConsumerValue P → Retirement P
 retire c = record { key = c.made.key; tenure = c.made.tenure; why = why_of c.stage; processor = c.processor }
 
 -- ---- Several consumers
 
--- The consumers after those whose lease passes `test` have lost it.
-abbrev pub lost_among : {P : Type 0} → (LeaseId → Bool) → List (Standing P) → List (Standing P)
+-- The consumers `cs` after those for whose lease `test` is true have learnt that it is lost.
+abbrev pub lost_among : {P : Type 0} → (LeaseId → Bool) → List (ConsumerValue P) → List (ConsumerValue P)
 lost_among test cs = map (λ c. if test (id_in c) then lost_in c else c) cs
 
--- The consumers after the first one of the lease `id` absorbed an answer.
-abbrev pub answered_among : {P : Type 0} → LeaseId → Result Reply Refusal → List (Standing P) → List (Standing P)
+-- The consumers after the first one of the lease `id` took the answer `answer`.
+abbrev pub answered_among : {P : Type 0} → LeaseId → Result Reply Refusal → List (ConsumerValue P)
+    → List (ConsumerValue P)
 answered_among id answer [] = []
 answered_among id answer (c ∷ cs) =
     if same_id (id_in c) id then answered_in answer c ∷ cs else c ∷ answered_among id answer cs
 
--- The consumers with `c` inserted in the order of the leases.
-abbrev pub with_consumer : {P : Type 0} → Standing P → List (Standing P) → List (Standing P)
+-- The consumers in the second argument with the consumer `c`, which comes right before the first one whose lease is
+-- after the lease of `c`, or at the end.
+abbrev pub with_consumer : {P : Type 0} → ConsumerValue P → List (ConsumerValue P) → List (ConsumerValue P)
 with_consumer c [] = c ∷ []
 with_consumer c (d ∷ ds) = if is_before_id (id_in c) (id_in d) then c ∷ d ∷ ds else d ∷ with_consumer c ds
 
--- The consumers without the first one of the lease `id`.
-abbrev pub without_consumer : {P : Type 0} → LeaseId → List (Standing P) → List (Standing P)
+-- The consumers in the second argument without the first one of the lease `id`.
+abbrev pub without_consumer : {P : Type 0} → LeaseId → List (ConsumerValue P) → List (ConsumerValue P)
 without_consumer id [] = []
 without_consumer id (c ∷ cs) = if same_id (id_in c) id then cs else c ∷ without_consumer id cs
 
--- `leaving_in` is the first lease of the key `key` that has a consumer.
-abbrev pub has_one : {P : Type 0} → List (Standing P) → Held → Bool
+-- Whether one of the consumers `cs` belongs to the lease `h`.
+abbrev pub has_one : {P : Type 0} → List (ConsumerValue P) → Held → Bool
 has_one cs h = list_any (λ c. same_id (id_in c) (id_of_held h)) cs
 
-abbrev pub leaving_in : {P : Type 0} → ShardRef → List (Standing P) → List Held → Option Held
+-- The first of the leases `held` that has the key `key` and has a consumer among `cs`, if there is one.
+abbrev pub leaving_in : {P : Type 0} → ShardRef → List (ConsumerValue P) → List Held → Option Held
 leaving_in key cs held = find (λ h. same_key h.key key && has_one cs h) held
 
--- The consumers that go on, and what is kept of those that are over.
-abbrev pub live_among : {P : Type 0} → List (Standing P) → List (Standing P)
+-- Those of the consumers `cs` that haven't ended.
+abbrev pub live_among : {P : Type 0} → List (ConsumerValue P) → List (ConsumerValue P)
 live_among cs = filter (λ c. not (is_over_in c)) cs
 
-abbrev pub retired_among : {P : Type 0} → List (Standing P) → List (Retirement P)
+-- What is kept of those of the consumers `cs` that have ended, in their order.
+abbrev pub retired_among : {P : Type 0} → List (ConsumerValue P) → List (Retirement P)
 retired_among cs = map retire (filter is_over_in cs)
 
--- The first consumer whose processor must be called has the index `i`.
-pub record IsFirstDue {P : Type 0} (i : ℕ) (cs : List (Standing P)) : Type 0 where
+-- `i` is the index of the first of the consumers `cs` for whose processor a call is due.
+pub record IsFirstDue {P : Type 0} (i : ℕ) (cs : List (ConsumerValue P)) : Type 0 where
   pub within : i < length cs
   pub none_due : AllByRecursion (λ c. is_due c ≡ false) (take i cs)
-  pub due : (c : Standing P) → c ≡ get_or cs i c → is_due c ≡ true
+  pub due : (c : ConsumerValue P) → c ≡ get_or cs i c → is_due c ≡ true
 
 -- The due processor call of the first of the consumers `old` that has one was made, and the processor asked for
 -- `asked`. In `new` this consumer is as it is after the call, and all others are unchanged.
 pub record FirstCalled {P : Type 0} (stands : P → List Call → Type 0) (asks : P → List Stored → Ask
     → Type 0) (asked : Ask)
-    (old new : List (Standing P)) : Type 0 where
-  pub before : List (Standing P)
-  pub one : Standing P
-  pub called : Standing P
-  pub behind : List (Standing P)
+    (old new : List (ConsumerValue P)) : Type 0 where
+  pub before : List (ConsumerValue P)
+  pub one : ConsumerValue P
+  pub called : ConsumerValue P
+  pub behind : List (ConsumerValue P)
   pub was : old ≡ before ++ one ∷ behind
   pub is : new ≡ before ++ called ∷ behind
   pub none_due : AllByRecursion (λ c. is_due c ≡ false) before
@@ -102,43 +108,49 @@ pub record FirstCalled {P : Type 0} (stands : P → List Call → Type 0) (asks 
 
 -- ---- The leases after a consumer's answer
 
--- The first consumer of the lease `id`, and its stage.
-abbrev pub one_of : {P : Type 0} → LeaseId → List (Standing P) → Option (Standing P)
-one_of id cs = find (λ c. same_id (id_in c) id) cs
+-- The first consumer of the lease `id`, if there is one.
+abbrev pub first_of : {P : Type 0} → LeaseId → List (ConsumerValue P) → Option (ConsumerValue P)
+first_of id cs = find (λ c. same_id (id_in c) id) cs
 
-abbrev pub stage_or_opening : {P : Type 0} → Option (Standing P) → Stage
+-- The stage of the consumer, or `Opening` if there is none.
+abbrev pub stage_or_opening : {P : Type 0} → Option (ConsumerValue P) → Stage
 stage_or_opening None = Opening
 stage_or_opening (Some c) = c.stage
 
--- The leases `held`, without the lease `id` if its consumer is over.
-abbrev pub kept_unless_over : {P : Type 0} → LeaseId → Option (Standing P) → List Held → List Held
+-- The leases `held`, without the lease `id` if its consumer (the second argument) has ended.
+abbrev pub kept_unless_over : {P : Type 0} → LeaseId → Option (ConsumerValue P) → List Held → List Held
 kept_unless_over id None held = held
 kept_unless_over id (Some c) held = if is_over_in c then without_held id held else held
 
-abbrev pub held_in : {P : Type 0} → ℕ → LeaseId → Result Reply Refusal → List (Standing P) → List Held → List Held
+-- The leases `held` after the answer to a command of the consumer of the lease `id` came at `now`. `cs` are the
+-- consumers before the answer. If the answer has a counter, the lease gets it. The lease is dropped if an OpenShard or
+-- a Mark was refused because of a loss, or if the consumer is over after the answer.
+abbrev pub held_in : {P : Type 0} → ℕ → LeaseId → Result Reply Refusal → List (ConsumerValue P) → List Held → List Held
 held_in now id answer cs held =
-    kept_unless_over id (one_of id (answered_among id answer cs))
-    (held_after now id (stage_or_opening (one_of id cs)) answer held)
+    kept_unless_over id (first_of id (answered_among id answer cs))
+    (held_after now id (stage_or_opening (first_of id cs)) answer held)
 
 -- A due processor call of one of the consumers `old` ran out of memory, so the call is still due and nothing has
 -- changed (`IsAsBefore`). In `new` the other consumers are unchanged, too.
 pub record FirstUncalled {P : Type 0} (stands : P → List Call → Type 0) (asks : P → List Stored → Ask
-    → Type 0) (old new : List (Standing P)) : Type 0 where
-  pub before : List (Standing P)
-  pub one : Standing P
-  pub same : Standing P
-  pub behind : List (Standing P)
+    → Type 0) (old new : List (ConsumerValue P)) : Type 0 where
+  pub before : List (ConsumerValue P)
+  pub one : ConsumerValue P
+  pub same : ConsumerValue P
+  pub behind : List (ConsumerValue P)
   pub was : old ≡ before ++ one ∷ behind
   pub is : new ≡ before ++ same ∷ behind
   pub has : IsAsBefore stands asks one same
 
-abbrev pub is_over_one : {P : Type 0} → Option (Standing P) → Bool
-is_over_one None = false
-is_over_one (Some c) = is_over_in c
+-- Whether there is a consumer, and it has ended.
+abbrev pub is_over_at : {P : Type 0} → Option (ConsumerValue P) → Bool
+is_over_at None = false
+is_over_at (Some c) = is_over_in c
 
--- The first consumer of the lease `id` has the index `i`.
-pub record IsFirstOf {P : Type 0} (id : LeaseId) (i : ℕ) (cs : List (Standing P)) : Type 0 where
+-- The consumer at the index `i` is the first one of the lease `id` among `cs`. So an answer to a command of this lease
+-- changes no consumer before the index `i`.
+pub record IsFirstOf {P : Type 0} (id : LeaseId) (i : ℕ) (cs : List (ConsumerValue P)) : Type 0 where
   pub within : i < length cs
   pub before : (answer : Result Reply Refusal) → take i cs ++ answered_among id answer (drop i cs)
       ≡ answered_among id answer cs
-  pub same : (c : Standing P) → c ≡ get_or cs i c → same_id (id_in c) id ≡ true
+  pub same : (c : ConsumerValue P) → c ≡ get_or cs i c → same_id (id_in c) id ≡ true

@@ -2,4 +2,4 @@ pub mod Lists
 pub mod Changes
 pub mod Retirements
 pub mod Planning
-pub mod Places
+pub mod Indexes

@@ -7,7 +7,7 @@ use Rattle.kcl_defs.specs.declared.consumer.Why.{Why}
 use Rattle.kcl_defs.specs.declared.plans.LeaseId.{LeaseId}
 use Rattle.kcl_defs.specs.Consumers.{due_call}
 use Rattle.kcl_defs.specs.Workers.{is_giving_stage, is_past}
-use Rattle.kcl_consumer.specs.Standing.{Standing}
+use Rattle.kcl_consumer.specs.Standing.{ConsumerValue}
 
 -- What is kept of a consumer that has ended: the key and the tenure of its lease, the reason why it ended, and its
 -- processor.
@@ -17,30 +17,33 @@ pub record Retirement (P : Type 0) : Type 0 where
   pub why : Why
   pub processor : P
 
-abbrev pub id_in : {P : Type 0} → Standing P → LeaseId
+-- The identity of the lease of the consumer `c`: its key and its tenure.
+abbrev pub id_in : {P : Type 0} → ConsumerValue P → LeaseId
 id_in c = record { key = c.made.key; tenure = c.made.tenure }
 
--- `past_in` is the first consumer after a place in the round, and `giving_in` is the first one that has a batch to
--- give.
-abbrev pub past_in : {P : Type 0} → Option LeaseId → List (Standing P) → Option (Standing P)
-past_in place cs = find (λ c. is_past place (id_in c)) cs
+-- The first of the consumers `cs` whose lease comes after the lease `last`, if there is one. Without a lease `last`, it
+-- is the first of all.
+abbrev pub past_in : {P : Type 0} → Option LeaseId → List (ConsumerValue P) → Option (ConsumerValue P)
+past_in last cs = find (λ c. is_past last (id_in c)) cs
 
-abbrev pub giving_in : {P : Type 0} → List (Standing P) → Option (Standing P)
+-- The first of the consumers `cs` that has a batch to give, if there is one.
+abbrev pub giving_in : {P : Type 0} → List (ConsumerValue P) → Option (ConsumerValue P)
 giving_in cs = find (λ c. is_giving_stage c.stage) cs
 
--- Whether a call of the consumer's processor is due.
-abbrev pub is_due : {P : Type 0} → Standing P → Bool
+-- Whether a call of the processor of the consumer `c` is due.
+abbrev pub is_due : {P : Type 0} → ConsumerValue P → Bool
 is_due c = is_some (due_call c.stage)
 
-abbrev pub due_or : {P : Type 0} → Standing P → Option Due → Option (ShardRef × Due) → Option (ShardRef × Due)
+-- The call in the second argument, with the key of its consumer `c`. If no call is due, it is `rest`.
+abbrev pub due_or : {P : Type 0} → ConsumerValue P → Option Due → Option (ShardRef × Due) → Option (ShardRef × Due)
 due_or c None rest = rest
 due_or c (Some due) rest = Some (c.made.key, due)
 
--- The first call that is due, with the key of its consumer.
-abbrev pub due_in : {P : Type 0} → List (Standing P) → Option (ShardRef × Due)
+-- The first due processor call of the consumers, with the key of its consumer, if a call is due.
+abbrev pub due_in : {P : Type 0} → List (ConsumerValue P) → Option (ShardRef × Due)
 due_in [] = None
 due_in (c ∷ cs) = due_or c (due_call c.stage) (due_in cs)
 
--- The number of calls that are due.
-abbrev pub due_count : {P : Type 0} → List (Standing P) → ℕ
+-- How many of the consumers `cs` have a due processor call.
+abbrev pub due_count : {P : Type 0} → List (ConsumerValue P) → ℕ
 due_count cs = length (filter is_due cs)

@@ -14,9 +14,9 @@ use Rattle.kcl_defs.specs.Plans.{after_rows, expiry, seen_at, sync_plan, take_pl
 use Rattle.kcl_defs.specs.Workers.{id_of_held, same_id, still_stands}
 use Rattle.kcl_worker_lists.specs.declared.planning.Planned.{Planned}
 
--- The leases whose row is gone or names another tenure.
-abbrev pub gone : List Row → List Held → List Held
-gone rows held = filter (λ h. not (still_stands rows h)) held
+-- Those of the leases `held` for whose key no row is among `rows`, or whose row names another tenure.
+abbrev pub lost_of : List Row → List Held → List Held
+lost_of rows held = filter (λ h. not (still_stands rows h)) held
 
 -- Whether one of the leases `held` has the identity `id`.
 abbrev pub is_among : List Held → LeaseId → Bool
@@ -29,7 +29,7 @@ pub record IsPlanned (made : WorkerMade) (seen : List Seen) (held : List Held) (
     (rows : List Row) (now : ℕ) (p : Planned) : Type 0 where
   pub seen_so : (key : ShardRef) → seen_at p.observed key ≡ after_rows rows now (seen_at seen) key
   pub held_so : p.held.items ≡ filter (still_stands rows) held
-  pub gone_so : p.gone.items ≡ gone rows held
+  pub lost_so : p.lost.items ≡ lost_of rows held
   pub syncs_so : p.syncs ≡ sync_plan shards rows made.settings.from
   pub takes_so : p.takes
       ≡ take_plan (expiry (seen_at p.observed) now made.settings.failover) made.name p.held.items rows

@@ -14,7 +14,7 @@ ghost use Rattle.kcl_worker_lists.specs.Planning.{is_among};
 ghost use Rattle.kcl_worker_lists.specs.Lists.{giving_in, id_in, past_in};
 ghost use Rattle.kcl_defs.specs.Workers.{is_giving_stage, is_writing, same_id};
 ghost use Rattle.kcl_worker_lists.specs.Changes.{FirstCalled, FirstUncalled, IsFirstDue, IsFirstOf, answered_among};
-ghost use Rattle.kcl_worker_lists.specs.Changes.{is_over_one, lost_among, lost_in, one_of, stage_or_opening};
+ghost use Rattle.kcl_worker_lists.specs.Changes.{is_over_at, lost_among, lost_in, first_of, stage_or_opening};
 ghost use Rattle.kcl_worker_lists.specs.Changes.{with_consumer};
 ghost use Rattle.kcl_worker_lists.specs.Lists.{due_in, is_due};
 
@@ -39,12 +39,12 @@ pub fn id_of<P: Processor>(c: &Consumer<P>) -> LeaseId
 /// returns the first consumer in the list.
 pub fn first_past<'a, P: Processor>(
     consumers: &'a [Consumer<P>],
-    place: &Option<LeaseId>,
+    last: &Option<LeaseId>,
 ) -> Option<&'a Consumer<P>>
-    ensures { option_map (λ c. c.now) result ≡ past_in place.now consumers.now }
+    ensures { option_map (λ c. c.now) result ≡ past_in last.now consumers.now }
 {
     for c in consumers {
-        if is_past(place, &id_of(c)) {
+        if is_past(last, &id_of(c)) {
             return Some(c);
         }
     }
@@ -119,11 +119,11 @@ pub fn lose_one<P: Processor>(consumers: &mut Vec<Consumer<P>>, id: &LeaseId)
 
 /// Tells the consumers of each lease in `lost` that the lease is lost.
 #[tactic(auto, using(crate::proofs::Calls::map_over))]
-pub fn lose_gone<P: Processor>(consumers: &mut Vec<Consumer<P>>, gone: &[Held])
-    ensures { consumers.new.items ≡ lost_among (is_among gone.now) consumers.old.items }
+pub fn lose_these<P: Processor>(consumers: &mut Vec<Consumer<P>>, lost: &[Held])
+    ensures { consumers.new.items ≡ lost_among (is_among lost.now) consumers.old.items }
 {
     for c in consumers.iter_mut() {
-        let same = is_among(gone, &id_of(c));
+        let same = is_among(lost, &id_of(c));
         lose_if(c, same);
     }
 }
@@ -158,7 +158,7 @@ pub fn call_first<P: Processor>(consumers: &mut Vec<Consumer<P>>) -> Result<(), 
 
 /// Returns the first consumer of the lease `id`, or `None` if the lease has no consumer.
 fn first_of<'a, P: Processor>(consumers: &'a [Consumer<P>], id: &LeaseId) -> Option<&'a Consumer<P>>
-    ensures { option_map (λ c. c.now) result ≡ one_of id.now consumers.now }
+    ensures { option_map (λ c. c.now) result ≡ first_of id.now consumers.now }
 {
     for c in consumers {
         if same_id(&id_of(c), id) {
@@ -171,7 +171,7 @@ fn first_of<'a, P: Processor>(consumers: &'a [Consumer<P>], id: &LeaseId) -> Opt
 /// Whether the next command of the first consumer of the lease `id` is an OpenShard (it opens the shard) or a Mark (it
 /// sets the checkpoint). If the lease has no consumer, the result is `true`.
 pub fn is_writing_at<P: Processor>(consumers: &[Consumer<P>], id: &LeaseId) -> bool
-    ensures { result ≡ is_writing (stage_or_opening (one_of id.now consumers.now)) }
+    ensures { result ≡ is_writing (stage_or_opening (first_of id.now consumers.now)) }
 {
     match first_of(consumers, id) {
         Some(c) => c.is_writing(),
@@ -181,7 +181,7 @@ pub fn is_writing_at<P: Processor>(consumers: &[Consumer<P>], id: &LeaseId) -> b
 
 /// Whether the first consumer of the lease `id` is over. If the lease has no consumer, the result is `false`.
 pub fn is_over_at<P: Processor>(consumers: &[Consumer<P>], id: &LeaseId) -> bool
-    ensures { result ≡ is_over_one (one_of id.now consumers.now) }
+    ensures { result ≡ is_over_at (first_of id.now consumers.now) }
 {
     match first_of(consumers, id) {
         Some(c) => c.over().is_some(),
@@ -219,7 +219,7 @@ pub fn absorb_one<P: Processor>(consumers: &mut Vec<Consumer<P>>, id: &LeaseId, 
 
 /// Returns the index at which the consumer `c` has to be inserted to keep the order of the list.
 fn insertion_index<P: Processor>(consumers: &[Consumer<P>], c: &Consumer<P>) -> usize
-    ensures place { insert consumers.now result c.now ≡ with_consumer c.now consumers.now }
+    ensures index { insert consumers.now result c.now ≡ with_consumer c.now consumers.now }
     ensures within { result ≤ length consumers.now }
 {
     for i in 0..consumers.len() {

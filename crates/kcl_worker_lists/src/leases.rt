@@ -34,11 +34,11 @@ pub fn is_before_id(a: &LeaseId, b: &LeaseId) -> bool
 
 /// Whether the lease `id` comes after the lease `last` in the order of the list. If `last` is `None`, the result is
 /// `true`.
-pub fn is_past(place: &Option<LeaseId>, id: &LeaseId) -> bool
-    ensures { result ≡ is_past place.now id.now }
+pub fn is_past(last: &Option<LeaseId>, id: &LeaseId) -> bool
+    ensures { result ≡ is_past last.now id.now }
 {
-    match place {
-        Some(place) => is_before_id(place, id),
+    match last {
+        Some(last) => is_before_id(last, id),
         None => true,
     }
 }
@@ -65,13 +65,13 @@ pub fn counter_of(held: &[Held], id: &LeaseId) -> u64
     0
 }
 
-/// Returns the first lease in the list that comes after the lease `place` and is due for renewal at the moment `now`.
-/// If `place` is `None`, the search begins at the first lease. `failover` is the failover time in milliseconds.
-pub fn next_due(held: &[Held], place: &Option<LeaseId>, now: Moment, failover: u64) -> Option<Held>
-    ensures { result ≡ find (λ h. is_past place.now (id_of_held h) && is_due h now failover) held.now }
+/// Returns the first lease in the list that comes after the lease `last` and is due for renewal at the moment `now`.
+/// If `last` is `None`, the search begins at the first lease. `failover` is the failover time in milliseconds.
+pub fn next_due(held: &[Held], last: &Option<LeaseId>, now: Moment, failover: u64) -> Option<Held>
+    ensures { result ≡ find (λ h. is_past last.now (id_of_held h) && is_due h now failover) held.now }
 {
     for h in held {
-        if is_past(place, &id_of_held(h)) && kcl_renew::due(h, now, failover) {
+        if is_past(last, &id_of_held(h)) && kcl_renew::due(h, now, failover) {
             return Some(*h);
         }
     }
@@ -115,7 +115,7 @@ pub fn drop_held(held: &mut Vec<Held>, id: &LeaseId)
 
 /// Returns the index at which the lease `h` has to be inserted to keep the order of the list.
 fn insertion_index(held: &[Held], h: &Held) -> usize
-    ensures place { insert held.now result h.now ≡ with_held h.now held.now }
+    ensures index { insert held.now result h.now ≡ with_held h.now held.now }
     ensures within { result ≤ length held.now }
 {
     for i in 0..held.len() {

@@ -5,7 +5,7 @@ ghost use Rattle.std.specs.Prelude.{◌≡◌, IfOk, true};
 ghost use Rattle.std.specs.List.{filter};
 ghost use Rattle.kcl_defs.specs.Plans.{AreRising, keys_of};
 ghost use Rattle.kcl_defs.specs.Workers.{still_stands};
-ghost use Rattle.kcl_worker_lists.specs.Planning.{IsPlanned, IsPlannedAfter, gone, is_among};
+ghost use Rattle.kcl_worker_lists.specs.Planning.{IsPlanned, IsPlannedAfter, lost_of, is_among};
 
 use crate::leases::{id_of_held, same_id};
 use crate::search::{are_rising, row_of};
@@ -23,7 +23,7 @@ pub struct Planned {
     pub observed: Observed,
     pub held: Vec<Held>,
     /// The leases that the worker has lost: the lease's row was removed, or no longer names the lease's tenure.
-    pub gone: Vec<Held>,
+    pub lost: Vec<Held>,
     pub syncs: Items<SyncStep>,
     pub takes: Items<TakeStep>,
 }
@@ -56,8 +56,8 @@ fn standing(alloc: Global, rows: &[Row], held: &[Held]) -> Result<Vec<Held>, Mem
 
 /// Returns the leases in `held` that the worker has lost: the lease's row isn't in `rows`, or doesn't name the lease's
 /// tenure.
-fn gone(alloc: Global, rows: &[Row], held: &[Held]) -> Result<Vec<Held>, Memory>
-    ensures { IfOk result (λ lost. lost.items ≡ gone rows.now held.now) }
+fn lost_of(alloc: Global, rows: &[Row], held: &[Held]) -> Result<Vec<Held>, Memory>
+    ensures { IfOk result (λ lost. lost.items ≡ lost_of rows.now held.now) }
 {
     let rising = are_rising(rows);
     let mut lost = Vec::new(alloc);
@@ -95,7 +95,7 @@ pub fn plan_survey(
     ensures { IfOk result (λ p. IsPlanned made.now observed.now held.now shards.now rows.now now p) }
 {
     let observed = observed.with_rows(alloc, rows, now)?;
-    let lost = gone(alloc, rows, held)?;
+    let lost = lost_of(alloc, rows, held)?;
     let held = standing(alloc, rows, held)?;
     let syncs = kcl_sync::plan(alloc, shards, rows, made.settings.from)?;
     let takes = kcl_take::plan(
@@ -110,7 +110,7 @@ pub fn plan_survey(
     Ok(Planned {
         observed,
         held,
-        gone: lost,
+        lost,
         syncs,
         takes,
     })

@@ -3,7 +3,7 @@
 //! consumer processes the shard of one lease.
 ghost use Rattle.std.specs.Prelude.{◌≡◌, ◌≤◌, IfNone};
 ghost use Rattle.std.specs.Vec.{vec_len};
-ghost use Rattle.kcl_worker_lists.specs.Changes.{has_one, leaving_in, one_of, without_consumer};
+ghost use Rattle.kcl_worker_lists.specs.Changes.{has_one, leaving_in, first_of, without_consumer};
 
 use crate::consumers::id_of;
 use crate::leases::{id_of_held, same_id};
@@ -47,7 +47,7 @@ pub fn take_consumer<P: Processor>(
     consumers: &mut Vec<Consumer<P>>,
     id: &LeaseId,
 ) -> Option<Consumer<P>>
-    ensures taken { result ≡ one_of id.now consumers.old.items }
+    ensures taken { result ≡ first_of id.now consumers.old.items }
     ensures left { consumers.new.items ≡ without_consumer id.now consumers.old.items }
     ensures none { IfNone result (consumers.new ≡ consumers.old) }
     ensures len { vec_len consumers.new ≤ vec_len consumers.old }

@@ -3,7 +3,7 @@
 ghost use Rattle.std.specs.Prelude.{◌≡◌, ◌≤◌, length, slice_get, true};
 ghost use Rattle.std.specs.Option.{option_map};
 ghost use Rattle.kcl_defs.specs.Plans.{AreRising, keys_of, row_of};
-ghost use Rattle.kcl_worker_lists.specs.Places.{before_next, if_key, index_of};
+ghost use Rattle.kcl_worker_lists.specs.Indexes.{before_next, if_key, index_of};
 
 use kds_base::ShardRef;
 use kds_defs::{Row, is_before};
@@ -52,7 +52,7 @@ fn row_at<'a>(rows: &'a [Row], index: usize, key: &ShardRef) -> Option<&'a Row>
 }
 
 /// Returns the row whose key is `key`, by binary search, or `None` if there is no such row.
-#[tactic(auto, using(crate::proofs::Places::row_there))]
+#[tactic(auto, using(crate::proofs::Indexes::row_there))]
 fn search_row<'a>(rows: &'a [Row], key: &ShardRef) -> Option<&'a Row>
     requires { AreRising (keys_of rows.now) }
     ensures { option_map (λ r. r.now) result ≡ row_of rows.now key.now }

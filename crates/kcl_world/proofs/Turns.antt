@@ -10,7 +10,7 @@ use Rattle.kds_defs.specs.declared.reply.Row.{Row}
 use Rattle.kds_defs.specs.Histories.{answer, answer_of, clock as clock_of, decide, journal, lines_of}
 use Rattle.kds_defs.specs.Journal.{Journal, with_lines}
 use Rattle.kds_service.proofs.Readings.{live_count}
-use Rattle.kds_service.specs.Clocks.{next_in_turn}
+use Rattle.kds_service.specs.Clocks.{next_in_rotation}
 use Rattle.kds_service.specs.Shown.{ServiceValue, ShowsAll}
 use Rattle.kcl_book.specs.Tenures.{TenureValue, tenure_at}
 use Rattle.kcl_leases.proofs.LeaseSteps.{rows_of, stands_of, tenures_of}
@@ -47,7 +47,7 @@ stands_at s s' rs ts log st shows =
 -- circle. The four services are those before the turn, at the turn's clock, after the command, and after the settling.
 abbrev pub TakesTurns : ServiceValue → ServiceValue → ServiceValue → ServiceValue → Type 0
 TakesTurns s at mid last = (at.next_to_settle ≡ s.next_to_settle) × (mid.next_to_settle ≡ at.next_to_settle)
-    × (last.next_to_settle ≡ next_in_turn (length mid.streams) mid.next_to_settle)
+    × (last.next_to_settle ≡ next_in_rotation (length mid.streams) mid.next_to_settle)
 
 -- If each part of a turn does what its contract says, the answer is that of the definitions, and the machine stands for
 -- the history with the turn. The services `s`, `at`, `mid` and `last` are those before the turn, at the turn's clock,
@@ -69,8 +69,9 @@ turn_done s at mid last rs rs' ts ts' h turn gives stood shows at_is led mid_is 
         clock_is = last_is ∙ mid_is ∙ c;
         stands = stands_at mid last rs' ts' (journal (turn ∷ h)) after (settles (journal (turn ∷ h)) after.shows);
         next_to_settle_is =
-            turns.2 ∙ ap (next_in_turn (length mid.streams)) (turns.1 ∙ turns.0 ∙ stood.next_to_settle_is)
-            ∙ ap (λ n. next_in_turn n (next_to_settle_of h)) (sym (live_count mid (journal (turn ∷ h)) after.shows));
+            turns.2 ∙ ap (next_in_rotation (length mid.streams)) (turns.1 ∙ turns.0 ∙ stood.next_to_settle_is)
+            ∙ ap (λ n. next_in_rotation n (next_to_settle_of h))
+            (sym (live_count mid (journal (turn ∷ h)) after.shows));
       },
     )
 

@@ -11,7 +11,7 @@ use Rattle.kds_defs.specs.Streams.{live_streams}
 use Rattle.kcl_book.specs.Tenures.{TenureValue}
 use Rattle.kcl_leases.specs.Standing as lease
 use Rattle.kcl_leases.specs.Standing.{LeasesValue, over}
-use Rattle.kds_service.specs.Clocks.{next_in_turn}
+use Rattle.kds_service.specs.Clocks.{next_in_rotation}
 use Rattle.kds_service.specs.Shown.{ServiceValue, ShowsAll}
 
 -- The state of the machine as contracts see it: the stream service, the rows of the lease table, and the tenures in the
@@ -44,7 +44,7 @@ Leads old new by what gives = lease.Leads (leased old) (leased new) by what give
 -- circle.
 abbrev pub next_to_settle_of : List Turn → ℕ
 next_to_settle_of [] = 0
-next_to_settle_of (turn ∷ h) = next_in_turn (length (live_streams (journal (turn ∷ h)))) (next_to_settle_of h)
+next_to_settle_of (turn ∷ h) = next_in_rotation (length (live_streams (journal (turn ∷ h)))) (next_to_settle_of h)
 
 -- The machine `w` has answered the turns of the history `h`, and no others. Its clock is that of `h`, and its streams,
 -- rows and tenures are those of the journal of `h`. The stream that it settles next is the one that follows from `h`.

@@ -14,7 +14,7 @@ use kcl_book::Book;
 use kcl_leases::reader;
 use kcl_table::Table;
 use kds_base::{Memory, TenureNo};
-use kds_defs::{Answer, Reply, place_after};
+use kds_defs::{Answer, Reply, position_after};
 use kds_service::Service;
 
 /// Returns all listed shards and all rows of the lease table. The error means that memory ran out.
@@ -50,7 +50,7 @@ pub fn read(
         Err(refusal) => return Ok(Err(refusal)),
     };
     let (batch, end) = service.read(own.key, position, limit)?;
-    let reach = place_after(position, batch.as_slice());
+    let reach = position_after(position, batch.as_slice());
     book.read(tenure, reach, end);
     Ok(Ok(Reply::Read { batch, reach, end }))
 }

@@ -47,10 +47,10 @@ fn advance(service: &mut Service, before: Moment, clock: Moment) -> bool
     ensures next_to_settle { service.new.next_to_settle ≡ service.old.next_to_settle }
     ensures shows { (log : Journal) → ShowsAll service.old log → ShowsAll service.new log }
     ensures same { result ≡ false → service.new ≡ service.old }
-    ensures back { result ≡ true → CanRetreat service.new }
-    ensures shows_back { result ≡ true → (log : Journal) → ShowsAll service.old log
+    ensures can_retreat { result ≡ true → CanRetreat service.new }
+    ensures shows_retreated { result ≡ true → (log : Journal) → ShowsAll service.old log
         → ShowsAll (retreated_service service.new) log }
-    ensures clock_back { result ≡ true → (retreated_service service.new).clock ≡ before }
+    ensures clock_retreated { result ≡ true → (retreated_service service.new).clock ≡ before }
 {
     if before == clock {
         return false;

@@ -1,7 +1,7 @@
 //! Ranges of hash keys.
 ghost use Rattle.std.specs.Prelude.{◌≡◌, ◌==◌, ◌+◌, ◌-◌, ◌*◌, ◌/◌, ◌^◌, ◌<◌, ◌≤◌, ◌↔◌, IsTrue, SomeIff, IfOk};
 ghost use Rattle.std.specs.Prelude.{if◌then◌else◌};
-ghost use Rattle.kds_base.specs.Span.{Covers, follows, last_key, parts, union, uniform};
+ghost use Rattle.kds_base.specs.Span.{Covers, is_followed_by, last_key, parts, union, uniform};
 
 use crate::items::Items;
 use crate::memory::Memory;
@@ -73,8 +73,8 @@ impl Range {
     }
 
     /// Whether `other` starts right after this range ends.
-    fn is_before(&self, other: &Range) -> bool
-        ensures { result ≡ follows self.now other.now }
+    fn is_followed_by(&self, other: &Range) -> bool
+        ensures { result ≡ is_followed_by self.now other.now }
     {
         self.end < other.start && other.start - self.end == 1
     }
@@ -84,12 +84,12 @@ impl Range {
     pub fn join(&self, other: &Range) -> Option<Range>
         ensures { result ≡ union self.now other.now }
     {
-        if self.is_before(other) {
+        if self.is_followed_by(other) {
             Some(Range {
                 start: self.start,
                 end: other.end,
             })
-        } else if other.is_before(self) {
+        } else if other.is_followed_by(self) {
             Some(Range {
                 start: other.start,
                 end: self.end,

@@ -8,9 +8,9 @@ ghost use Rattle.kds_defs.specs.Lawful.{IsLawful};
 ghost use Rattle.kcl_audit_sound.specs.Bits.{HaveBits};
 ghost use Rattle.kcl_sim_scribe.specs.Added.{entries_text};
 ghost use Rattle.kcl_sim_scribe.specs.Known.{StandsFor};
-ghost use Rattle.kds_cli_runs.specs.Entries.{IsNoted, entries_of};
+ghost use Rattle.kds_cli_runs.specs.Entries.{IsNoted, entries_text_of};
 
-use kcl_audit_sound::has_bits;
+use kcl_audit_sound::fits_types;
 use kcl_journal::{EntryLine, print_entry};
 use kcl_sim::Keep;
 use kcl_sim_scribe::{Scribe, turn_by_turn};
@@ -67,7 +67,7 @@ fn note_turn(
 ) -> Option<Octets>
     requires lawful { IsLawful turn.now }
     requires answered { (h : List Turn) × (StandsFor scribe.old h × (answer.now ≡ answer_after h turn.now)) }
-    ensures { (since h : List Turn) → StandsFor scribe.old h → entries_of h ≡ entries_of since ++ text
+    ensures { (since h : List Turn) → StandsFor scribe.old h → entries_text_of h ≡ entries_text_of since ++ text
         → answer.now ≡ answer_after h turn.now
         → IsNoted scribe.new result since (turn.now ∷ h) }
 {
@@ -107,7 +107,7 @@ impl Keep for Journal {
 
     ghost wanted = { false };
 
-    ghost text = { entries_of };
+    ghost text = { entries_text_of };
 
     ghost nothing = { refl };
 
@@ -125,7 +125,7 @@ impl Keep for Journal {
         machine: &mut M,
         turn: Turn,
     ) -> Result<Answer, Memory> {
-        has_bits(&turn);
+        fits_types(&turn);
         let copy = turn.copy(alloc)?;
         let answer = machine.apply(turn)?;
         let text = self.text.take();
@@ -139,7 +139,7 @@ impl Keep for Journal {
         }
     }
 
-    fn tell(&self, to: &mut Octets) -> Result<(), Memory> {
+    fn append_text(&self, to: &mut Octets) -> Result<(), Memory> {
         match &self.text {
             Some(text) => to.extend(text.as_slice()),
             None => Err(Memory),

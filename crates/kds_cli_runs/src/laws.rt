@@ -47,7 +47,7 @@ pub fn schedules()
 
 /// The contract of every task permits the following end: the status is Memory, nothing was written, and the door, which
 /// is a listening socket, doesn't listen. So the contract permits that memory runs out before anything is read.
-pub fn no_room()
+pub fn memory_may_run_out()
     ensures { (task : Task) (bytes left moments held : Option (List ℕ)) → Performed task Status.Memory
         (record { input = around bytes left; out = around held held; moments = moments; listens = λ port. ⊥ }) }
 {

@@ -61,7 +61,7 @@ where
     ensures write { result ≡ Status.Write → Rose (K.faults out.old) (K.faults out.new) }
     ensures door { result ≡ Status.Door → Rose (D.faults door.old) (D.faults door.new) }
 {
-    laws::no_room();
+    laws::memory_may_run_out();
     match find_task(alloc, words) {
         Ok(Some(task)) => perform(rt, alloc, task, input, out, clock, door),
         Ok(None) => Status::Usage,

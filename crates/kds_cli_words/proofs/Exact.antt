@@ -12,7 +12,7 @@ use Rattle.kds_base.specs.NumberText.{number_of}
 use Rattle.kds_cli_words.specs.Apps.{kds_app}
 use Rattle.kds_cli_words.specs.Words.{drill_of, members_of, port_of, serve_of, task_of}
 use Rattle.kds_cli_words.specs.declared.task.Task.{Task}
-use Rattle.kds_cli_words.specs.Parsed.{told}
+use Rattle.kds_cli_words.specs.Parsed.{task_told}
 use Rattle.kds_cli_words.proofs.Seen.{IsValue, Seen, flag, value, text}
 
 -- The description of the command `kds` is simple, and no argument has a rule about another argument.
@@ -32,7 +32,7 @@ read (k ∷ ks) task = None
 
 -- The task that `clap` reads from words, or None if it finds a fault in them.
 abbrev pub read_of : List Text → Option Task
-read_of words = read (fault_of kds_app words) (told (subcommand_of kds_app words))
+read_of words = read (fault_of kds_app words) (task_told (subcommand_of kds_app words))
 
 -- The task that `clap` reads from the words `words` is the one of the definitions (`task_of`), or both are None.
 abbrev pub Exact : List Text → Type 0

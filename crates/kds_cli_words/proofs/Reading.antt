@@ -20,7 +20,7 @@ use Rattle.clap.proofs.WalkLemmas.{first_value-rows}
 use Rattle.kds_cli_words.specs.Apps.{kds_app}
 use Rattle.kds_cli_words.specs.Words.{task_of, texts_of}
 use Rattle.kds_cli_words.specs.declared.task.Task.{Task}
-use Rattle.kds_cli_words.specs.Parsed.{is_word, told, told_with}
+use Rattle.kds_cli_words.specs.Parsed.{is_word, task_told, told_with}
 use Rattle.kds_cli_words.proofs.Exact.{Exact, exact, read}
 use Rattle.kds_cli_words.proofs.Seen.{seen}
 
@@ -33,7 +33,7 @@ same_values name get look same = λ i. told_with name (λ id. same id i)
 
 met_by : (o : Option (Text × List Row)) (name : Text) (rows : List Row) → Some name ≡ option_map (λ p. p.0) o
     → Some rows ≡ option_map (λ p. p.1) o
-    → told_with name (λ id. first_of id rows) ≡ told o
+    → told_with name (λ id. first_of id rows) ≡ task_told o
 met_by None name rows h g = absurd cc
 met_by (Some p) name rows h g =
     let n : name ≡ p.0 = cc (h) in
@@ -54,7 +54,7 @@ name_met m =
 -- of the parse asks for (`task_told`).
 pub told_read : (m : ArgMatches) (name : Text) (f : Found) → Some name ≡ subcommand_name_of m
     → Some (rows_of f) ≡ option_map (λ p. p.1) (subcommand_rows (out-ArgMatches m).subcommand)
-    → told_with name (first_value f) ≡ told (subcommand_rows_of m)
+    → told_with name (first_value f) ≡ task_told (subcommand_rows_of m)
 told_read m name f h g =
     same_values name (first_value f) (λ id. first_of id (rows_of f)) (first_value-rows f)
     ∙ met_by (subcommand_rows_of m) name (rows_of f) (h ∙ name_met m) g
@@ -72,8 +72,9 @@ exactly words are few =
 -- parse is the one of the definitions (`task_of`).
 pub read_words : (words : List (String Global)) → list_all (λ w. is_word (string_bytes w)) words ≡ true
     → length words ≤ 4
-    → fault_of kds_app (texts_of words) ≡ [] → told (subcommand_of kds_app (texts_of words)) ≡ task_of (texts_of words)
-read_words words are few fine = sym (ap (λ kinds. read kinds (told (subcommand_of kds_app (texts_of words)))) fine)
+    → fault_of kds_app (texts_of words) ≡ [] → task_told (subcommand_of kds_app (texts_of words))
+    ≡ task_of (texts_of words)
+read_words words are few fine = sym (ap (λ kinds. read kinds (task_told (subcommand_of kds_app (texts_of words)))) fine)
     ∙ exactly words are few
 
 -- Let there be at most four words, each of which `clap` may be given. If `clap` returns an error that is one of the
@@ -84,8 +85,8 @@ pub refused : (words : List (String Global)) (kinds : Kinds) (k found : ErrorKin
     ⊎ IsAmong found kinds
     → None ≡ task_of (texts_of words)
 refused words kinds k found are few same is other failed =
-    by kinds (told (subcommand_of kds_app (texts_of words)))
-    (ap (λ ks. read ks (told (subcommand_of kds_app (texts_of words)))) same ∙ exactly words are few) failed
+    by kinds (task_told (subcommand_of kds_app (texts_of words)))
+    (ap (λ ks. read ks (task_told (subcommand_of kds_app (texts_of words)))) same ∙ exactly words are few) failed
   where
     by : (ks : Kinds) (task : Option Task) → read ks task ≡ task_of (texts_of words) → (found ≡ kind.OutOfMemory)
         ⊎ IsAmong found ks

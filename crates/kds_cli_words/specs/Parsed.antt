@@ -36,10 +36,11 @@ told_with name get =
     (get (codes "records"))
     else None
 
--- The task of what a parse met, if there is one.
-abbrev pub told : Option (Text × List Row) → Option Task
-told None = None
-told (Some met) = told_with met.0 (λ id. first_of id met.1)
+-- The task that the result of a parse asks for, or None. A result has the name of a subcommand and the values of its
+-- arguments.
+abbrev pub task_told : Option (Text × List Row) → Option Task
+task_told None = None
+task_told (Some met) = told_with met.0 (λ id. first_of id met.1)
 
 -- ---- The words that `clap` is given
 

@@ -3,7 +3,7 @@ ghost use Rattle.std.specs.Prelude.{◌≡◌, ◌≤◌, true, IfOk, IfSome, le
 ghost use Rattle.std.specs.List.{list_all};
 ghost use Rattle.clap.specs.Words.{first_value, found_of, subcommand_rows_of};
 ghost use Rattle.kds_cli_words.specs.Words.{IsWithin, task_of, texts_of};
-ghost use Rattle.kds_cli_words.specs.Parsed.{has_hyphen, is_word, told, told_with};
+ghost use Rattle.kds_cli_words.specs.Parsed.{has_hyphen, is_word, task_told, told_with};
 
 use crate::command::kds_command;
 use crate::numbers::{drill_task, serve_task};
@@ -38,7 +38,7 @@ fn are_words(words: &Vec<String>) -> bool
 
 /// Returns the task of the subcommand `name` with the arguments in `found`. Returns `None` if an argument is missing or
 /// isn't a number in its range, or if no subcommand has this name.
-fn told_by(name: &str, found: &ArgMatches) -> Option<Task>
+fn told_with(name: &str, found: &ArgMatches) -> Option<Task>
     ensures task { result ≡ told_with name.now (first_value (found_of found.now)) }
     ensures within { IfSome result IsWithin }
 {
@@ -64,12 +64,12 @@ fn told_by(name: &str, found: &ArgMatches) -> Option<Task>
 }
 
 /// Reads the task from the result of a parse by `clap`. Returns `None` if this result has no valid task.
-fn read_task(matches: &ArgMatches) -> Option<Task>
-    ensures task { result ≡ told (subcommand_rows_of matches.now) }
+fn task_told(matches: &ArgMatches) -> Option<Task>
+    ensures task { result ≡ task_told (subcommand_rows_of matches.now) }
     ensures within { IfSome result IsWithin }
 {
     let (name, found) = matches.subcommand()?;
-    told_by(name, found)
+    told_with(name, found)
 }
 
 /// Parses the words with `clap`, and returns their task. Returns `None` if the words aren't a valid command line.
@@ -82,7 +82,7 @@ fn parse_task(alloc: Global, words: &Vec<String>) -> Result<Option<Task>, Memory
 {
     let command = kds_command(alloc)?;
     match command.try_get_matches_from(words.as_slice()) {
-        Ok(matches) => Ok(read_task(&matches)),
+        Ok(matches) => Ok(task_told(&matches)),
         Err(error) => match error.kind() {
             ErrorKind::OutOfMemory => Err(Memory),
             _ => Ok(None),

@@ -2,14 +2,14 @@
 use Rattle.std.proofs.Common.{◌≡◌, ℕ, suc, ◌+◌, ◌-◌, List, [], ◌∷◌, length, map, Some, sym, ap, ◌∙◌, arith}
 use Rattle.std.specs.Prelude.{slice_get}
 use Rattle.kds_defs.specs.declared.reply.Stored.{Stored}
-use Rattle.kds_defs.specs.Records.{place_after}
+use Rattle.kds_defs.specs.Records.{position_after}
 
 one_less : (n : ℕ) → suc (suc n) - 1 ≡ suc (suc n - 1)
 one_less n = omega arith
 
 -- If the last of the sequence numbers `ns` is `n`, the position after these numbers is `n + 1`.
 pub last_number : (place : ℕ) (ns : List ℕ) (n : ℕ) → slice_get ns (length ns - 1) ≡ Some n
-    → place_after place ns ≡ n + 1
+    → position_after place ns ≡ n + 1
 last_number place [] n is = absurd cc
 last_number place (x ∷ []) n is = let e : x ≡ n = cc in ap (λ m. m + 1) e
 last_number place (x ∷ y ∷ ns) n is =
@@ -18,7 +18,7 @@ last_number place (x ∷ y ∷ ns) n is =
 -- If the last of the records `items` is `item`, the position after these records is one above the sequence number of
 -- `item`.
 pub last_record : (place : ℕ) (items : List Stored) (item : Stored) → slice_get items (length items - 1) ≡ Some item
-    → place_after place (map (λ (r : Stored). r.seq) items) ≡ item.seq + 1
+    → position_after place (map (λ (r : Stored). r.seq) items) ≡ item.seq + 1
 last_record place [] item is = absurd cc
 last_record place (x ∷ []) item is = let e : x ≡ item = cc in ap (λ (r : Stored). r.seq + 1) e
 last_record place (x ∷ y ∷ items) item is =

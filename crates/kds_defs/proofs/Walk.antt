@@ -48,9 +48,9 @@ pub record AreRead (log : Journal) (rs : List Stored) : Type 0 where
   pub clock : ℕ
   pub stream : ℕ
   pub shard : ℕ
-  pub place : ℕ
+  pub position : ℕ
   pub limit : ℕ
-  pub are : map stored (batch log clock stream shard place limit) ≡ rs
+  pub are : map stored (batch log clock stream shard position limit) ≡ rs
 
 -- The command only reads, adds no line, and gets a reply of the kind that is stated for it. The records in a reply to
 -- GetRecords are those of some batch (`AreRead`).
@@ -188,7 +188,7 @@ module _ (log : Journal) (c by : ℕ) where
   either what false x y is other = answer what y other
 
   are_read : (s sh place limit : ℕ) → AreRead log (map stored (batch log c s sh place limit))
-  are_read s sh place limit = record { clock = c; stream = s; shard = sh; place = place; limit = limit; are = refl }
+  are_read s sh place limit = record { clock = c; stream = s; shard = sh; position = place; limit = limit; are = refl }
 
   records : (iter : Iter) (limit place : ℕ)
       → Leads (Is (command.Records iter limit))

@@ -20,7 +20,7 @@ use Rattle.kds_defs.specs.declared.reply.Reply.TheVariants as reply
 use Rattle.kds_defs.specs.Decision.{Decision, Accepted, refuse◌if◌else◌, with◌or◌then◌}
 use Rattle.kds_defs.specs.Journal.{Journal}
 use Rattle.kds_defs.specs.Keys.{ref}
-use Rattle.kds_defs.specs.Records.{Logged, next_number, left_from, batch, numbers_of, place_after, stored, first_at}
+use Rattle.kds_defs.specs.Records.{Logged, next_number, left_from, batch, numbers_of, position_after, stored, first_at}
 use Rattle.kds_defs.specs.Shards.{ShardState, shard_at, Closing, is_listed, listed_shards, open_shards, children, shown}
 use Rattle.kds_defs.specs.Streams.{is_live, live_streams, name_of, made_at, hours}
 
@@ -110,15 +110,16 @@ list_shards log c s after limit =
     then Some (record { stream = s; after = last_no (take limit (shards_from log c s after)); issued = c })
     else None))
 
--- Whether a token that was issued at the time `issued` is too old at the clock `c`.
-abbrev pub is_old : ℕ → ℕ → Bool
-is_old c issued = nat_lt TOKEN_LIFE (c - issued)
+-- Whether a shard iterator or a token that was issued at the time `issued` is too old at the clock `c`: more than
+-- `TOKEN_LIFE` milliseconds have passed.
+abbrev pub is_expired_token : ℕ → ℕ → Bool
+is_expired_token c issued = nat_lt TOKEN_LIFE (c - issued)
 
 -- The decision on ListShards for a request with the token `page`. The reply has the next page of at most `limit`
 -- shards. The command is refused if the token is too old or its stream isn't live.
 abbrev pub more : Journal → ℕ → Page → ℕ → Decision
 more log c page limit =
-    refuse refusal.PageExpired if is_old c page.issued else
+    refuse refusal.PageExpired if is_expired_token c page.issued else
     refuse refusal.NoStream if not (is_live log page.stream) else
     list_shards log c page.stream (Some page.after) limit
 
@@ -186,7 +187,7 @@ are_none (x ∷ xs) = false
 -- Whether reading of shard `sh` ends at `position`: the shard is closed, and it has no untrimmed record with a sequence
 -- number at or above `position`.
 abbrev pub ends_at : Journal → ℕ → ℕ → ℕ → ℕ → Bool
-ends_at log c s sh place = is_closed_at (shard_at log s sh) && are_none (left_from log c s sh place)
+ends_at log c s sh position = is_closed_at (shard_at log s sh) && are_none (left_from log c s sh position)
 
 -- How many milliseconds before the clock `c` the first record of a list arrived, or 0 if the list is empty.
 abbrev pub behind : ℕ → List Logged → ℕ
@@ -196,19 +197,20 @@ behind c (r ∷ rs) = c - r.arrival
 -- The decision on a GetRecords of shard `sh` that returns the records `rs`, after which reading goes on at `position`.
 -- If reading ends at `position` (`ends_at`), the reply has the shard's children. Otherwise it has the next iterator.
 abbrev pub records_reply : Journal → ℕ → ℕ → ℕ → List Logged → ℕ → Decision
-records_reply log c s sh rs place =
-    Accepted [] (if ends_at log c s sh place
-    then reply.Records (map stored rs) None (behind c (left_from log c s sh place)) (map shown (children log s sh))
-    else reply.Records (map stored rs) (Some (iterator_at c s sh place)) (behind c (left_from log c s sh place)) [])
+records_reply log c s sh rs position =
+    Accepted [] (if ends_at log c s sh position
+    then reply.Records (map stored rs) None (behind c (left_from log c s sh position)) (map shown (children log s sh))
+    else reply.Records (map stored rs) (Some (iterator_at c s sh position))
+    (behind c (left_from log c s sh position)) [])
 
 -- The decision on GetRecords, which reads at most `limit` records from the position of the iterator `iter` on.
 abbrev pub get_records : Journal → ℕ → Iter → ℕ → Decision
 get_records log c iter limit =
-    refuse refusal.Expired if is_old c iter.issued else
+    refuse refusal.Expired if is_expired_token c iter.issued else
     refuse refusal.NoStream if not (is_live log iter.stream) else
     refuse refusal.NoShard if not (is_listed log c iter.stream iter.shard) else
     let rs = batch log c iter.stream iter.shard iter.position limit in
-    records_reply log c iter.stream iter.shard rs (place_after iter.position (numbers_of rs))
+    records_reply log c iter.stream iter.shard rs (position_after iter.position (numbers_of rs))
 
 -- ---- The shards in the reply to Survey
 

@@ -92,10 +92,11 @@ beginning (suc limit) room (r ∷ rs) =
 abbrev pub numbers_of : List Logged → List ℕ
 numbers_of rs = map (λ r. r.seq) rs
 
--- The place after a list of numbers: one above the last of them, or `place` if the list is empty.
-abbrev pub place_after : ℕ → List ℕ → ℕ
-place_after place [] = place
-place_after place (n ∷ ns) = place_after (n + 1) ns
+-- The position at which reading goes on, if it began at `position` and returned records with these sequence numbers. It
+-- is one above the last of the numbers, or `position` if there are none.
+abbrev pub position_after : ℕ → List ℕ → ℕ
+position_after position [] = position
+position_after position (n ∷ ns) = position_after (n + 1) ns
 
 -- ---- The batch from a shard
 

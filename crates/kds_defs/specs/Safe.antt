@@ -168,8 +168,8 @@ IsSettled log c key r = IsDelivered log key r.seq ⊎ (is_trimmed log c key.stre
 -- Each record of the shard `key` with a sequence number at or above `floor` and below `position` was delivered, or it
 -- is trimmed at the clock `c` (`IsSettled`).
 abbrev pub SettledBetween : Journal → ℕ → ShardRef → ℕ → ℕ → Type 0
-SettledBetween log c key floor place =
-    AllByRecursion (λ r. floor ≤ r.seq → r.seq < place → IsSettled log c key r) (records log key.stream key.shard)
+SettledBetween log c key floor position =
+    AllByRecursion (λ r. floor ≤ r.seq → r.seq < position → IsSettled log c key r) (records log key.stream key.shard)
 
 -- Each record of the shard `key` with a sequence number at or above `floor` was delivered, or it is trimmed at the
 -- clock `c` (`IsSettled`).
@@ -191,8 +191,8 @@ all_numbers (r ∷ rs) = r.numbers ++ all_numbers rs
 
 -- The numbers of a list rise strictly, and the first of them, if any, is at or above `position`.
 abbrev pub RiseFrom : ℕ → List ℕ → Type 0
-RiseFrom place [] = Unit {0}
-RiseFrom place (n ∷ ns) = (place ≤ n) × RiseFrom (n + 1) ns
+RiseFrom position [] = Unit {0}
+RiseFrom position (n ∷ ns) = (position ≤ n) × RiseFrom (n + 1) ns
 
 -- Each record from a row's floor to the row's checkpoint was delivered, or it is trimmed at the clock `c`
 -- (`IsCovered`). The sequence numbers that one tenure reads rise strictly.

@@ -22,7 +22,7 @@ pub use key_order::is_before;
 pub use laws::{lease_answers, refusal_chain, service_answers};
 pub use limit_laws::{lease_limits, rate_limits, request_limits, schedule_limits, service_limits};
 pub use machine::{Answer, Machine, let_go};
-pub use positions::{place_after, place_after_numbers};
+pub use positions::{position_after, position_after_numbers};
 pub use reply::{About, Iter, Outcome, Page, Place, Refusal, Reply, Row, Shard, Stored};
 pub use scale::ScaleStep;
 pub use shard_laws::{numbered_shards, tiled_shards};

@@ -52,7 +52,7 @@ impl Clock for MemClock {
 
     fn now(&mut self) -> Moment
         ensures moment { result ≡ current self.old }
-        ensures after { self.new ≡ later self.old }
+        ensures value { self.new ≡ later self.old }
         ensures gives { Gives (Some self.old) (result ∷ []) (Some self.new) }
     {
         let moments = self.moments.as_slice();

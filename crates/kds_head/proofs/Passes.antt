@@ -143,7 +143,7 @@ encodings front f [] = refl
 encodings front f (h ∷ hs) = encodings front (findings_after front f h) hs
 
 lengths : (front : List ℕ) (f : Findings) (hs : List HeaderSpan)
-    → (read front f hs).length ≡ pass (codes "Content-Length") front f.length hs
+    → (read front f hs).content_length ≡ pass (codes "Content-Length") front f.content_length hs
 lengths front f [] = refl
 lengths front f (h ∷ hs) = lengths front (findings_after front f h) hs
 
@@ -182,7 +182,8 @@ pub all_found : (front : List ℕ) (hs : List HeaderSpan) (found : Findings) →
 unfolding any_has
 all_found front hs found e = record {
   encoding = seen (codes "Transfer-Encoding") found.encoding (ap (λ f. f.encoding) e ∙ encodings front no_findings hs);
-  length = seen (codes "Content-Length") found.length (ap (λ f. f.length) e ∙ lengths front no_findings hs);
+  content_length = seen (codes "Content-Length") found.content_length (ap (λ f. f.content_length) e
+      ∙ lengths front no_findings hs);
   target = seen (codes "X-Amz-Target") found.target (ap (λ f. f.target) e ∙ targets front no_findings hs);
   media_type = seen (codes "Content-Type") found.media_type (ap (λ f. f.media_type) e
       ∙ media_types front no_findings hs);

@@ -31,7 +31,7 @@ pub record IsSeen (name front : List ℕ) (headers : Headers) (seen : Seen) : Ty
 -- whether some header Connection has the value `close`.
 pub record AreFindings (front : List ℕ) (headers : Headers) (found : Findings) : Type 0 where
   pub encoding : IsSeen (codes "Transfer-Encoding") front headers found.encoding
-  pub length : IsSeen (codes "Content-Length") front headers found.length
+  pub content_length : IsSeen (codes "Content-Length") front headers found.content_length
   pub target : IsSeen (codes "X-Amz-Target") front headers found.target
   pub media_type : IsSeen (codes "Content-Type") front headers found.media_type
   pub close : found.close ≡ any_has (codes "Connection") (codes "close") headers
@@ -54,7 +54,8 @@ seen_after seen named value = if named then one_more seen value else seen
 abbrev pub findings_after : List ℕ → Findings → HeaderSpan → Findings
 findings_after front found header = record {
   encoding = seen_after found.encoding (has_name (codes "Transfer-Encoding") (header_bytes front header)) header.value;
-  length = seen_after found.length (has_name (codes "Content-Length") (header_bytes front header)) header.value;
+  content_length = seen_after found.content_length (has_name (codes "Content-Length") (header_bytes front header))
+      header.value;
   target = seen_after found.target (has_name (codes "X-Amz-Target") (header_bytes front header)) header.value;
   media_type = seen_after found.media_type (has_name (codes "Content-Type") (header_bytes front header)) header.value;
   close = found.close || has_name_and_value (codes "Connection") (codes "close") (header_bytes front header);
@@ -62,4 +63,10 @@ findings_after front found header = record {
 
 -- The findings before the first header: no name was seen.
 abbrev pub no_findings : Findings
-no_findings = record { encoding = Nowhere; length = Nowhere; target = Nowhere; media_type = Nowhere; close = false }
+no_findings = record {
+  encoding = Nowhere;
+  content_length = Nowhere;
+  target = Nowhere;
+  media_type = Nowhere;
+  close = false;
+}

@@ -46,7 +46,7 @@ fn undecided(front: &[u8]) -> Found
 /// `spans` has elements.
 fn find_in(alloc: Global, front: &[u8], spans: &mut [HeaderSpan]) -> Result<Option<Found>, Memory>
     ensures found { IfOk result (λ o. IfSome o (IsFoundIn front.now)) }
-    ensures room { IfOk result (λ o. o ≡ None → RequestExceeds (length spans.old) front.now) }
+    ensures few_spans { IfOk result (λ o. o ≡ None → RequestExceeds (length spans.old) front.now) }
 {
     match parse_request(front, spans) {
         Ok(Status::Complete(found)) => {

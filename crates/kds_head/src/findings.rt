@@ -52,7 +52,7 @@ pub struct Findings {
     /// What was seen of Transfer-Encoding headers.
     pub encoding: Seen,
     /// What was seen of Content-Length headers.
-    pub length: Seen,
+    pub content_length: Seen,
     /// What was seen of X-Amz-Target headers.
     pub target: Seen,
     /// What was seen of Content-Type headers.
@@ -64,7 +64,7 @@ pub struct Findings {
 /// The findings before the first header.
 const NO_FINDINGS: Findings = Findings {
     encoding: Seen::Nowhere,
-    length: Seen::Nowhere,
+    content_length: Seen::Nowhere,
     target: Seen::Nowhere,
     media_type: Seen::Nowhere,
     close: false,
@@ -88,8 +88,8 @@ fn findings_after(front: &[u8], found: Findings, header: &HeaderSpan) -> Finding
         encoding: found
             .encoding
             .seen_after(is_name(name, b"Transfer-Encoding".as_slice()), value),
-        length: found
-            .length
+        content_length: found
+            .content_length
             .seen_after(is_name(name, b"Content-Length".as_slice()), value),
         target: found
             .target

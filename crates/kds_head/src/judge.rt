@@ -48,10 +48,10 @@ pub fn judge(
     if found.encoding.is_somewhere() {
         return Ok(Found::Refused(501));
     }
-    if !found.length.is_somewhere() {
+    if !found.content_length.is_somewhere() {
         return Ok(Found::Refused(411));
     }
-    let body = match body_length(front, found.length) {
+    let body = match body_length(front, found.content_length) {
         Some(body) => body,
         None => return Ok(Found::Refused(400)),
     };

@@ -17,4 +17,4 @@ pub use find::head;
 pub use found::{Found, Head};
 pub use laws::{decided_stays, found_within_limits, no_bytes_need_more, one_finding};
 pub use numbers::{BODY_BYTES, HEAD_BYTES, HEADERS, LENGTH_DIGITS, limits};
-pub use write::{FRONT_BYTES, put_front, response};
+pub use write::{RESPONSE_HEAD_BYTES, put_response_head, response};

@@ -9,7 +9,7 @@ use kds_base::{Memory, Octets};
 use std::alloc::Global;
 
 /// An upper bound for the number of bytes in a response before its body.
-pub const FRONT_BYTES: usize = 256;
+pub const RESPONSE_HEAD_BYTES: usize = 256;
 
 /// Returns the status line of a response with the status `status`.
 fn status_line(status: u16) -> &'static [u8]
@@ -76,7 +76,7 @@ fn add_response(
     ensures err { OnErr result (to.new.items ≡ to.old.items) }
 {
     let mut digits = Buffer::new();
-    to.reserve(FRONT_BYTES + body.len())?;
+    to.reserve(RESPONSE_HEAD_BYTES + body.len())?;
     add(to, status_line(status));
     add(to, content_type_line(json));
     add(to, b"Content-Length: ".as_slice());
@@ -127,7 +127,13 @@ fn write_before(text: &mut [u8], at: usize, piece: &[u8]) -> usize
 /// begins. Preconditions: `status`, `json`, `close` and the body meet the precondition of `response`, and at least
 /// `RESPONSE_HEAD_BYTES` bytes precede the body.
 #[tactic(auto, unfolding(crate::specs::Response::response_text))]
-pub fn put_front(status: u16, json: bool, close: bool, text: &mut [u8], body: usize) -> usize
+pub fn put_response_head(
+    status: u16,
+    json: bool,
+    close: bool,
+    text: &mut [u8],
+    body: usize,
+) -> usize
     requires response { IsResponse status (drop body text.old) json close }
     requires room { 256 ≤ body }
     requires within { body ≤ length text.old }

@@ -8,7 +8,7 @@ use Rattle.serde_json.specs.Read.{read}
 use Rattle.serde_json.specs.Data.{Data, object}
 use Rattle.serde_json.specs.Find.{as_object}
 use Rattle.kds_json_members.specs.declared.problem.FaultKind.TheVariants.{Serialization}
-use Rattle.kds_json_members.specs.Reading.{fault_of}
+use Rattle.kds_json_members.specs.Results.{fault_of}
 use Rattle.kds_json.specs.Asked.{if_object, read_body}
 
 -- If the test says that the value `d` is an object, `if_object` gives `d`.

@@ -13,7 +13,7 @@ use Rattle.kds_defs.specs.declared.command.NewItem.{NewItem}
 use Rattle.kds_defs.specs.declared.limits.TheConstants.{MANY_ITEMS, MANY_BYTES}
 use Rattle.kds_defs.specs.Lawful.{IsPartitionKey, IsItem, AreItems, item_bytes}
 use Rattle.kds_json_members.specs.declared.problem.Fault.{Fault}
-use Rattle.kds_json_members.specs.Reading.{some_or}
+use Rattle.kds_json_members.specs.Results.{some_or}
 use Rattle.kds_json.specs.Asked.{IsRequest}
 use Rattle.kds_json_members.specs.Member.{required_at}
 use Rattle.kds_json_members.specs.Kinds.{key_in, blob_in, hash_at}
@@ -55,34 +55,34 @@ records_counted : (x : Data) → IfSome (records_in x) IsCounted
 records_counted x = and_then_has IsCounted counted (as_array x)
     (λ ds. kept_if IsCounted _ ds (in_range 1 MANY_ITEMS (count ds)))
 
-record_name_text : (place : ℕ) → place < 2 ^ 64 → IsUtf8 (record_name place)
-record_name_text place small =
-    IsUtf8-append (codes "Records.") (decimal place) (plain_text (codes "Records.") refl)
-    (IsUtf8-from_ascii (decimal place) (IsAscii-decimal place small))
+record_name_text : (index : ℕ) → index < 2 ^ 64 → IsUtf8 (record_name index)
+record_name_text index small =
+    IsUtf8-append (codes "Records.") (decimal index) (plain_text (codes "Records.") refl)
+    (IsUtf8-from_ascii (decimal index) (IsAscii-decimal index small))
 
-in_record_reads : (place : ℕ) (r : Result NewItem Fault) → place < 2 ^ 64 → Reads IsItem r
-    → Reads IsItem (in_record place r)
-in_record_reads place (Ok x) small h = h
-in_record_reads place (Err f) small text =
-    IsUtf8-append (record_name place ++ codes ".") f.member
-    (IsUtf8-append (record_name place) (codes ".") (record_name_text place small) (plain_text (codes ".") refl)) text
+in_record_reads : (index : ℕ) (r : Result NewItem Fault) → index < 2 ^ 64 → Reads IsItem r
+    → Reads IsItem (in_record index r)
+in_record_reads index (Ok x) small h = h
+in_record_reads index (Err f) small text =
+    IsUtf8-append (record_name index ++ codes ".") f.member
+    (IsUtf8-append (record_name index) (codes ".") (record_name_text index small) (plain_text (codes ".") refl)) text
 
-record_reads : (place : ℕ) (d : Data) → place < 2 ^ 64 → Reads IsItem (record_at place d)
+record_reads : (index : ℕ) (d : Data) → index < 2 ^ 64 → Reads IsItem (record_at index d)
 unfolding record_at
-record_reads place d small =
-    either_reads IsItem (is_some (as_object d)) _ _ (in_record_reads place (item_of d) small (item_reads d))
-    (record_name_text place small)
+record_reads index d small =
+    either_reads IsItem (is_some (as_object d)) _ _ (in_record_reads index (item_of d) small (item_reads d))
+    (record_name_text index small)
 
 -- There are as many records `xs` as items in the array `ds`, and each of them may be put (`IsItem`).
 abbrev AreRead : Items → List NewItem → Type 0
 AreRead ds xs = AllByRecursion IsItem xs × (length xs ≡ count ds)
 
-records_read : (place : ℕ) (ds : Items) → place + count ds < 2 ^ 64 → Reads (AreRead ds) (records_from place ds)
-records_read place no_items small = (tt, refl)
-records_read place (item d ds) small =
-    then_reads IsItem (AreRead (item d ds)) (record_at place d) _ (record_reads place d (omega arith)) (λ x is.
-    then_reads (AreRead ds) (AreRead (item d ds)) (records_from (place + 1) ds) _
-    (records_read (place + 1) ds (omega arith)) (λ xs are.
+records_read : (index : ℕ) (ds : Items) → index + count ds < 2 ^ 64 → Reads (AreRead ds) (records_from index ds)
+records_read index no_items small = (tt, refl)
+records_read index (item d ds) small =
+    then_reads IsItem (AreRead (item d ds)) (record_at index d) _ (record_reads index d (omega arith)) (λ x is.
+    then_reads (AreRead ds) (AreRead (item d ds)) (records_from (index + 1) ds) _
+    (records_read (index + 1) ds (omega arith)) (λ xs are.
     ((is, are.0), omega (arith, are.1))))
 
 within_are : (ds : Items) (items : List NewItem) → IsCounted ds → AreRead ds items

@@ -12,7 +12,7 @@ use Rattle.kds_defs.specs.Lawful.{IsNameIfThere, IsRetention, IsShardCount}
 use Rattle.kds_json.specs.declared.operation.Operation.{Operation}
 use Rattle.kds_json.specs.declared.operation.Operation.TheVariants as op
 use Rattle.kds_json_members.specs.declared.problem.Fault.{Fault}
-use Rattle.kds_json_members.specs.Reading.{some_or}
+use Rattle.kds_json_members.specs.Results.{some_or}
 use Rattle.kds_json_members.specs.Member.{member_of, required_at, optional_at}
 use Rattle.kds_json_members.specs.Kinds.{some_name_in, number_in, hash_in, moment_in, sequence_in}
 use Rattle.kds_json.specs.Operations.{create_stream, delete_stream, list_streams, describe_stream, describe_summary}

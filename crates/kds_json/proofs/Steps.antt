@@ -12,7 +12,7 @@ use Rattle.kds_json.specs.Asked.{IsRequest}
 use Rattle.kds_json_members.specs.declared.problem.Fault.{Fault}
 use Rattle.kds_json_members.specs.Kinds.{name_in, number_in}
 use Rattle.kds_json_members.specs.Member.{absent_at, required_at, optional_at, token_at}
-use Rattle.kds_json_members.specs.Reading.{◌>>=◌}
+use Rattle.kds_json_members.specs.Results.{◌>>=◌}
 use Rattle.kds_json_members.proofs.Members.{Anything, IsPlain, Reads, absent_reads, anything, name_is, number_is}
 use Rattle.kds_json_members.proofs.Members.{optional_reads, required_reads, then_reads, token_reads}
 

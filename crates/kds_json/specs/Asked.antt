@@ -10,7 +10,7 @@ use Rattle.kds_json.specs.declared.operation.Operation.{Operation}
 use Rattle.kds_json.specs.declared.operation.Operation.TheVariants as op
 use Rattle.kds_json_members.specs.declared.problem.Fault.{Fault}
 use Rattle.kds_json_members.specs.declared.problem.FaultKind.TheVariants.{Unknown, Serialization}
-use Rattle.kds_json_members.specs.Reading.{◌>>=◌, fault_of, some_or}
+use Rattle.kds_json_members.specs.Results.{◌>>=◌, fault_of, some_or}
 use Rattle.kds_json.specs.Operations.{create_stream, delete_stream, list_streams, describe_stream, describe_summary}
 use Rattle.kds_json.specs.Operations.{keep, update_shard_count, enforce_limits, put_record, get_shard_iterator}
 use Rattle.kds_json.specs.Operations.{get_records, split_shard, merge_shards, list_shards}
@@ -49,8 +49,10 @@ writing_named name =
     else if bytes_eq name (codes "MergeShards") then Some op.MergeShards
     else setting_named name
 
-abbrev pub reading_named : List ℕ → Option Operation
-reading_named name =
+-- The operation with the name `name`, if it is DescribeStreamSummary, ListShards, GetShardIterator or GetRecords. If
+-- `name` is none of these four names, the result is that of `writing_named`.
+abbrev pub reading_or_writing_named : List ℕ → Option Operation
+reading_or_writing_named name =
     if bytes_eq name (codes "DescribeStreamSummary") then Some op.DescribeStreamSummary
     else if bytes_eq name (codes "ListShards") then Some op.ListShards
     else if bytes_eq name (codes "GetShardIterator") then Some op.GetShardIterator
@@ -65,7 +67,7 @@ operation_named name =
     else if bytes_eq name (codes "DeleteStream") then Some op.DeleteStream
     else if bytes_eq name (codes "ListStreams") then Some op.ListStreams
     else if bytes_eq name (codes "DescribeStream") then Some op.DescribeStream
-    else reading_named name
+    else reading_or_writing_named name
 
 -- The command that the members of the object `d` ask for in a request for this operation, or the first fault of these
 -- members.

@@ -14,7 +14,7 @@ use Rattle.kds_token.specs.Tokens.{iter_of, page_of}
 use Rattle.kds_defs.specs.declared.limits.TheConstants.{RECORDS_LIMIT, SHARDS_LIMIT, DESCRIBED_LIMIT, NAMES_LIMIT}
 use Rattle.kds_json_members.specs.declared.problem.Fault.{Fault}
 use Rattle.kds_json_members.specs.declared.problem.FaultKind.TheVariants.{Invalid}
-use Rattle.kds_json_members.specs.Reading.{◌>>=◌, fault_of}
+use Rattle.kds_json_members.specs.Results.{◌>>=◌, fault_of}
 use Rattle.kds_json_members.specs.Member.{member_of, absent_at, required_at, optional_at, token_at}
 use Rattle.kds_json_members.specs.Kinds.{name_in, some_name_in, mode_in, scaling_in, number_in, moment_in, key_in}
 use Rattle.kds_json_members.specs.Kinds.{blob_in, id_in, some_id_in, hash_in, hash_at, sequence_in}

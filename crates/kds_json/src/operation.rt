@@ -1,6 +1,7 @@
 //! The operations of the service and their names.
 ghost use Rattle.std.specs.Prelude.{◌≡◌};
-ghost use Rattle.kds_json.specs.Asked.{operation_named as named, reading_named as reads, writing_named as writes};
+ghost use Rattle.kds_json.specs.Asked.{operation_named as named, reading_or_writing_named as reads};
+ghost use Rattle.kds_json.specs.Asked.{writing_named as writes};
 ghost use Rattle.kds_json.specs.Asked.{setting_named as sets};
 
 /// An operation of the service (Kinesis API Reference, Actions).
@@ -41,13 +42,13 @@ pub fn operation_named(name: &[u8]) -> Option<Operation>
     } else if name == b"DescribeStream".as_slice() {
         Some(Operation::DescribeStream)
     } else {
-        reading_named(name)
+        reading_or_writing_named(name)
     }
 }
 
 /// Returns the operation called `name` if it is one of twelve operations. This function itself finds the four
 /// operations that read streams, shards and records. The two functions below find the other eight.
-fn reading_named(name: &[u8]) -> Option<Operation>
+fn reading_or_writing_named(name: &[u8]) -> Option<Operation>
     ensures { result ≡ reads name.now }
 {
     if name == b"DescribeStreamSummary".as_slice() {

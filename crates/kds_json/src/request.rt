@@ -3,7 +3,7 @@ ghost use Rattle.std.specs.Prelude.{◌≡◌, ℕ, List, Ok, IsUtf8, IfOk, IfEr
 ghost use Rattle.kds_defs.specs.declared.command.Command.{Command};
 ghost use Rattle.serde_json.specs.View.{view};
 ghost use Rattle.kds_json_members.specs.Member.{object_view};
-ghost use Rattle.kds_json_members.specs.Reading.{Gives};
+ghost use Rattle.kds_json_members.specs.Results.{Gives};
 ghost use Rattle.kds_json.specs.Asked.{object_of, read_body, members_of, asked, IsRequest};
 
 use crate::many::put_records;

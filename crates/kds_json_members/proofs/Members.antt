@@ -24,7 +24,7 @@ use Rattle.kds_defs.specs.declared.limits.TheConstants.{RECORD_BYTES}
 use Rattle.kds_defs.specs.Lawful.{IsPartitionKey, IsNameIfThere}
 use Rattle.kds_json_members.specs.declared.problem.Fault.{Fault}
 use Rattle.kds_json_members.specs.declared.problem.FaultKind.{FaultKind}
-use Rattle.kds_json_members.specs.Reading.{◌>>=◌, some_or}
+use Rattle.kds_json_members.specs.Results.{◌>>=◌, some_or}
 use Rattle.kds_json_members.specs.Member.{required, absent_at, absent_of, member_of, required_at, value_or, optional_at}
 use Rattle.kds_json_members.specs.Member.{token_at}
 use Rattle.kds_json_members.specs.Kinds.{name_in, some_name_in, within, number_in, is_partition_key, key_of, key_in}

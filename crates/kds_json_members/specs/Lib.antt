@@ -1,3 +1,3 @@
-pub mod Reading
+pub mod Results
 pub mod Member
 pub mod Kinds

@@ -10,7 +10,7 @@ use Rattle.serde_json.specs.View.{members_view}
 use Rattle.serde_json.specs.declared.value.Value.{Value}
 use Rattle.kds_json_members.specs.declared.problem.Fault.{Fault}
 use Rattle.kds_json_members.specs.declared.problem.FaultKind.TheVariants.{Missing, Invalid, Token}
-use Rattle.kds_json_members.specs.Reading.{◌>>=◌, fault_of, some_or}
+use Rattle.kds_json_members.specs.Results.{◌>>=◌, fault_of, some_or}
 
 -- The JSON object whose members are those of the map `m`.
 abbrev pub object_view : BTreeMap (String Global) Value → Data

@@ -4,7 +4,7 @@ ghost use Rattle.std.specs.Prelude.{◌≡◌, is_some, option_map};
 ghost use Rattle.serde_json.specs.Data.{object};
 ghost use Rattle.serde_json.specs.Find.{as_object};
 ghost use Rattle.serde_json.specs.View.{view};
-ghost use Rattle.kds_json_members.specs.Reading.{IsStop, Gives, fault_of, some_or};
+ghost use Rattle.kds_json_members.specs.Results.{IsStop, Gives, fault_of, some_or};
 ghost use Rattle.kds_json_members.specs.Member.{object_view, member_of, required, absent_at};
 
 use crate::problem::{Fault, FaultKind, Stop};

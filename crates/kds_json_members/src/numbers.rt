@@ -2,7 +2,7 @@
 //! required member is absent or null, and `Invalid` if the value of a member isn't of the described kind.
 ghost use Rattle.std.specs.Prelude.{◌≡◌, None};
 ghost use Rattle.serde_json.specs.View.{view};
-ghost use Rattle.kds_json_members.specs.Reading.{Gives};
+ghost use Rattle.kds_json_members.specs.Results.{Gives};
 ghost use Rattle.kds_json_members.specs.Member.{object_view, required_at, optional_at};
 ghost use Rattle.kds_json_members.specs.Kinds.{number_in, moment_in, hash_in, hash_at, sequence_in, id_in, some_id_in};
 

@@ -4,7 +4,7 @@ ghost use Rattle.std.specs.Prelude.{◌≡◌, ◌+◌, length, chars, nat_le, N
 ghost use Rattle.serde_json.specs.Find.{as_str, as_bool};
 ghost use Rattle.serde_json.specs.View.{view};
 ghost use Rattle.kds_defs.specs.declared.limits.TheConstants.{RECORD_BYTES as most_bytes};
-ghost use Rattle.kds_json_members.specs.Reading.{Gives};
+ghost use Rattle.kds_json_members.specs.Results.{Gives};
 ghost use Rattle.kds_json_members.specs.Member.{object_view, required_at, optional_at};
 ghost use Rattle.kds_json_members.specs.Kinds.{name_in, some_name_in, mode_in, scaling_in, is_partition_key as is_key};
 ghost use Rattle.kds_json_members.specs.Kinds.{key_in, blob_in};

@@ -2,7 +2,7 @@
 //! a token, the fault is `Token`.
 ghost use Rattle.std.specs.Prelude.{◌≡◌};
 ghost use Rattle.kds_token.specs.Tokens.{iter_of, page_of};
-ghost use Rattle.kds_json_members.specs.Reading.{Gives};
+ghost use Rattle.kds_json_members.specs.Results.{Gives};
 ghost use Rattle.kds_json_members.specs.Member.{object_view, token_at};
 
 use crate::member::value_at;

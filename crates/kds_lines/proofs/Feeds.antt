@@ -14,7 +14,8 @@ use Rattle.kds_lines.specs.declared.outcome.Outcome.{Outcome}
 use Rattle.kds_lines.specs.declared.outcome.Outcome.TheVariants.{Whole, Unfinished, Stopped, TooLong, Read, Write}
 use Rattle.kds_lines.specs.declared.outcome.Outcome.TheVariants.{Memory}
 use Rattle.kds_lines.specs.declared.line_buffer.LineBuffer.{LineBuffer}
-use Rattle.kds_lines.specs.Lines.{unfinished, too_long, is_over, lined, last_of, preceded_by, Fed, Begins, IsTooLong}
+use Rattle.kds_lines.specs.Lines.{unfinished, too_long, is_too_long, lined, last_of, preceded_by, Fed, Begins}
+use Rattle.kds_lines.specs.Lines.{IsTooLong}
 use Rattle.kds_lines.specs.Lines.{NoFeed}
 use Rattle.kds_lines.specs.Writing.{Wrote, Loses}
 use Rattle.kds_lines.specs.LineBuffer.{Stands, Stops, Halted, HasTakenFed, FedLines, Running, HaltedAfter, HoldStops}
@@ -70,9 +71,9 @@ flush_err (Err x) before now piece waits e h =
 
 -- ---- A line ends
 
-at_length : (len used : ℕ) (w : List ℕ) {b : Bool} → len ≡ length w → is_over len (used + len + 1) ≡ b
-    → is_over (length w) (used + length w + 1) ≡ b
-at_length len used w {b} el h = subst (λ (z : ℕ). is_over z (used + z + 1) ≡ b) el h
+at_length : (len used : ℕ) (w : List ℕ) {b : Bool} → len ≡ length w → is_too_long len (used + len + 1) ≡ b
+    → is_too_long (length w) (used + length w + 1) ≡ b
+at_length len used w {b} el h = subst (λ (z : ℕ). is_too_long z (used + z + 1) ≡ b) el h
 
 module _ (before took : List (List ℕ) → Type 0) (broke refuses : List (List ℕ) → List ℕ
     → Type 0) (output : List (List ℕ) → List ℕ) where
@@ -80,7 +81,7 @@ module _ (before took : List (List ℕ) → Type 0) (broke refuses : List (List 
   -- long, and the taker takes the line, the bytes up to the line feed were fed (`Stands`).
   pub line_taken : (y a : List ℕ) (len : ℕ) (old new : LineBuffer) (start now : Option (List ℕ))
       → len ≡ length (old.held ++ a)
-      → (st : Stands before output y old start now) → NoFeed a → is_over len (old.used + len + 1) ≡ false
+      → (st : Stands before output y old start now) → NoFeed a → is_too_long len (old.used + len + 1) ≡ false
       → ((lines : List (List ℕ)) → before lines → Goes took output lines (old.held ++ a) old.output new.output)
       → new.held ≡ [] → new.used ≡ old.used + len + 1 → new.count ≡ old.count + 1
       → Stands took output (y ++ (a ++ 10 ∷ [])) new start now
@@ -124,7 +125,7 @@ module _ (before took : List (List ℕ) → Type 0) (broke refuses : List (List 
   -- takes it whole, in part or not, the reading is halted with Memory.
   line_breaks : (y a held waits : List ℕ) (ts : List (List ℕ)) (used : ℕ) (start now : Option (List ℕ))
       → Fed y ts used held → NoFeed a
-      → is_over (length (held ++ a)) (used + length (held ++ a) + 1) ≡ false → Wrote start now (output ts) waits []
+      → is_too_long (length (held ++ a)) (used + length (held ++ a) + 1) ≡ false → Wrote start now (output ts) waits []
       → Breaks took broke output ts (held ++ a)
       → Halted Memory took broke refuses output (y ++ (a ++ 10 ∷ [])) waits start now
   line_breaks y a held waits ts used start now f n short w (inl taken) =
@@ -151,7 +152,7 @@ module _ (before took : List (List ℕ) → Type 0) (broke refuses : List (List 
   -- halted with TooLong.
   pub stands_over : (y a : List ℕ) (len : ℕ) (old : LineBuffer) (start now : Option (List ℕ))
       → len ≡ length (old.held ++ a)
-      → Stands took output y old start now → NoFeed a → is_over len (old.used + len + 1) ≡ true
+      → Stands took output y old start now → NoFeed a → is_too_long len (old.used + len + 1) ≡ true
       → Halted TooLong took broke refuses output (y ++ (a ++ 10 ∷ [])) old.output start now
   stands_over y a len old start now el st n over =
       line_stops TooLong y a st.texts old.used old.held old.output start now st.bytes n st.taken
@@ -162,7 +163,7 @@ module _ (before took : List (List ℕ) → Type 0) (broke refuses : List (List 
   -- is halted with Stopped and the line's number.
   pub stands_stops : (y a waits : List ℕ) (len : ℕ) (old : LineBuffer) (start now : Option (List ℕ))
       → len ≡ length (old.held ++ a)
-      → (st : Stands before output y old start now) → NoFeed a → is_over len (old.used + len + 1) ≡ false
+      → (st : Stands before output y old start now) → NoFeed a → is_too_long len (old.used + len + 1) ≡ false
       → waits ≡ old.output
       → ((lines : List (List ℕ)) → before lines → took lines × refuses lines (old.held ++ a))
       → Halted (Stopped (old.count + 1)) took broke refuses output (y ++ (a ++ 10 ∷ [])) waits start now
@@ -176,7 +177,7 @@ module _ (before took : List (List ℕ) → Type 0) (broke refuses : List (List 
   -- this line, the reading is halted with Memory.
   pub stands_breaks : (y a waits : List ℕ) (len : ℕ) (old : LineBuffer) (start now : Option (List ℕ))
       → len ≡ length (old.held ++ a)
-      → (st : Stands before output y old start now) → NoFeed a → is_over len (old.used + len + 1) ≡ false
+      → (st : Stands before output y old start now) → NoFeed a → is_too_long len (old.used + len + 1) ≡ false
       → waits ≡ old.output
       → ((lines : List (List ℕ)) → before lines → Breaks took broke output lines (old.held ++ a))
       → Halted Memory took broke refuses output (y ++ (a ++ 10 ∷ [])) waits start now
@@ -398,17 +399,18 @@ module _ (before took : List (List ℕ) → Type 0) (broke refuses : List (List 
 
 -- ---- Bytes without a line feed
 
-some_over : (used : ℕ) (w : List ℕ) → used ≤ INPUT_BYTES → is_over (length w) (used + length w) ≡ true → (0 < length w)
+some_over : (used : ℕ) (w : List ℕ) → used ≤ INPUT_BYTES → is_too_long (length w) (used + length w) ≡ true
+    → (0 < length w)
     × ((LINE_BYTES < length w) ⊎ (INPUT_BYTES < used + length w))
 some_over used w h over = (grind (arith, common_steps), grind (arith, common_steps))
 
 -- If bytes without a line feed make the held line or the input too long, `IsTooLong` holds, whatever follows.
 pub hold_over : (y a : List ℕ) (len used : ℕ) (held : List ℕ) (ts : List (List ℕ)) → len ≡ length (held ++ a)
     → used ≤ INPUT_BYTES → Fed y ts used held → NoFeed a
-    → is_over len (used + len) ≡ true → IsTooLong (y ++ a) ts
+    → is_too_long len (used + len) ≡ true → IsTooLong (y ++ a) ts
 hold_over y a len used held ts el small f n over =
-    let over' : is_over (length (held ++ a)) (used + length (held ++ a)) ≡ true =
-    subst (λ (z : ℕ). is_over z (used + z) ≡ true) el over in
+    let over' : is_too_long (length (held ++ a)) (used + length (held ++ a)) ≡ true =
+    subst (λ (z : ℕ). is_too_long z (used + z) ≡ true) el over in
     let o = some_over used (held ++ a) small over' in
     more_over y a ts used held f n o.0 o.1
 
@@ -431,7 +433,7 @@ own_is_no_write o h e = let bad : IsOwnStop Write = subst (λ (z : Outcome). IsO
 
 -- ---- The size of the input
 
-not_over : (len used : ℕ) → len ≤ LINE_BYTES → used + len ≤ INPUT_BYTES → is_over len (used + len) ≡ false
+not_over : (len used : ℕ) → len ≤ LINE_BYTES → used + len ≤ INPUT_BYTES → is_too_long len (used + len) ≡ false
 not_over len used a b = grind (arith, common_steps)
 
 -- ---- What is known at the end of the reading
@@ -544,7 +546,7 @@ module _ (took : List (List ℕ) → Type 0) (broke refuses : List (List ℕ) �
     unwritten = refl;
   }
   told_last x count used (d ∷ held) ts left start now a b e c t w =
-      let short : is_over (length (d ∷ held)) (used + length (d ∷ held)) ≡ false = not_over _ _ a b in
+      let short : is_too_long (length (d ∷ held)) (used + length (d ∷ held)) ≡ false = not_over _ _ a b in
       let open_end : (lined x).end ≡ unfinished =
       ap (λ l. l.end) e ∙ ap (λ z. if z then too_long else unfinished) short in
       let some : (length (d ∷ held) == 0) ≡ false = grind (arith, common_steps) in

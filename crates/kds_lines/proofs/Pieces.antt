@@ -9,7 +9,8 @@ use Rattle.std.specs.List.{onto_first}
 use Rattle.std.specs.Prelude.{◌==◌, MatchOption}
 use Rattle.memchr.specs.Find.{IsFirstByte, Passes, is_byte}
 use Rattle.kds_defs.specs.declared.limits.TheConstants.{LINE_BYTES, INPUT_BYTES}
-use Rattle.kds_lines.specs.Lines.{too_long, unfinished, pieces, is_over, is_feed, ended, preceded, last_of, lined_from}
+use Rattle.kds_lines.specs.Lines.{too_long, unfinished, pieces, is_too_long, is_feed, ended, preceded, last_of}
+use Rattle.kds_lines.specs.Lines.{lined_from}
 use Rattle.kds_lines.specs.Lines.{lined, preceded_by, Fed, Begins, IsTooLong, NoFeed, HasFeedAt}
 
 -- ---- The first line feed
@@ -118,21 +119,21 @@ pieces_feed a z n = pieces_onto a (10 ∷ z) n ∙ ap (λ q. onto_piece a q) (sl
 
 lined_cut : (used : ℕ) (p : List ℕ) (ps : List (List ℕ)) → IsCut ps
     → lined_from used (p ∷ ps)
-    ≡ cond (is_over (length p) (used + length p + 1)) (ended too_long)
+    ≡ cond (is_too_long (length p) (used + length p + 1)) (ended too_long)
     (preceded p (lined_from (used + length p + 1) ps))
 lined_cut used p [] c = cc
 lined_cut used p (q ∷ qs) c = refl
 
 lined_first : (used : ℕ) (a z : List ℕ) → NoFeed a
     → lined_from used (pieces (a ++ 10 ∷ z))
-    ≡ cond (is_over (length a) (used + length a + 1)) (ended too_long)
+    ≡ cond (is_too_long (length a) (used + length a + 1)) (ended too_long)
     (preceded a (lined_from (used + length a + 1) (pieces z)))
 lined_first used a z n = ap (lined_from used) (pieces_feed a z n) ∙ lined_cut used a (pieces z) (pieces_cut z)
 
-over_at : (len total : ℕ) → (LINE_BYTES < len) ⊎ (INPUT_BYTES < total) → is_over len total ≡ true
+over_at : (len total : ℕ) → (LINE_BYTES < len) ⊎ (INPUT_BYTES < total) → is_too_long len total ≡ true
 over_at len total h = grind (arith, common_steps)
 
-last_over : (used : ℕ) (p : List ℕ) → 0 < length p → is_over (length p) (used + length p) ≡ true
+last_over : (used : ℕ) (p : List ℕ) → 0 < length p → is_too_long (length p) (used + length p) ≡ true
     → last_of used p ≡ ended too_long
 last_over used [] n h = absurd (omega arith)
 last_over used (b ∷ bs) n h = ap (λ c. ended (cond c too_long unfinished)) h
@@ -151,12 +152,12 @@ lined_over used a [] c n h = cc
 lined_over used a (q ∷ []) c n h =
     let l : length (a ++ q) ≡ length a + length q = length-append a q in
     let zero_more : used + length (a ++ q) + 0 ≡ used + length (a ++ q) = omega arith in
-    let over : is_over (length (a ++ q)) (used + length (a ++ q) + 0) ≡ true =
+    let over : is_too_long (length (a ++ q)) (used + length (a ++ q) + 0) ≡ true =
     over_at _ _ (longer used (length a) (length (a ++ q)) 0 (omega arith) h) in
     last_over used (a ++ q) (omega arith) (rw zero_more at over)
 lined_over used a (q ∷ r ∷ rs) c n h =
     let l : length (a ++ q) ≡ length a + length q = length-append a q in
-    let over : is_over (length (a ++ q)) (used + length (a ++ q) + 1) ≡ true =
+    let over : is_too_long (length (a ++ q)) (used + length (a ++ q) + 1) ≡ true =
     over_at _ _ (longer used (length a) (length (a ++ q)) 1 (omega arith) h) in
     rw over refl
 
@@ -166,7 +167,7 @@ lined_over used a (q ∷ r ∷ rs) c n h =
 -- the bytes `z` that follow. If this line or the input is too long, the lines end before it.
 feed_goes : (y a z : List ℕ) (ts : List (List ℕ)) (used : ℕ) (held : List ℕ) → Fed y ts used held → NoFeed a
     → lined ((y ++ (a ++ 10 ∷ [])) ++ z)
-    ≡ preceded_by ts (cond (is_over (length (held ++ a)) (used + length (held ++ a) + 1)) (ended too_long)
+    ≡ preceded_by ts (cond (is_too_long (length (held ++ a)) (used + length (held ++ a) + 1)) (ended too_long)
     (preceded (held ++ a) (lined_from (used + length (held ++ a) + 1) (pieces z))))
 feed_goes y a z ts used held f n =
     let whole_y : (y ++ (a ++ 10 ∷ [])) ++ z ≡ y ++ (a ++ 10 ∷ z) = simp append_assoc in
@@ -177,7 +178,7 @@ feed_goes y a z ts used held f n =
 -- The bytes `a` and a line feed end the held line. If neither this line nor the input is too long, it is one more whole
 -- line, and no bytes are held.
 pub line_fed : (y a : List ℕ) (ts : List (List ℕ)) (used : ℕ) (held : List ℕ) → Fed y ts used held → NoFeed a
-    → is_over (length (held ++ a)) (used + length (held ++ a) + 1) ≡ false
+    → is_too_long (length (held ++ a)) (used + length (held ++ a) + 1) ≡ false
     → Fed (y ++ (a ++ 10 ∷ [])) (ts ++ (held ++ a) ∷ []) (used + length (held ++ a) + 1) []
 line_fed y a ts used held f n short = record {
   goes_on = λ more. feed_goes y a more ts used held f n
@@ -194,7 +195,7 @@ nothing_more ts = ap (λ w. record { texts = w; end = too_long }) (append-nil ts
 
 -- The bytes `a` and a line feed end the held line. If this line or the input is too long, `IsTooLong` holds.
 pub line_over : (y a : List ℕ) (ts : List (List ℕ)) (used : ℕ) (held : List ℕ) → Fed y ts used held → NoFeed a
-    → is_over (length (held ++ a)) (used + length (held ++ a) + 1) ≡ true → IsTooLong (y ++ (a ++ 10 ∷ [])) ts
+    → is_too_long (length (held ++ a)) (used + length (held ++ a) + 1) ≡ true → IsTooLong (y ++ (a ++ 10 ∷ [])) ts
 line_over y a ts used held f n over = λ more. feed_goes y a more ts used held f n
     ∙ ap (λ c. preceded_by ts
     (cond c (ended too_long) (preceded (held ++ a) (lined_from (used + length (held ++ a) + 1) (pieces more)))))

@@ -24,9 +24,9 @@ is_feed b = b == 10
 abbrev pub pieces : List ℕ → List (List ℕ)
 pieces bytes = slice_split is_feed bytes
 
--- Whether a line of `len` bytes is too long, or an input of `total` bytes is.
-abbrev pub is_over : ℕ → ℕ → Bool
-is_over len total = nat_lt LINE_BYTES len || nat_lt INPUT_BYTES total
+-- Whether a line of `len` bytes, without its line feed, or an input of `total` bytes is too long.
+abbrev pub is_too_long : ℕ → ℕ → Bool
+is_too_long len total = nat_lt LINE_BYTES len || nat_lt INPUT_BYTES total
 
 -- No lines, and the end `e`.
 abbrev pub ended : End → Lined
@@ -40,7 +40,7 @@ preceded text l = record { texts = text ∷ l.texts; end = l.end }
 -- part. There is no whole line in it.
 abbrev pub last_of : ℕ → List ℕ → Lined
 last_of used [] = ended whole
-last_of used (b ∷ bs) = ended (if is_over (length (b ∷ bs)) (used + length (b ∷ bs)) then too_long else unfinished)
+last_of used (b ∷ bs) = ended (if is_too_long (length (b ∷ bs)) (used + length (b ∷ bs)) then too_long else unfinished)
 
 -- The whole lines of an input within the limits, and how it ends, from its parts between line feeds (`pieces`). The
 -- number `used` counts the bytes before these parts.
@@ -48,7 +48,7 @@ abbrev pub lined_from : ℕ → List (List ℕ) → Lined
 lined_from used [] = ended whole
 lined_from used (piece ∷ []) = last_of used piece
 lined_from used (piece ∷ next ∷ more) =
-    if is_over (length piece) (used + length piece + 1) then ended too_long
+    if is_too_long (length piece) (used + length piece + 1) then ended too_long
     else preceded piece (lined_from (used + length piece + 1) (next ∷ more))
 
 -- The whole lines of the input `bytes`, up to the first line that is too long or makes the input too long, and how the

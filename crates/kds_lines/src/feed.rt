@@ -5,7 +5,7 @@ ghost use Rattle.std.specs.Prelude.{IfErr, IsErrOf, MatchOption};
 ghost use Rattle.std.specs.declared.option.Option.{Option};
 ghost use Rattle.kds_ends.specs.Causes.{Rose};
 ghost use Rattle.kds_defs.specs.declared.limits.TheConstants.{LINE_BYTES};
-ghost use Rattle.kds_lines.specs.Lines.{NoFeed, HasFeedAt, Fed, is_over};
+ghost use Rattle.kds_lines.specs.Lines.{NoFeed, HasFeedAt, Fed, is_too_long};
 ghost use Rattle.kds_lines.specs.LineBuffer.{EndsLine, Feeds, FeedsFront, HoldStops, IsOwnStop, IsFeedStop, StopsIn};
 ghost use Rattle.kds_lines.specs.LineBuffer.{StopsInLine, fed_count};
 ghost use Rattle.kds_lines.specs.Taking.{Goes, Breaks};
@@ -29,8 +29,8 @@ fn first_feed(bytes: &[u8]) -> Option<usize>
 
 /// Whether a line of `len` bytes is longer than `LINE_BYTES`, or an input of `total` bytes is longer than
 /// `INPUT_BYTES`.
-fn over(len: usize, total: u64) -> bool
-    ensures { result ≡ is_over len total }
+fn is_too_long(len: usize, total: u64) -> bool
+    ensures { result ≡ is_too_long len total }
 {
     len as u64 > LINE_BYTES || total > INPUT_BYTES
 }
@@ -88,7 +88,7 @@ fn end_line<T: Taker>(
 {
     let len = joined_length(&line_buffer.held, tail);
     let total = line_buffer.used + len as u64 + 1;
-    if over(len, total) {
+    if is_too_long(len, total) {
         return Err(Outcome::TooLong);
     }
     let number = line_buffer.count + 1;
@@ -191,7 +191,7 @@ fn hold(line_buffer: &mut LineBuffer, rest: &[u8]) -> Result<(), Outcome>
     ensures kinds { IfErr result IsOwnStop }
 {
     let len = joined_length(&line_buffer.held, rest);
-    if over(len, line_buffer.used + len as u64) {
+    if is_too_long(len, line_buffer.used + len as u64) {
         return Err(Outcome::TooLong);
     }
     match line_buffer.held.extend(rest) {

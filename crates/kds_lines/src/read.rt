@@ -55,7 +55,7 @@ fn next_piece<T: Taker, S: Source, K: Sink>(
     buffer: &mut [u8],
     out: &mut K,
 ) -> Result<bool, Outcome>
-    requires room { 0 < length buffer.old }
+    requires some { 0 < length buffer.old }
     requires written { line_buffer.old.output ≡ [] }
     ensures goes_on { IfOk result (λ more. RunsOn (T.took taker.old) (T.took taker.new) T.output
         (S.left input.old) (S.left input.new) (K.held out.old) (K.held out.new) line_buffer.old line_buffer.new) }

@@ -96,7 +96,7 @@ answer_text : (log : Journal) (c by : ℕ) (what : Command) (lines : List Line) 
     → HasTextKeys log → ArePrintedWhole answer
 answer_text log c by _ _ _ (Answers _ _ (Gets iter limit rs next late xs read)) h =
     subst (AllByRecursion IsPrintedWhole) read.are
-    (batch_text log read.clock read.stream read.shard read.place read.limit h)
+    (batch_text log read.clock read.stream read.shard read.position read.limit h)
 answer_text log c by _ _ _ (Adds _ _ _ (Reads t position limit T place ended begun same)) h =
     batch_text log c T.key.stream T.key.shard (reach T) limit h
 answer_text log c by _ _ _ _ h = tt

@@ -1,7 +1,9 @@
--- What a writer of JSON adds for a value.
-use Rattle.std.specs.Prelude.{ℕ, List, [], ◌∷◌, Option, Some, None}
+-- Defines which JSON tokens a writer adds for a value. A JSON token is a bracket, the name of a member, or a simple
+-- value.
+use Rattle.std.specs.Prelude.{ℕ, ◌≡◌, List, [], ◌∷◌, ◌++◌, Option, Some, None, OnOk, Result}
 use Rattle.json.specs.Token.{Token, string}
 use Rattle.json.specs.Tree.{json_tokens}
+use Rattle.json.specs.Written.{Written}
 use Rattle.serde_json.specs.Data.{Data}
 use Rattle.serde_json.specs.Written.{outline}
 use Rattle.kds_token.specs.Ids.{shard_id}
@@ -14,3 +16,9 @@ tokens_of d = json_tokens (outline d)
 abbrev pub id_tokens : Option ℕ → List Token
 id_tokens None = []
 id_tokens (Some shard) = string (shard_id shard) ∷ []
+
+-- The call added `tokens` behind the JSON tokens of the writer `old`, which is now `new`, unless memory ran out. In
+-- both cases, the bytes before the first token are unchanged.
+pub record AddsTokens {A E : Type 0} (result : Result A E) (old new : Written) (tokens : List Token) : Type 0 where
+  pub ok : OnOk result (new.tokens ≡ old.tokens ++ tokens)
+  pub before : new.before ≡ old.before

@@ -6,7 +6,7 @@ ghost use Rattle.kds_reply_texts.specs.Records.{records_data};
 
 use crate::children::children_text;
 use crate::pieces::{push_piece, put_decimal, reserve};
-use crate::records::{put_records, record_size};
+use crate::records::{append_records, record_size};
 use crate::tokens::{ITERATOR_BYTES, quoted_iter};
 use kds_base::Memory;
 use kds_defs::{Iter, Shard, Stored};
@@ -42,7 +42,7 @@ fn put_open(
     push_piece(out, b",\"NextShardIterator\":\"")?;
     push_piece(out, token.as_slice())?;
     push_piece(out, b"\",\"Records\":")?;
-    put_records(out, alloc, batch)?;
+    append_records(out, alloc, batch)?;
     push_piece(out, b"}")?;
     Ok(())
 }
@@ -65,7 +65,7 @@ fn put_end(
     push_piece(out, b",\"MillisBehindLatest\":")?;
     put_decimal(out, behind)?;
     push_piece(out, b",\"NextShardIterator\":null,\"Records\":")?;
-    put_records(out, alloc, batch)?;
+    append_records(out, alloc, batch)?;
     push_piece(out, b"}")?;
     Ok(())
 }

@@ -1,9 +1,9 @@
 //! Writes the child shards of a closed shard directly as JSON text.
-ghost use Rattle.std.specs.Prelude.{◌≡◌, ◌++◌, IfOk, OnOk};
+ghost use Rattle.std.specs.Prelude.{◌≡◌, IfOk};
 ghost use Rattle.serde_json.specs.Written.{compact_text};
 ghost use Rattle.kds_reply_texts.specs.Bodies.{id_data, list_data};
 ghost use Rattle.kds_reply_texts.specs.Children.{range_data, parents_of, child_data};
-ghost use Rattle.kds_reply_texts.specs.Writing.{tokens_of, id_tokens};
+ghost use Rattle.kds_reply_texts.specs.Writing.{AddsTokens, tokens_of, id_tokens};
 
 use crate::writing::{
     begin_object, end_object, new_writer, put_hash_key, put_name, put_text, written,
@@ -19,8 +19,7 @@ const CHILD_BYTES: usize = 320;
 
 /// Writes a range of hash keys as a JSON object (Kinesis API Reference, HashKeyRange).
 fn put_range(out: &mut Writer, range: &Range) -> Result<(), Memory>
-    ensures ok { OnOk result (out.new.tokens ≡ out.old.tokens ++ tokens_of (range_data range.now)) }
-    ensures before { out.new.before ≡ out.old.before }
+    ensures { AddsTokens result out.old out.new (tokens_of (range_data range.now)) }
 {
     begin_object(out)?;
     put_hash_key(out, "EndingHashKey", range.end)?;
@@ -31,8 +30,7 @@ fn put_range(out: &mut Writer, range: &Range) -> Result<(), Memory>
 
 /// Writes the ID of a shard as a JSON string. Writes nothing if `shard` is `None`.
 fn put_id(out: &mut Writer, shard: &Option<ShardNo>) -> Result<(), Memory>
-    ensures ok { OnOk result (out.new.tokens ≡ out.old.tokens ++ id_tokens shard.now) }
-    ensures before { out.new.before ≡ out.old.before }
+    ensures { AddsTokens result out.old out.new (id_tokens shard.now) }
 {
     match shard {
         Some(shard) => {
@@ -45,8 +43,7 @@ fn put_id(out: &mut Writer, shard: &Option<ShardNo>) -> Result<(), Memory>
 
 /// Writes the IDs of the parents of a shard as a JSON array, with the adjacent parent last.
 fn put_parents(out: &mut Writer, shard: &Shard) -> Result<(), Memory>
-    ensures ok { OnOk result (out.new.tokens ≡ out.old.tokens ++ tokens_of (list_data id_data (parents_of shard.now))) }
-    ensures before { out.new.before ≡ out.old.before }
+    ensures { AddsTokens result out.old out.new (tokens_of (list_data id_data (parents_of shard.now))) }
 {
     out.begin_array()?;
     put_id(out, &shard.parent)?;
@@ -57,8 +54,7 @@ fn put_parents(out: &mut Writer, shard: &Shard) -> Result<(), Memory>
 
 /// Writes one child shard as a JSON object (Kinesis API Reference, ChildShard).
 fn put_child(out: &mut Writer, shard: &Shard) -> Result<(), Memory>
-    ensures ok { OnOk result (out.new.tokens ≡ out.old.tokens ++ tokens_of (child_data shard.now)) }
-    ensures before { out.new.before ≡ out.old.before }
+    ensures { AddsTokens result out.old out.new (tokens_of (child_data shard.now)) }
 {
     let id = shard_id(shard.no);
     begin_object(out)?;
@@ -73,8 +69,7 @@ fn put_child(out: &mut Writer, shard: &Shard) -> Result<(), Memory>
 
 /// Writes child shards as a JSON array.
 fn put_children(out: &mut Writer, shards: &[Shard]) -> Result<(), Memory>
-    ensures ok { OnOk result (out.new.tokens ≡ out.old.tokens ++ tokens_of (list_data child_data shards.now)) }
-    ensures before { out.new.before ≡ out.old.before }
+    ensures { AddsTokens result out.old out.new (tokens_of (list_data child_data shards.now)) }
 {
     out.begin_array()?;
     for shard in shards {

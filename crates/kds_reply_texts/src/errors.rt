@@ -1,8 +1,8 @@
 //! The bodies of error responses.
-ghost use Rattle.std.specs.Prelude.{◌≡◌, ◌++◌, IfOk, OnOk};
+ghost use Rattle.std.specs.Prelude.{◌≡◌, IfOk};
 ghost use Rattle.serde_json.specs.Written.{compact_text};
 ghost use Rattle.kds_reply_texts.specs.Errors.{error_data};
-ghost use Rattle.kds_reply_texts.specs.Writing.{tokens_of};
+ghost use Rattle.kds_reply_texts.specs.Writing.{AddsTokens, tokens_of};
 
 use crate::writing::{begin_object, end_object, new_writer, put_text, written};
 use json::Writer;
@@ -17,8 +17,7 @@ const ERROR_BYTES: usize = 32;
 
 /// Writes an error as a JSON object with the error's name and message.
 fn put_error(out: &mut Writer, name: &str, message: &str) -> Result<(), Memory>
-    ensures ok { OnOk result (out.new.tokens ≡ out.old.tokens ++ tokens_of (error_data name.now message.now)) }
-    ensures before { out.new.before ≡ out.old.before }
+    ensures { AddsTokens result out.old out.new (tokens_of (error_data name.now message.now)) }
 {
     begin_object(out)?;
     put_text(out, "__type", name)?;

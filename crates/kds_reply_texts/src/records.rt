@@ -24,7 +24,7 @@ const FRONT_BYTES: usize = 60;
 
 /// An upper bound on the bytes of a record's JSON text besides its key and payload: a comma, the text before the
 /// payload, 38 bytes for the names of two members with their punctuation, 20 digits, a quote and a brace.
-const RECORD_BYTES: usize = 128;
+const RECORD_OVERHEAD: usize = 128;
 
 /// How many zero bytes are appended at once, if the capacity allows and no record needs more. The number is so small
 /// that the bytes are still in the first-level cache when text is written over them.
@@ -36,7 +36,7 @@ const BLOCK_BYTES: usize = 4096;
 pub fn record_size(payload: &[u8], key: &[u8]) -> usize
     ensures { result < 2 ^ 63 → record_room payload.now key.now ≤ result }
 {
-    ((payload.len() + 2) / 3 * 4).saturating_add(key.len() + RECORD_BYTES)
+    ((payload.len() + 2) / 3 * 4).saturating_add(key.len() + RECORD_OVERHEAD)
 }
 
 /// Writes the part of a record's JSON text that comes before the payload, and returns the length of this part. `second`
@@ -118,7 +118,7 @@ fn ensure_length(out: &mut Vec<u8>, at: usize, size: usize) -> Result<(), Memory
 }
 
 /// Appends the JSON text of a record whose key may need escaping.
-fn put_record(out: &mut Vec<u8>, alloc: Global, stored: &Stored) -> Result<(), Memory>
+fn append_record(out: &mut Vec<u8>, alloc: Global, stored: &Stored) -> Result<(), Memory>
     ensures { OnOk result (out.new.items ≡ out.old.items ++ compact_text (record_data stored.now)) }
 {
     push_piece(out, b"{\"ApproximateArrivalTimestamp\":")?;
@@ -150,7 +150,7 @@ fn add_escaped_record(
 {
     out.truncate(at);
     put_comma(out, later)?;
-    put_record(out, alloc, stored)?;
+    append_record(out, alloc, stored)?;
     Ok(out.len())
 }
 
@@ -220,7 +220,7 @@ fn standard_engine() -> GeneralPurpose
 }
 
 /// Appends the records as a JSON array.
-pub fn put_records(out: &mut Vec<u8>, alloc: Global, batch: &[Stored]) -> Result<(), Memory>
+pub fn append_records(out: &mut Vec<u8>, alloc: Global, batch: &[Stored]) -> Result<(), Memory>
     ensures { OnOk result (out.new.items ≡ out.old.items ++ compact_text (list_data record_data batch.now)) }
 {
     let engine = standard_engine();

@@ -1,9 +1,9 @@
 //! Writes JSON objects and their members with `json::Writer`, which is part of the Rattle kit.
-ghost use Rattle.std.specs.Prelude.{◌≡◌, ◌++◌, ◌∷◌, [], decimal, OnOk, IfOk};
+ghost use Rattle.std.specs.Prelude.{◌≡◌, ◌∷◌, [], decimal, IfOk};
 ghost use Rattle.json.specs.Token.{begin_object, end_object, key, string};
 ghost use Rattle.serde_json.specs.Data.{Data};
 ghost use Rattle.serde_json.specs.Written.{compact_text};
-ghost use Rattle.kds_reply_texts.specs.Writing.{tokens_of};
+ghost use Rattle.kds_reply_texts.specs.Writing.{AddsTokens, tokens_of};
 
 use itoa::Buffer;
 use json::Writer;
@@ -29,8 +29,7 @@ pub fn written(out: Writer) -> Octets
 
 /// Writes the start of a JSON object.
 pub fn begin_object(out: &mut Writer) -> Result<(), Memory>
-    ensures ok { OnOk result (out.new.tokens ≡ out.old.tokens ++ begin_object ∷ []) }
-    ensures before { out.new.before ≡ out.old.before }
+    ensures { AddsTokens result out.old out.new (begin_object ∷ []) }
 {
     out.begin_object()?;
     Ok(())
@@ -38,8 +37,7 @@ pub fn begin_object(out: &mut Writer) -> Result<(), Memory>
 
 /// Writes the end of a JSON object.
 pub fn end_object(out: &mut Writer) -> Result<(), Memory>
-    ensures ok { OnOk result (out.new.tokens ≡ out.old.tokens ++ end_object ∷ []) }
-    ensures before { out.new.before ≡ out.old.before }
+    ensures { AddsTokens result out.old out.new (end_object ∷ []) }
 {
     out.end_object()?;
     Ok(())
@@ -47,8 +45,7 @@ pub fn end_object(out: &mut Writer) -> Result<(), Memory>
 
 /// Writes the name of a member, before its value is written.
 pub fn put_name(out: &mut Writer, name: &str) -> Result<(), Memory>
-    ensures ok { OnOk result (out.new.tokens ≡ out.old.tokens ++ key name.now ∷ []) }
-    ensures before { out.new.before ≡ out.old.before }
+    ensures { AddsTokens result out.old out.new (key name.now ∷ []) }
 {
     out.key(name)?;
     Ok(())
@@ -56,8 +53,7 @@ pub fn put_name(out: &mut Writer, name: &str) -> Result<(), Memory>
 
 /// Writes a member called `name` whose value is the hash key `hash` as a decimal string.
 pub fn put_hash_key(out: &mut Writer, name: &str, hash: u128) -> Result<(), Memory>
-    ensures ok { OnOk result (out.new.tokens ≡ out.old.tokens ++ key name.now ∷ string (decimal hash) ∷ []) }
-    ensures before { out.new.before ≡ out.old.before }
+    ensures { AddsTokens result out.old out.new (key name.now ∷ string (decimal hash) ∷ []) }
 {
     let mut digits = Buffer::new();
     out.key(name)?;
@@ -67,8 +63,7 @@ pub fn put_hash_key(out: &mut Writer, name: &str, hash: u128) -> Result<(), Memo
 
 /// Writes a member called `name` whose value is the string `text`.
 pub fn put_text(out: &mut Writer, name: &str, text: &str) -> Result<(), Memory>
-    ensures ok { OnOk result (out.new.tokens ≡ out.old.tokens ++ key name.now ∷ string text.now ∷ []) }
-    ensures before { out.new.before ≡ out.old.before }
+    ensures { AddsTokens result out.old out.new (key name.now ∷ string text.now ∷ []) }
 {
     out.key(name)?;
     out.string(text)?;

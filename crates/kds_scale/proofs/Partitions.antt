@@ -6,7 +6,8 @@ use Rattle.std.proofs.Common.{◌∷◌, ◌++◌, length, Option, Some, None, r
 use Rattle.std.specs.Prelude.{◌==◌, ◌&&◌, ◌||◌, cond, not, nat_le, nat_lt, slice_get, if◌then◌else◌}
 use Rattle.std.specs.List.{AllByRecursion, filter}
 use Rattle.std.proofs.lemmas.Bool.Decides.{nat_tests}
-use Rattle.kds_base.specs.Span.{Span, Covers, is_inside, lower_part, upper_part, follows, are_adjacent, joined, uniform}
+use Rattle.kds_base.specs.Span.{Span, Covers, is_inside, lower_part, upper_part, is_followed_by, are_adjacent, joined}
+use Rattle.kds_base.specs.Span.{uniform}
 use Rattle.kds_base.specs.Span.{uniform_from}
 use Rattle.kds_base.proofs.Facts.{same_some}
 use Rattle.kds_defs.specs.Scaling.{RiseFrom, is_start, starts_of, uniform_starts, with_start, without}
@@ -325,11 +326,11 @@ joins xs b ok some m =
       at = at;
     }
 
-follow_so : (a b : Span) → a.end + 1 ≡ b.start → follows a b ≡ true
+follow_so : (a b : Span) → a.end + 1 ≡ b.start → is_followed_by a b ≡ true
 follow_so a b h = grind (arith, nat_tests)
 
 adjacent_so : (a b : Span) → a.end + 1 ≡ b.start → are_adjacent a b ≡ true
-adjacent_so a b h = ap (λ (r : Bool). r || follows b a) (follow_so a b h)
+adjacent_so a b h = ap (λ (r : Bool). r || is_followed_by b a) (follow_so a b h)
 
 -- The ranges of the two shards of a merge are adjacent.
 pub joins_touch : (xs : List ShardState) (b : ℕ) (j : Joins xs b) → are_adjacent j.low.range j.high.range ≡ true
@@ -416,7 +417,8 @@ chosen_bounded false x y h g = g
 
 joined_bounded : (a b : Span) → a.end < 2 ^ 128 → b.end < 2 ^ 128 → (joined a b).end < 2 ^ 128
 joined_bounded a b h g =
-    chosen_bounded (follows a b) (record { start = a.start; end = b.end }) (record { start = b.start; end = a.end }) g h
+    chosen_bounded (is_followed_by a b) (record { start = a.start; end = b.end })
+    (record { start = b.start; end = a.end }) g h
 
 -- If all ranges end below 2^128, the range of the shard at the index `sh` does so too.
 pub range_bounded : (xs : List ShardState) (sh : ℕ) (o : Option ShardState) → slice_get xs sh ≡ o

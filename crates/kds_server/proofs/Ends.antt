@@ -17,7 +17,7 @@ use Rattle.kds_session.specs.declared.state.Standing.TheVariants.{Live}
 use Rattle.kds_session.specs.Messages.{Ending, boundary, inside, closed, refused}
 use Rattle.kds_session.specs.Text.{Answers, responses, end_text}
 use Rattle.kds_session.specs.States.{SessionState}
-use Rattle.kds_session.specs.Standing.{traffic, sent_more, Passes, StandsFor, IsQuiet, end_of}
+use Rattle.kds_session.specs.Standing.{traffic, sent_more, CarriesOn, StandsFor, IsQuiet, end_of}
 use Rattle.kds_session.specs.Laws.{FirstPart, WholeText, NothingFollows}
 use Rattle.kds_server.specs.Texts.{Written, WrittenPart, Tells, IsAnswerStatus, status_at}
 use Rattle.kds_server.specs.Serving.{AsksAtMostOnce}
@@ -29,7 +29,7 @@ use Rattle.kds_server.specs.Steps.{Reads, IsReadStop}
 -- sent this output.
 pub flushed : (all left : Option (List ℕ)) (s new : SessionState) (start held now : Option (List ℕ))
     (given : List Command) (told : Answers) → Reads all left s start held given told
-    → Passes s new (sent_more s.output) → Appends held now s.output
+    → CarriesOn s new (sent_more s.output) → Appends held now s.output
     → Reads all left new start now given told
 flushed all left s new start held now given told r stands o = record {
   fed = r.fed;

@@ -1,14 +1,17 @@
--- A connection that is being served.
-use Rattle.std.specs.Prelude.{ℕ, ◌+◌, ◌-◌, ◌*◌, List, [], ◌∷◌, ◌++◌, length, IfSome}
+-- Defines how far a connection is that is being served: what was read, which commands were taken, and what was written.
+use Rattle.std.specs.Prelude.{ℕ, ◌≡◌, ◌+◌, ◌-◌, ◌*◌, ◌<◌, ◌≤◌, Bool, true, false, List, [], ◌∷◌, ◌++◌, length}
+use Rattle.std.specs.Prelude.{IfErr, IfOk, IfSome, IsErrOf, OnOk, Result}
 use Rattle.std.specs.declared.option.Option.{Option}
-use Rattle.std.specs.Io.KnownBytes.{Appends, Consumes}
+use Rattle.std.specs.Io.KnownBytes.{Appends, Consumes, IsAtEnd, Keeps}
 use Rattle.kds_defs.specs.declared.command.Command.{Command}
+use Rattle.kds_ends.specs.Causes.{Rose}
 use Rattle.kds_ends.specs.Moments.{Gives}
 use Rattle.kds_ends.specs.declared.status.Status.{Status}
 use Rattle.kds_ends.specs.declared.status.Status.TheVariants.{Read, Memory}
 use Rattle.kds_head.specs.declared.numbers.TheConstants.{HEAD_BYTES, BODY_BYTES}
 use Rattle.kds_session.specs.Text.{Answers}
 use Rattle.kds_session.specs.States.{SessionState}
+use Rattle.kds_session.specs.declared.state.Standing.TheVariants.{Live}
 use Rattle.kds_session.specs.Standing.{traffic, StandsFor, to_come}
 use Rattle.kds_server.specs.Around.{Around, around}
 use Rattle.kds_server.specs.Serving.{AsksAtMostOnce}
@@ -101,9 +104,10 @@ module _ {S : Type 0} (made : S → List ℕ → List Command → Answers → S 
   RunsOn here there = (first : S) (all before start : Option (List ℕ)) → RunsTo first all before start here
       → RunsTo first all before start there
 
-  -- A connection that stands at `here` ends at `there` with `status`.
-  abbrev pub RunsOut : Point S → Point S → Status → Type 0
-  RunsOut here there status =
+  -- Whatever a connection began with, if it has run to the point `here`, it ends with `status` at the point `there`.
+  -- The session of `there` doesn't matter.
+  abbrev pub EndsConnection : Point S → Point S → Status → Type 0
+  EndsConnection here there status =
       (first : S) (all before start : Option (List ℕ)) → RunsTo first all before start here
       → Ended (MadeFrom first there.state) (around all there.left) (around before there.clock) (around start there.held)
       status
@@ -118,27 +122,46 @@ module _ {S : Type 0} (made : S → List ℕ → List Command → Answers → S 
       → Reads all left session start held (given ++ what ∷ []) told
       → Running (MadeFrom first state_now) session_now (around all left) (around before clock_now) (around start held)
 
-  -- The command `what`, which waits, was taken or wasn't, and memory ran out.
-  abbrev pub TakesNone : (what : Command) (state : S) (session : SessionState) (clock : Option (List ℕ)) (state_now : S)
+  -- Whatever was taken before, memory ran out at the command `what`, which the session gave last, and the connection
+  -- ends with Memory. Whether the command was taken isn't known. So it isn't safe to send it again, as it may then be
+  -- taken twice.
+  abbrev pub RanOutOfMemory : (what : Command) (state : S) (session : SessionState) (clock : Option (List ℕ))
+      (state_now : S)
       (clock_now : Option (List ℕ)) → Type 0
-  TakesNone what state session clock state_now clock_now =
+  RanOutOfMemory what state session clock state_now clock_now =
       (first : S) (all left before start held : Option (List ℕ)) (given : List Command) (told : Answers)
       → Taken (λ moments. made first moments given told state) before clock
       → Reads all left session start held (given ++ what ∷ []) told
       → Ended (MadeFrom first state_now) (around all left) (around before clock_now) (around start held) Memory
 
--- The most bytes that an unfinished message may have.
-abbrev pub ROOM : ℕ
-ROOM = HEAD_BYTES + BODY_BYTES
+-- The greatest number of bytes of a head and a body together. An unfinished message has fewer.
+abbrev pub UNFINISHED_BYTES : ℕ
+UNFINISHED_BYTES = HEAD_BYTES + BODY_BYTES
 
 -- A number that falls with each turn and with each read that brings bytes, and so bounds how many may still come. For
 -- each request that is allowed and for the end of the connection, it counts a turn and the bytes of an unfinished
 -- message, without the bytes that are unread now.
 abbrev pub work : SessionState → ℕ
-work s = to_come s * (ROOM + 1) + (ROOM - length s.unread)
+work s = to_come s * (UNFINISHED_BYTES + 1) + (UNFINISHED_BYTES - length s.unread)
 
 -- The status is one with which the reading of a piece may stop the connection: the source fails, or memory runs out.
 abbrev pub IsReadStop : Status → Type 0
 IsReadStop Read = Unit {0}
 IsReadStop Memory = Unit {0}
 IsReadStop _ = ⊥
+
+-- A piece was read and fed to the session `old`, which is now `new`. The result is true if bytes came, false at the end
+-- of the input, and the status Read or Memory if the read or the feeding failed. Unless bytes came and were fed, the
+-- session is unchanged. From before to after, what the source has left went from `left` to `left_now`, and its fault
+-- count from `faults` to `faults_now`. The count hasn't fallen, and it rose if the read failed.
+pub record ReadsPiece (left left_now : Option (List ℕ)) (old new : SessionState) (faults faults_now : ℕ)
+    (result : Result Bool Status) : Type 0 where
+  pub ok : OnOk result ((held : Option (List ℕ)) → ReadsOn left old held left_now new held)
+  pub ends : IfOk result (λ more. more ≡ false → IsAtEnd left_now × (new ≡ old))
+  pub grows : old.standing ≡ Live → IfOk result (λ more. more ≡ true → (new ≡ record old { unread = new.unread })
+      × (length old.unread < length new.unread))
+  pub err : IfErr result (λ s. new ≡ old)
+  pub kept : IsErrOf result Read → Keeps left left_now
+  pub kinds : IfErr result IsReadStop
+  pub later : faults ≤ faults_now
+  pub read : IsErrOf result Read → Rose faults faults_now

@@ -22,7 +22,7 @@ struct Shared<'c, R, M: Machine, C> {
     alloc: Global,
     clock: &'c Mutex<C>,
     /// The free passes. A pass that was taken for the next connection isn't among them.
-    idle: Mutex<Vec<FreePass<'c, M>>>,
+    free: Mutex<Vec<FreePass<'c, M>>>,
     /// Notified when a pass becomes free.
     freed: Condvar,
     /// Whether memory has run out on any connection.
@@ -56,7 +56,7 @@ impl<'c, R: Wait, M: Machine, C: Clock> Shared<'c, R, M, C> {
         out: K,
     ) {
         let free = self.serve_connection(free, input, out);
-        if self.idle.lock(self.rt).push(free).is_err() {
+        if self.free.lock(self.rt).push(free).is_err() {
             self.out_of_memory.store(true, Ordering::SeqCst);
         }
         self.freed.notify_one();
@@ -64,22 +64,22 @@ impl<'c, R: Wait, M: Machine, C: Clock> Shared<'c, R, M, C> {
 
     /// Waits until a pass is free, and takes it. Returns `None` if memory has run out on a connection.
     fn next_pass(&self) -> Option<FreePass<'c, M>> {
-        let mut idle = self
+        let mut free = self
             .freed
-            .wait_while(self.rt, self.idle.lock(self.rt), |idle| {
-                idle.is_empty() && !self.out_of_memory.load(Ordering::SeqCst)
+            .wait_while(self.rt, self.free.lock(self.rt), |free| {
+                free.is_empty() && !self.out_of_memory.load(Ordering::SeqCst)
             });
         if self.out_of_memory.load(Ordering::SeqCst) {
             return None;
         }
-        idle.pop()
+        free.pop()
     }
 }
 
 /// Spawns a thread that serves a connection. If no thread can be started, the calling thread serves the connection.
 fn spawn_connection<'s, 'e: 's, 'c: 'e, R, M, C, S, K>(
     scope: &'s Scope<'s, &'e ()>,
-    crew: &'e Shared<'c, R, M, C>,
+    shared: &'e Shared<'c, R, M, C>,
     free: FreePass<'c, M>,
     input: S,
     out: K,
@@ -91,7 +91,7 @@ where
     S: Source + Send + Drop + 'e,
     K: Sink + Send + Drop + 'e,
 {
-    if let Err(refused) = scope.spawn(move || crew.serve_and_return_pass(free, input, out)) {
+    if let Err(refused) = scope.spawn(move || shared.serve_and_return_pass(free, input, out)) {
         (refused.value)();
     }
 }
@@ -100,7 +100,7 @@ where
 /// function waits for a free pass.
 fn accept_all<'s, 'e: 's, 'c: 'e, R, M, C, D>(
     scope: &'s Scope<'s, &'e ()>,
-    crew: &'e Shared<'c, R, M, C>,
+    shared: &'e Shared<'c, R, M, C>,
     door: &mut D,
 ) -> Status
 where
@@ -115,18 +115,18 @@ where
     ensures listens { (port : ℕ) → D.listens door.old port → D.listens door.new port }
     ensures kinds { IsCrewStatus result }
 {
-    for _ in crew.rt.forever() {
-        let Some(free) = crew.next_pass() else {
+    for _ in shared.rt.forever() {
+        let Some(free) = shared.next_pass() else {
             return Status::Memory;
         };
         let Ok((input, out)) = door.accept() else {
             return Status::Door;
         };
         // Memory may have run out while `accept` waited. Then the new connection is closed without being served.
-        if crew.out_of_memory.load(Ordering::SeqCst) {
+        if shared.out_of_memory.load(Ordering::SeqCst) {
             return Status::Memory;
         }
-        spawn_connection(scope, crew, free, input, out);
+        spawn_connection(scope, shared, free, input, out);
     }
     unreachable!()
 }
@@ -159,14 +159,14 @@ where
     ensures listens { (port : ℕ) → D.listens door.old port → D.listens door.new port }
     ensures kinds { IsCrewStatus result }
 {
-    let Ok(idle) = free_passes(alloc, hall, passes) else {
+    let Ok(free) = free_passes(alloc, hall, passes) else {
         return Status::Memory;
     };
     let shared = &Shared {
         rt,
         alloc,
         clock,
-        idle: Mutex::new(idle),
+        free: Mutex::new(free),
         freed: Condvar::new(),
         out_of_memory: AtomicBool::new(false),
     };

@@ -3,17 +3,17 @@
 ghost use Rattle.std.specs.Prelude.{◌≡◌, ◌≢◌, ◌≤◌, ◌<◌, ◌⊎◌, [], ◌++◌, List, ℕ, length, true, false, None, Some, IfOk};
 ghost use Rattle.std.specs.Prelude.{IfErr, IfSome, OnOk, IsErrOf};
 ghost use Rattle.std.specs.declared.option.Option.{Option};
-ghost use Rattle.std.specs.Io.KnownBytes.{Appends, IsAtEnd, Keeps};
+ghost use Rattle.std.specs.Io.KnownBytes.{Appends};
 ghost use Rattle.kds_defs.specs.declared.command.Command.{Command};
 ghost use Rattle.kds_ends.specs.Causes.{Rose, AppendsFront};
 ghost use Rattle.kds_session.specs.Text.{Answers};
 ghost use Rattle.kds_session.specs.States.{SessionState};
-ghost use Rattle.kds_session.specs.Standing.{Passes, sent_more, IsQuiet, to_come, end_of};
+ghost use Rattle.kds_session.specs.Standing.{CarriesOn, sent_more, IsQuiet, to_come, end_of};
 ghost use Rattle.kds_session.specs.Next.{feed_limit_of};
 ghost use Rattle.kds_session.specs.declared.state.Standing.TheVariants.{Live};
 ghost use Rattle.kds_session.specs.declared.state.Waiting.TheVariants.{Nothing};
 ghost use Rattle.kds_server.specs.Texts.{Tells, IsAnswerStatus, status_at};
-ghost use Rattle.kds_server.specs.Steps.{ReadsOn, EndsThere, IsReadStop};
+ghost use Rattle.kds_server.specs.Steps.{ReadsOn, ReadsPiece, EndsThere};
 
 use kds_ends::{Sink, Source, Status, write_all};
 use kds_session::limits::{PIECE_BYTES, UNREAD_BYTES};
@@ -26,7 +26,7 @@ pub const SMALL_PIECE_BYTES: usize = 16_384;
 /// Writes the session's whole output to the sink. If the sink fails, a prefix of the output may have been written.
 fn flush<K: Sink>(session: &mut Session, out: &mut K) -> Result<(), Status>
     ensures written { OnOk result (Appends (K.held out.old) (K.held out.new) session.old.output) }
-    ensures stands { OnOk result (Passes session.old session.new (sent_more session.old.output)) }
+    ensures stands { OnOk result (CarriesOn session.old session.new (sent_more session.old.output)) }
     ensures same { OnOk result (session.new ≡ record session.old { output = [] }) }
     ensures err { IfErr result (λ s. (s ≡ Status.Write)
         × AppendsFront (K.held out.old) (K.held out.new) session.old.output) }
@@ -50,7 +50,7 @@ pub fn write_early<K: Sink>(session: &mut Session, out: &mut K) -> Result<(), St
         → ReadsOn left session.old (K.held out.old) left session.new (K.held out.new)) }
     ensures ended { IfErr result (λ s. (left : Option (List ℕ))
         → EndsThere left session.old (K.held out.old) left (K.held out.new) s) }
-    ensures waits { OnOk result (session.new.waiting ≡ session.old.waiting) }
+    ensures same { OnOk result (session.new.waiting ≡ session.old.waiting) }
     ensures as_much { OnOk result (to_come session.new ≡ to_come session.old) }
     ensures bounded { OnOk result (length session.new.output < PIECE_BYTES) }
     ensures later { K.faults out.old ≤ K.faults out.new }
@@ -79,17 +79,8 @@ fn read_piece<S: Source>(
     requires few { length buffer.old ≤ PIECE_BYTES }
     requires feed_limit { PIECE_BYTES ≤ feed_limit_of session.old }
     requires written { session.old.output ≡ [] }
-    ensures ok { OnOk result ((held : Option (List ℕ))
-        → ReadsOn (S.left input.old) session.old held (S.left input.new) session.new held) }
-    ensures ends { IfOk result (λ more. more ≡ false → IsAtEnd (S.left input.new) × (session.new ≡ session.old)) }
-    ensures grows { session.old.standing ≡ Live → IfOk result (λ more. more ≡ true
-        → (session.new ≡ record session.old { unread = session.new.unread })
-        × (length session.old.unread < length session.new.unread)) }
-    ensures err { IfErr result (λ s. session.new ≡ session.old) }
-    ensures left { IsErrOf result Status.Read → Keeps (S.left input.old) (S.left input.new) }
-    ensures kinds { IfErr result IsReadStop }
-    ensures later { S.faults input.old ≤ S.faults input.new }
-    ensures read { IsErrOf result Status.Read → Rose (S.faults input.old) (S.faults input.new) }
+    ensures { ReadsPiece (S.left input.old) (S.left input.new) session.old session.new (S.faults input.old)
+        (S.faults input.new) result }
 {
     match input.read(buffer) {
         Ok(0) => Ok(false),
@@ -110,17 +101,8 @@ fn read_piece<S: Source>(
 fn read_large_piece<S: Source>(session: &mut Session, input: &mut S) -> Result<bool, Status>
     requires feed_limit { PIECE_BYTES ≤ feed_limit_of session.old }
     requires written { session.old.output ≡ [] }
-    ensures ok { OnOk result ((held : Option (List ℕ))
-        → ReadsOn (S.left input.old) session.old held (S.left input.new) session.new held) }
-    ensures ends { IfOk result (λ more. more ≡ false → IsAtEnd (S.left input.new) × (session.new ≡ session.old)) }
-    ensures grows { session.old.standing ≡ Live → IfOk result (λ more. more ≡ true
-        → (session.new ≡ record session.old { unread = session.new.unread })
-        × (length session.old.unread < length session.new.unread)) }
-    ensures err { IfErr result (λ s. session.new ≡ session.old) }
-    ensures left { IsErrOf result Status.Read → Keeps (S.left input.old) (S.left input.new) }
-    ensures kinds { IfErr result IsReadStop }
-    ensures later { S.faults input.old ≤ S.faults input.new }
-    ensures read { IsErrOf result Status.Read → Rose (S.faults input.old) (S.faults input.new) }
+    ensures { ReadsPiece (S.left input.old) (S.left input.new) session.old session.new (S.faults input.old)
+        (S.faults input.new) result }
 {
     let mut buffer = [0u8; PIECE_BYTES];
     read_piece(session, input, &mut buffer)
@@ -135,17 +117,8 @@ fn read_next<S: Source>(
 ) -> Result<bool, Status>
     requires feed_limit { PIECE_BYTES ≤ feed_limit_of session.old }
     requires written { session.old.output ≡ [] }
-    ensures ok { OnOk result ((held : Option (List ℕ))
-        → ReadsOn (S.left input.old) session.old held (S.left input.new) session.new held) }
-    ensures ends { IfOk result (λ more. more ≡ false → IsAtEnd (S.left input.new) × (session.new ≡ session.old)) }
-    ensures grows { session.old.standing ≡ Live → IfOk result (λ more. more ≡ true
-        → (session.new ≡ record session.old { unread = session.new.unread })
-        × (length session.old.unread < length session.new.unread)) }
-    ensures err { IfErr result (λ s. session.new ≡ session.old) }
-    ensures left { IsErrOf result Status.Read → Keeps (S.left input.old) (S.left input.new) }
-    ensures kinds { IfErr result IsReadStop }
-    ensures later { S.faults input.old ≤ S.faults input.new }
-    ensures read { IsErrOf result Status.Read → Rose (S.faults input.old) (S.faults input.new) }
+    ensures { ReadsPiece (S.left input.old) (S.left input.new) session.old session.new (S.faults input.old)
+        (S.faults input.new) result }
 {
     if session.feed_limit() > UNREAD_BYTES - SMALL_PIECE_BYTES {
         read_piece(session, input, buffer)
@@ -188,7 +161,7 @@ pub fn exchange<S: Source, K: Sink>(
         → ReadsOn (S.left input.old) session.old (K.held out.old) (S.left input.new) session.new (K.held out.new) }
     ensures ended { IfSome result
         (EndsThere (S.left input.old) session.old (K.held out.old) (S.left input.new) (K.held out.new)) }
-    ensures waits { result ≡ None → session.new.waiting ≡ Nothing }
+    ensures free { result ≡ None → session.new.waiting ≡ Nothing }
     ensures empty { result ≡ None → session.new.output ≡ [] }
     ensures grows { result ≡ None → (session.old.standing ≡ Live) × (to_come session.new ≡ to_come session.old)
         × (length session.old.unread < length session.new.unread) }

@@ -8,7 +8,7 @@ ghost use Rattle.kds_ends.specs.declared.status.Status.TheVariants.{Memory as Ou
 ghost use Rattle.kds_session.specs.Text.{Answers};
 ghost use Rattle.kds_session.specs.Standing.{to_come};
 ghost use Rattle.kds_session.specs.declared.state.Waiting.TheVariants.{Nothing};
-ghost use Rattle.kds_server.specs.Steps.{TakesOne, TakesNone};
+ghost use Rattle.kds_server.specs.Steps.{TakesOne, RanOutOfMemory};
 
 use crate::turner::Turner;
 use kds_base::Memory;
@@ -35,7 +35,7 @@ pub fn make_turn<T: Turner, C: Clock>(
         (TakesOne (T.made turner.now) what state.old session.old (C.moments clock.old) state.new session.new
         (C.moments clock.new)) }
     ensures err { OnErr result
-        (TakesNone (T.made turner.now) what state.old session.old (C.moments clock.old) state.new
+        (RanOutOfMemory (T.made turner.now) what state.old session.old (C.moments clock.old) state.new
         (C.moments clock.new)) }
     ensures free { OnOk result (session.new.waiting ≡ Nothing) }
     ensures as_much { OnOk result (to_come session.new ≡ to_come session.old) }

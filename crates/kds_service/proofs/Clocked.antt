@@ -54,9 +54,11 @@ settled_beyond i [] beyond = refl
 settled_beyond zero (v ∷ vs) beyond = absurd (omega arith)
 settled_beyond (suc i) (v ∷ vs) beyond = ap (λ us. v ∷ us) (settled_beyond i vs (omega arith))
 
-pub back_at : (c clock : ℕ) (vs : List StreamValue) → AreAt c vs → AreAt c (map retreated (map (advanced clock) vs))
-back_at c clock [] at = tt
-back_at c clock (v ∷ vs) at = (at.0, back_at c clock vs at.1)
+-- Streams that were at the clock `c` are at `c` again after an advance and a retreat.
+pub retreated_at : (c clock : ℕ) (vs : List StreamValue) → AreAt c vs
+    → AreAt c (map retreated (map (advanced clock) vs))
+retreated_at c clock [] at = tt
+retreated_at c clock (v ∷ vs) at = (at.0, retreated_at c clock vs at.1)
 
 -- Let `g` be any function of a stream. If `g` gives the same for each stream after the change `f` as before, it gives
 -- the same for each stream of a list that `f` changed.
@@ -67,8 +69,10 @@ kept_of g f same (v ∷ vs) = ap (λ y. y ∷ map g (map f vs)) (same v) ∙ ap 
 
 -- ---- The journals that they show
 
--- Streams of the same numbers, at another clock, show what the others showed.
-pub shows_along : (w u : ServiceValue) (log : Journal) → u.made ≡ w.made → numbers_of u.streams ≡ numbers_of w.streams
+-- Let `w` show the journal. A service `u` shows it too if as many streams were ever made in `u`, its streams have the
+-- same numbers as those of `w` and are at its clock, and each of them shows the journal.
+pub shows_along : (w u : ServiceValue) (log : Journal) → u.made_count ≡ w.made_count
+    → numbers_of u.streams ≡ numbers_of w.streams
     → AreAt u.clock u.streams → AreShown log u.streams → ShowsAll w log → ShowsAll u log
 shows_along w u log made numbers at shown all = record {
   made = all.made ∙ sym made;
@@ -79,9 +83,9 @@ shows_along w u log made numbers at shown all = record {
   unmade = λ s later. all.unmade s (subst (λ n. n < s) made later);
 }
 
--- Each stream shows the same with the clock that it had, whatever it remembers.
-pub back_shown : (clock : ℕ) (vs : List StreamValue) (log : Journal) → AreShown log vs
+-- If a stream shows a journal, it still shows this journal after an advance to `clock` and a retreat.
+pub retreated_shown : (clock : ℕ) (vs : List StreamValue) (log : Journal) → AreShown log vs
     → AreShown log (map retreated (map (advanced clock) vs))
-back_shown clock [] log shown = tt
-back_shown clock (v ∷ vs) log shown =
-    (record { stored = shown.0.stored; rates = shown.0.rates }, back_shown clock vs log shown.1)
+retreated_shown clock [] log shown = tt
+retreated_shown clock (v ∷ vs) log shown =
+    (record { stored = shown.0.stored; rates = shown.0.rates }, retreated_shown clock vs log shown.1)

@@ -18,7 +18,7 @@ use Rattle.kds_stream.specs.Showing.{Shows}
 use Rattle.kds_stream.specs.Value.{StreamValue}
 use Rattle.kds_service.proofs.Leading.{refused_leads}
 use Rattle.kds_service.proofs.Readings.{live_count, open_are, some_named}
-use Rattle.kds_service.specs.Places.{is_full, index_by_name}
+use Rattle.kds_service.specs.Indexes.{is_full, index_by_name}
 use Rattle.kds_service.specs.Shown.{Leads, ServiceValue, ShowsAll, StaysShownWith, service}
 
 -- The machine, which counts in the journal, and the service, which counts its own streams, agree on whether there is no

@@ -12,7 +12,7 @@ use Rattle.kds_defs.proofs.Decisions.{after_accepted, with_none, with_some}
 use Rattle.kds_stream.specs.Value.{StreamValue}
 use Rattle.kds_service.proofs.Leading.{refused_leads}
 use Rattle.kds_service.proofs.Readings.{named_at, none_named}
-use Rattle.kds_service.specs.Places.{index_by_name}
+use Rattle.kds_service.specs.Indexes.{index_by_name}
 use Rattle.kds_service.specs.Shown.{LeadsTo, ShowsAll, service}
 
 -- A premise of the lemmas here, which the file `Lives` proves: if the stream at the index `i` is removed, the service

@@ -11,7 +11,7 @@ use Rattle.indexmap.specs.IndexMap.{insert_entry, set_value_at}
 use Rattle.kds_stream.specs.Value.{StreamValue}
 use Rattle.kds_base.proofs.Facts.{all_append}
 use Rattle.kds_service.proofs.Lists.{all_remove, all_set, either_way, map_same, set_same}
-use Rattle.kds_service.specs.Places.{ArePlaced}
+use Rattle.kds_service.specs.Indexes.{AreNamedAt}
 use Rattle.kds_service.specs.Shown.{AreAt, names_of}
 
 module _ {K X : Type 0} where
@@ -49,9 +49,11 @@ map_take_out f (x ∷ xs) (suc i) = ap (λ ys. f x ∷ ys) (map_take_out f xs i)
 
 -- ---- Each stream is still under its own name and at the clock
 
-pub placed_set : (c i : ℕ) (es : List (List ℕ × StreamValue)) (x v : StreamValue) → ArePlaced c es
-    → slice_get (values_of es) i ≡ Some x → v.name ≡ x.name → v.clock ≡ c → ArePlaced c (set_value_at es i v)
-placed_set c i es x v placed here name clock = record {
+-- If the stream `x` at the index `i` is replaced by `v`, which has the same name and is at the clock `c`, each stream
+-- is still under its own name and at this clock (`AreNamedAt`).
+pub named_set : (c i : ℕ) (es : List (List ℕ × StreamValue)) (x v : StreamValue) → AreNamedAt c es
+    → slice_get (values_of es) i ≡ Some x → v.name ≡ x.name → v.clock ≡ c → AreNamedAt c (set_value_at es i v)
+named_set c i es x v placed here name clock = record {
   named = keys_set es i v ∙ placed.named ∙ sym (map_same (λ u. u.name) i (values_of es) x v here name)
       ∙ ap names_of (sym (values_set es i v));
   at = subst (AreAt c) (sym (values_set es i v)) (all_set (λ u. u.clock ≡ c) i (values_of es) v placed.at clock);
@@ -65,9 +67,11 @@ kept_set (Ok a) i es x v here same = tt
 kept_set (Err e) i es x v here same = values_set es i v ∙ ap (slice_set (values_of es) i) same
     ∙ set_same i (values_of es) x here
 
-pub placed_push : (c : ℕ) (es fs : List (List ℕ × StreamValue)) (k : List ℕ) (v : StreamValue) → ArePlaced c es
-    → fs ≡ es ++ ((k, v) ∷ []) → k ≡ v.name → v.clock ≡ c → ArePlaced c fs
-placed_push c es fs k v placed pushed name clock = record {
+-- If the stream `v` at the clock `c` is added at the end under its own name `k`, each stream is under its own name and
+-- at this clock (`AreNamedAt`).
+pub named_push : (c : ℕ) (es fs : List (List ℕ × StreamValue)) (k : List ℕ) (v : StreamValue) → AreNamedAt c es
+    → fs ≡ es ++ ((k, v) ∷ []) → k ≡ v.name → v.clock ≡ c → AreNamedAt c fs
+named_push c es fs k v placed pushed name clock = record {
   named =
       ap keys_of pushed
       ∙ map-append (λ e. e.0) es ((k, v) ∷ [])
@@ -80,8 +84,10 @@ placed_push c es fs k v placed pushed name clock = record {
       (all_append (λ u. u.clock ≡ c) (values_of es) (v ∷ []) placed.at (clock, tt));
 }
 
-pub placed_remove : (c i : ℕ) (es fs : List (List ℕ × StreamValue)) → ArePlaced c es → fs ≡ remove es i → ArePlaced c fs
-placed_remove c i es fs placed taken = record {
+-- If an entry is removed, each stream that is left is still under its own name and at the clock `c` (`AreNamedAt`).
+pub named_remove : (c i : ℕ) (es fs : List (List ℕ × StreamValue)) → AreNamedAt c es → fs ≡ remove es i
+    → AreNamedAt c fs
+named_remove c i es fs placed taken = record {
   named =
       ap keys_of taken
       ∙ map_take_out (λ e. e.0) es i
@@ -92,8 +98,9 @@ placed_remove c i es fs placed taken = record {
       (all_remove (λ u. u.clock ≡ c) i (values_of es) placed.at);
 }
 
--- Entries with the same keys over streams of the same names are placed.
-pub placed_along : (c : ℕ) (es fs : List (List ℕ × StreamValue)) → keys_of es ≡ names_of (values_of es)
+-- Let each stream of `es` be under its own name. If `fs` has the same keys, and its streams have the same names and are
+-- at the clock `c`, then each stream of `fs` is under its own name and at this clock (`AreNamedAt`).
+pub named_along : (c : ℕ) (es fs : List (List ℕ × StreamValue)) → keys_of es ≡ names_of (values_of es)
     → keys_of fs ≡ keys_of es → names_of (values_of fs) ≡ names_of (values_of es) → AreAt c (values_of fs)
-    → ArePlaced c fs
-placed_along c es fs named same names at = record { named = same ∙ named ∙ sym names; at = at }
+    → AreNamedAt c fs
+named_along c es fs named same names at = record { named = same ∙ named ∙ sym names; at = at }

@@ -20,7 +20,7 @@ use Rattle.kds_stream.specs.Value.{StreamValue, is_listed_at}
 use Rattle.kds_service.proofs.Lists.{drop_get}
 use Rattle.kds_service.proofs.Readings.{first_passes, from_zero, later_fails, live_are, none_passes}
 use Rattle.kds_service.specs.Keyed.{is_listed_in, is_listed_of, listed_keys, live_shard, state_in, state_of, stream_at}
-use Rattle.kds_service.specs.Places.{index_by_number}
+use Rattle.kds_service.specs.Indexes.{index_by_number}
 use Rattle.kds_service.specs.Shown.{AreAt, AreShown, ServiceValue, ShowsAll, is_among, numbers_of, service}
 
 -- ---- The stream with a number

@@ -17,7 +17,7 @@ use Rattle.kds_service.proofs.Lists.{all_get}
 use Rattle.kds_service.proofs.Lives.{own_lines}
 use Rattle.kds_service.proofs.Lookups.{told_so}
 use Rattle.kds_service.specs.Lines.{AreOf}
-use Rattle.kds_service.specs.Places.{open_beside, index_for}
+use Rattle.kds_service.specs.Indexes.{open_beside, index_for}
 use Rattle.kds_service.specs.Shown.{AreAt, Leads, LeadsTo, ServiceValue, ShowsAll, service}
 
 -- If the machine refuses a command after each journal that the service shows, the command leads from the service to the

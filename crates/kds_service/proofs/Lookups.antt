@@ -15,7 +15,7 @@ use Rattle.kds_defs.specs.Decision.{Decision, Refused, refuse◌if◌else◌}
 use Rattle.kds_defs.specs.Histories.{decide}
 use Rattle.kds_defs.specs.Journal.{Journal}
 use Rattle.kds_defs.specs.Kinds.{is_service}
-use Rattle.kds_defs.specs.Listings.{is_old}
+use Rattle.kds_defs.specs.Listings.{is_expired_token}
 use Rattle.kds_defs.specs.Shards.{is_open}
 use Rattle.kds_defs.specs.Streams.{is_live}
 use Rattle.kds_defs.specs.Subjects.{name_of_command}
@@ -26,7 +26,7 @@ use Rattle.kds_stream.specs.Value.{StreamValue}
 use Rattle.kds_service.proofs.Lists.{all_get}
 use Rattle.kds_service.proofs.Readings.{beside_is, from_zero, has_name, named_at, none_named, not_among, number_at}
 use Rattle.kds_service.proofs.Readings.{open_are, own_and_beside}
-use Rattle.kds_service.specs.Places.{expiry, open_beside, index_by_number, index_by, index_for, index_by_name}
+use Rattle.kds_service.specs.Indexes.{expiry, open_beside, index_by_number, index_by, index_for, index_by_name}
 use Rattle.kds_service.specs.Shown.{ServiceValue, ShowsAll, numbers_of}
 
 -- A command of the service other than CreateStream, DeleteStream and ListStreams is for one existing stream
@@ -43,15 +43,17 @@ rest_of _ own makes ends lists = own
 
 -- ---- The index of the stream that a command is for
 
-pub token_place : (vs : List StreamValue) (what : Command) (s : ℕ) → token_of what ≡ Some s
+-- For a command whose token is of stream `s`, the index is that of the stream with the number `s`.
+pub token_index : (vs : List StreamValue) (what : Command) (s : ℕ) → token_of what ≡ Some s
     → index_for vs what ≡ index_by_number vs s
-token_place vs what s is = ap (λ t. index_by vs t (name_of_command what)) is
+token_index vs what s is = ap (λ t. index_by vs t (name_of_command what)) is
 
-pub name_place : (vs : List StreamValue) (what : Command) (name : List ℕ) → name_of_command what ≡ Some name
+-- For a command with the name `name`, the index is that of the stream with this name.
+pub name_index : (vs : List StreamValue) (what : Command) (name : List ℕ) → name_of_command what ≡ Some name
     → index_for vs what ≡ index_by_name vs name
-name_place vs (command.Records iter limit) name is = absurd cc
-name_place vs (command.More page limit) name is = absurd cc
-name_place vs _ name is = ap (index_by vs None) is
+name_index vs (command.Records iter limit) name is = absurd cc
+name_index vs (command.More page limit) name is = absurd cc
+name_index vs _ name is = ap (index_by vs None) is
 
 -- The stream at the index that the search for the number `s` finds has this number.
 pub numbered : (i s : ℕ) (vs : List StreamValue) (x : StreamValue) → index_by_number vs s ≡ Some i
@@ -74,8 +76,8 @@ young_so r false is = refl
 -- If the token of a command is too old (`expiry`), the machine refuses the command after every journal.
 pub expired_so : (log : Journal) (c by : ℕ) (what : Command) (r : Refusal) → expiry c what ≡ Some r
     → decide log c by what ≡ Refused r
-expired_so log c by (command.Records iter limit) r is = old_so refusal.Expired r (is_old c iter.issued) _ is
-expired_so log c by (command.More page limit) r is = old_so refusal.PageExpired r (is_old c page.issued) _ is
+expired_so log c by (command.Records iter limit) r is = old_so refusal.Expired r (is_expired_token c iter.issued) _ is
+expired_so log c by (command.More page limit) r is = old_so refusal.PageExpired r (is_expired_token c page.issued) _ is
 expired_so log c by _ r is = absurd cc
 
 gone : (w : ServiceValue) (s : ℕ) (log : Journal) → index_by_number w.streams s ≡ None → ShowsAll w log
@@ -101,10 +103,10 @@ gone_so w log by (command.Give t) all own young none = absurd cc
 gone_so w log by (command.Mark t counter to) all own young none = absurd cc
 gone_so w log by (command.CutLease key counter) all own young none = absurd cc
 gone_so w log by (command.Records iter limit) all own young none =
-    passed_if _ _ _ (young_so refusal.Expired (is_old w.clock iter.issued) young)
+    passed_if _ _ _ (young_so refusal.Expired (is_expired_token w.clock iter.issued) young)
     ∙ refused_if _ _ _ (gone w iter.stream log none all)
 gone_so w log by (command.More page limit) all own young none =
-    passed_if _ _ _ (young_so refusal.PageExpired (is_old w.clock page.issued) young)
+    passed_if _ _ _ (young_so refusal.PageExpired (is_expired_token w.clock page.issued) young)
     ∙ refused_if _ _ _ (gone w page.stream log none all)
 gone_so w log by _ all own young none = with_none _ _ _ (none_named w log _ all none)
 
@@ -121,7 +123,7 @@ pub told_so : (w : ServiceValue) (log : Journal) (i : ℕ) (x : StreamValue) (wh
 told_so w log i x what open_limit all here found asked = record {
   shown = all_get (λ v. Shows v log) i w.streams x all.shown here;
   named = λ name is.
-      let at = sym (name_place w.streams what name is) ∙ found in
+      let at = sym (name_index w.streams what name is) ∙ found in
       (has_name name i w.streams x at here, named_at w log name i x all at here);
   opened =
       open_are w log all ∙ own_and_beside i 0 w.streams x all.rising here

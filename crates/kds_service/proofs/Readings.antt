@@ -17,7 +17,7 @@ use Rattle.kds_stream.specs.Showing.{Shows}
 use Rattle.kds_stream.specs.Value.{StreamValue}
 use Rattle.kds_service.proofs.Lists.{AreUpTo, above, either_way, not_below, rising_from}
 use Rattle.kds_defs.specs.ScaleCommands.{open_elsewhere}
-use Rattle.kds_service.specs.Places.{open_beside, open_total, open_unless, index_by_name}
+use Rattle.kds_service.specs.Indexes.{open_beside, open_total, open_unless, index_by_name}
 use Rattle.kds_service.specs.Shown.{AreShown, IsRising, ServiceValue, ShowsAll, is_among, names_of, numbers_of}
 
 not_chosen : {A : Type 0} (b : Bool) (x y : A) → b ≡ false → (if b then x else y) ≡ y
@@ -93,8 +93,9 @@ from_zero n = omega arith
 pub live_are : (w : ServiceValue) (log : Journal) → ShowsAll w log → live_streams log ≡ numbers_of w.streams
 live_are w log all =
     ap (λ n. filter (is_live log) (numbers_from 1 n)) all.made
-    ∙ live_above log 0 w.made w.streams all.rising
-    (subst (λ n. AreUpTo n w.streams) (from_zero w.made) (up_to w.made w.streams log all.shown all.unmade)) all.shown
+    ∙ live_above log 0 w.made_count w.streams all.rising
+    (subst (λ n. AreUpTo n w.streams) (from_zero w.made_count) (up_to w.made_count w.streams log all.shown all.unmade))
+    all.shown
     (λ s above out. all.others s out)
 
 -- The journal has as many live streams as the service.
@@ -216,14 +217,14 @@ pub none_named : (w : ServiceValue) (log : Journal) (name : List ℕ) → ShowsA
 none_named w log name all none = ap (find (λ s. same_name (name_of log s) name)) (live_are w log all)
     ∙ none_named_from log name 0 w.streams all.shown none
 
--- An index that was found is that of a stream.
-at_place : (n i : ℕ) (vs : List StreamValue) (name : List ℕ) → position_from (same_name name) n (names_of vs)
+-- If the search for a name finds the index `i`, there is a stream at this index.
+at_index : (n i : ℕ) (vs : List StreamValue) (name : List ℕ) → position_from (same_name name) n (names_of vs)
     ≡ Some (n + i)
     → (x : StreamValue) × (slice_get vs i ≡ Some x)
-at_place n i [] name is = absurd (none-some (n + i) is)
-at_place n zero (v ∷ vs) name is = (v, refl)
-at_place n (suc i) (v ∷ vs) name is =
-    at_place (n + 1) i vs name (later_fails (same_name name) n i v.name (names_of vs) is).1
+at_index n i [] name is = absurd (none-some (n + i) is)
+at_index n zero (v ∷ vs) name is = (v, refl)
+at_index n (suc i) (v ∷ vs) name is =
+    at_index (n + 1) i vs name (later_fails (same_name name) n i v.name (names_of vs) is).1
 
 -- A live stream in the journal has the name `name` exactly if a stream of the service has it.
 pub some_named : (w : ServiceValue) (log : Journal) (name : List ℕ) → ShowsAll w log
@@ -234,7 +235,7 @@ some_named w log name all = by (index_by_name w.streams name) refl
         → is_some (stream_named log name) ≡ is_some (index_by_name w.streams name)
     by None e = ap is_some (none_named w log name all e) ∙ ap is_some (sym e)
     by (Some i) e =
-        let x = at_place 0 i w.streams name (e ∙ ap Some (from_zero i)) in
+        let x = at_index 0 i w.streams name (e ∙ ap Some (from_zero i)) in
         ap is_some (named_at w log name i x.0 all e x.1) ∙ ap is_some (sym e)
 
 -- ---- The stream with a number

@@ -36,20 +36,21 @@ retreated_service w = record w { clock = w.clock_before; streams = map retreated
 abbrev pub CanRetreat : ServiceValue → Type 0
 CanRetreat w = AreAt w.clock_before (map retreated w.streams)
 
--- The index that comes next in a rotation over `count` indexes: `n` if there is such an index, and otherwise the first.
-abbrev pub in_turn : ℕ → ℕ → ℕ
-in_turn count n = if nat_lt n count then n else 0
+-- The index that comes next in a rotation over the indexes below `count`: `n` if it is below `count`, and otherwise 0.
+abbrev pub in_rotation : ℕ → ℕ → ℕ
+in_rotation count n = if nat_lt n count then n else 0
 
--- The index after the one that is settled next, in a circle of `count` indexes.
-abbrev pub next_in_turn : ℕ → ℕ → ℕ
-next_in_turn count n = next_of count (in_turn count n)
+-- The index after `in_rotation count n`, in a rotation over the indexes below `count`.
+abbrev pub next_in_rotation : ℕ → ℕ → ℕ
+next_in_rotation count n = next_of count (in_rotation count n)
 
--- The service `w` after one settling: the stream that was next is settled, and the service remembers no earlier clock.
-abbrev pub settled_in_turn : ServiceValue → ServiceValue
-settled_in_turn w =
+-- The service `w` after one settling. The stream that is next in the rotation (`in_rotation`) is settled, the index
+-- after it comes next, and the clock that the service remembers becomes its present clock.
+abbrev pub settled_next : ServiceValue → ServiceValue
+settled_next w =
     let count = length w.streams in
     record w {
       clock_before = w.clock;
-      streams = settled_in (in_turn count w.next_to_settle) w.streams;
-      next_to_settle = next_in_turn count w.next_to_settle;
+      streams = settled_in (in_rotation count w.next_to_settle) w.streams;
+      next_to_settle = next_in_rotation count w.next_to_settle;
     }

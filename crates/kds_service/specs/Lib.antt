@@ -1,5 +1,5 @@
 pub mod Clocks
 pub mod Keyed
 pub mod Lines
-pub mod Places
+pub mod Indexes
 pub mod Shown

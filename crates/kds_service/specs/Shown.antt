@@ -20,14 +20,14 @@ use Rattle.kds_service.specs.Lines.{AreOf}
 pub record ServiceValue : Type 0 where
   pub clock : ℕ
   pub clock_before : ℕ
-  pub made : ℕ
+  pub made_count : ℕ
   pub streams : List StreamValue
   pub next_to_settle : ℕ
 
 -- The service at the clock `c`, whose earlier clock is `b`. In it `n` streams were ever made, the streams `vs` are
 -- live, and the first of them is settled next.
 abbrev pub service : ℕ → ℕ → ℕ → List StreamValue → ServiceValue
-service c b n vs = record { clock = c; clock_before = b; made = n; streams = vs; next_to_settle = 0 }
+service c b n vs = record { clock = c; clock_before = b; made_count = n; streams = vs; next_to_settle = 0 }
 
 abbrev pub names_of : List StreamValue → List (List ℕ)
 names_of vs = map (λ v. v.name) vs
@@ -57,12 +57,12 @@ AreShown log vs = AllByRecursion (λ v. Shows v log) vs
 -- its clock, in the rising order of their numbers, and each shows `log`. A stream that isn't in `w` isn't live in
 -- `log`, and `log` says nothing of a stream with a greater number than `w.made_count` (`IsFresh`).
 pub record ShowsStreams (w : ServiceValue) (log : Journal) : Type 0 where
-  pub made : made_count log ≡ w.made
+  pub made : made_count log ≡ w.made_count
   pub at : AreAt w.clock w.streams
   pub rising : IsRising 0 (numbers_of w.streams)
   pub shown : AreShown log w.streams
   pub others : (s : ℕ) → is_among (numbers_of w.streams) s ≡ false → is_live log s ≡ false
-  pub unmade : (s : ℕ) → w.made < s → IsFresh log s
+  pub unmade : (s : ℕ) → w.made_count < s → IsFresh log s
 
 -- The service `w` shows a journal (`ShowsStreams`). Which of its streams is settled next doesn't matter.
 abbrev pub ShowsAll : ServiceValue → Journal → Type 0

@@ -3,7 +3,7 @@
 ghost use Rattle.std.specs.Prelude.{◌≡◌, ◌≤◌, map};
 ghost use Rattle.indexmap.specs.IndexMap.{keys, values};
 ghost use Rattle.kds_defs.specs.Journal.{Journal};
-ghost use Rattle.kds_service.specs.Clocks.{advanced, in_turn, retreated, settled_in};
+ghost use Rattle.kds_service.specs.Clocks.{advanced, in_rotation, retreated, settled_in};
 ghost use Rattle.kds_service.specs.Shown.{AreAt, AreShown};
 
 use crate::streams_by_name::Streams;
@@ -36,8 +36,8 @@ pub fn retreat_all(streams: &mut Streams)
 }
 
 /// Returns the index that comes next in a rotation over `count` indices: `next` if it is below `count`, otherwise 0.
-pub fn in_turn(count: usize, next: usize) -> usize
-    ensures { result ≡ in_turn count next }
+pub fn in_rotation(count: usize, next: usize) -> usize
+    ensures { result ≡ in_rotation count next }
 {
     if next < count { next } else { 0 }
 }

@@ -3,7 +3,7 @@ ghost use Rattle.std.specs.Prelude.{◌≡◌, ℕ, IfOk, OnErr};
 ghost use Rattle.indexmap.specs.IndexMap.{values};
 ghost use Rattle.kds_defs.specs.declared.command.Command.TheVariants as command;
 ghost use Rattle.kds_defs.specs.Lawful.{IsShardCount};
-ghost use Rattle.kds_service.specs.Places.{ArePlaced};
+ghost use Rattle.kds_service.specs.Indexes.{AreNamedAt};
 ghost use Rattle.kds_service.specs.Shown.{Leads, LeadsTo, service};
 
 use crate::laws;
@@ -19,18 +19,18 @@ use std::alloc::Global;
 pub fn create(
     alloc: Global,
     streams: &mut Streams,
-    made: &mut u64,
+    made_count: &mut u64,
     clock: Moment,
     name: Name,
     shards: u32,
 ) -> Result<Answer, Memory>
-    requires placed { ArePlaced clock streams.old.entries }
+    requires named { AreNamedAt clock streams.old.entries }
     requires count { IsShardCount shards }
     ensures leads { (before : ℕ)
-        → IfOk result (Leads (service clock before made.old (values streams.old))
-        (service clock before made.new (values streams.new)) (command.Create name shards)) }
-    ensures placed { ArePlaced clock streams.new.entries }
-    ensures kept { OnErr result ((values streams.new ≡ values streams.old) × (made.new ≡ made.old)) }
+        → IfOk result (Leads (service clock before made_count.old (values streams.old))
+        (service clock before made_count.new (values streams.new)) (command.Create name shards)) }
+    ensures named { AreNamedAt clock streams.new.entries }
+    ensures kept { OnErr result ((values streams.new ≡ values streams.old) × (made_count.new ≡ made_count.old)) }
 {
     laws::others();
     if index_by_name(streams, &name).is_some() {
@@ -39,22 +39,22 @@ pub fn create(
     if is_full(streams, shards as u64) {
         return Ok(Err(Refusal::Full));
     }
-    let last = *made;
+    let last = *made_count;
     if last == u64::MAX {
         return Ok(Err(Refusal::Spent));
     }
     let key = name.copy(alloc)?;
     let stream = Stream::new(alloc, StreamNo(last + 1), name, clock, shards)?;
     streams.insert(key, stream)?;
-    *made = last + 1;
+    *made_count = last + 1;
     Ok(Ok(Reply::Done))
 }
 
 /// Deletes the stream with this name (Kinesis API Reference, DeleteStream). The other streams keep their order.
 pub fn delete(streams: &mut Streams, clock: Moment, name: &Name) -> Answer
-    requires { ArePlaced clock streams.old.entries }
+    requires { AreNamedAt clock streams.old.entries }
     ensures leads { LeadsTo clock (values streams.old) (values streams.new) (command.Delete name.now) result }
-    ensures placed { ArePlaced clock streams.new.entries }
+    ensures named { AreNamedAt clock streams.new.entries }
 {
     laws::others();
     match index_by_name(streams, name) {

@@ -7,7 +7,7 @@ ghost use Rattle.indexmap.specs.IndexMap.{values};
 ghost use Rattle.kds_defs.specs.Origins.{origin_position};
 ghost use Rattle.kds_defs.specs.Records.{batch, stored};
 ghost use Rattle.kds_defs.specs.Shards.{shown};
-ghost use Rattle.kds_stream.specs.Reading.{read_ends};
+ghost use Rattle.kds_stream.specs.ReadEnds.{read_ends};
 ghost use Rattle.kds_service.specs.Keyed.{is_listed_in, listed_keys, state_in, stream_at};
 ghost use Rattle.kds_service.specs.Shown.{InJournalsOf};
 

@@ -4,7 +4,7 @@ ghost use Rattle.std.specs.Prelude.{◌≡◌, ◌<◌, ◌-◌, IfSome, length,
 ghost use Rattle.indexmap.specs.IndexMap.{keys, values};
 ghost use Rattle.kds_defs.specs.declared.limits.TheConstants.{OPEN_SHARDS};
 ghost use Rattle.kds_stream.specs.Serving.{needs_open_limit, token_of};
-ghost use Rattle.kds_service.specs.Places.{expiry, open_beside, index_for};
+ghost use Rattle.kds_service.specs.Indexes.{expiry, open_beside, index_for};
 ghost use Rattle.kds_service.specs.Shown.{names_of};
 
 use crate::streams_by_name::{Streams, index_by_name, index_by_number, open_limit};
@@ -15,7 +15,7 @@ use kds_token::{iter_expired, page_expired};
 
 /// Returns the refusal of a command whose token (shard iterator or NextToken) is too old, and `None` for every other
 /// command (Kinesis API Reference, GetRecords, ExpiredIteratorException; ListShards, ExpiredNextTokenException).
-pub fn expired(what: &Command, clock: Moment) -> Option<Refusal>
+pub fn expiry(what: &Command, clock: Moment) -> Option<Refusal>
     ensures { result ≡ expiry clock what.now }
 {
     match what {

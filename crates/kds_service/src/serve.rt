@@ -5,13 +5,13 @@ ghost use Rattle.indexmap.specs.IndexMap.{values};
 ghost use Rattle.kds_defs.specs.Kinds.{is_service};
 ghost use Rattle.kds_defs.specs.Lawful.{IsLawfulCommand};
 ghost use Rattle.kds_stream.specs.Serving.{is_of_stream};
-ghost use Rattle.kds_service.specs.Places.{ArePlaced};
+ghost use Rattle.kds_service.specs.Indexes.{AreNamedAt};
 ghost use Rattle.kds_service.specs.Shown.{Leads, LeadsTo, service};
 
 use crate::creation::{create, delete};
 use crate::laws;
 use crate::listing::streams as list_streams;
-use crate::lookup::{expired, index_for, open_limit_for};
+use crate::lookup::{expiry, index_for, open_limit_for};
 use crate::streams_by_name::Streams;
 use kds_base::{Memory, Moment};
 use kds_defs::{Answer, Command, Refusal};
@@ -22,21 +22,21 @@ use std::alloc::Global;
 pub fn serve(
     alloc: Global,
     streams: &mut Streams,
-    made: &mut u64,
+    made_count: &mut u64,
     clock: Moment,
     what: Command,
 ) -> Result<Answer, Memory>
-    requires placed { ArePlaced clock streams.old.entries }
+    requires named { AreNamedAt clock streams.old.entries }
     requires lawful { IsLawfulCommand what }
     requires own { is_service what ≡ true }
     ensures leads { (before : ℕ)
-        → IfOk result (Leads (service clock before made.old (values streams.old))
-        (service clock before made.new (values streams.new)) what) }
-    ensures placed { ArePlaced clock streams.new.entries }
-    ensures kept { OnErr result ((values streams.new ≡ values streams.old) × (made.new ≡ made.old)) }
+        → IfOk result (Leads (service clock before made_count.old (values streams.old))
+        (service clock before made_count.new (values streams.new)) what) }
+    ensures named { AreNamedAt clock streams.new.entries }
+    ensures kept { OnErr result ((values streams.new ≡ values streams.old) × (made_count.new ≡ made_count.old)) }
 {
     match what {
-        Command::Create { name, shards } => create(alloc, streams, made, clock, name, shards),
+        Command::Create { name, shards } => create(alloc, streams, made_count, clock, name, shards),
         Command::Delete { name } => Ok(delete(streams, clock, &name)),
         Command::Streams { after, limit } => list_streams(alloc, streams, clock, &after, limit),
         other => serve_one(alloc, streams, clock, other),
@@ -52,15 +52,15 @@ fn serve_one(
     clock: Moment,
     what: Command,
 ) -> Result<Answer, Memory>
-    requires placed { ArePlaced clock streams.old.entries }
+    requires named { AreNamedAt clock streams.old.entries }
     requires lawful { IsLawfulCommand what }
     requires own { is_of_stream what ≡ true }
     ensures leads { IfOk result (LeadsTo clock (values streams.old) (values streams.new) what) }
-    ensures placed { ArePlaced clock streams.new.entries }
+    ensures named { AreNamedAt clock streams.new.entries }
     ensures kept { OnErr result (values streams.new ≡ values streams.old) }
 {
     laws::others();
-    if let Some(refusal) = expired(&what, clock) {
+    if let Some(refusal) = expiry(&what, clock) {
         return Ok(Err(refusal));
     }
     match index_for(streams, &what) {

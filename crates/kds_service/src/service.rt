@@ -13,12 +13,12 @@ ghost use Rattle.kds_defs.specs.Origins.{origin_position};
 ghost use Rattle.kds_defs.specs.Records.{batch, stored};
 ghost use Rattle.kds_defs.specs.Shards.{shown};
 ghost use Rattle.kds_defs.specs.Streams.{live_streams};
-ghost use Rattle.kds_stream.specs.Reading.{read_ends};
-ghost use Rattle.kds_service.specs.Clocks.{CanRetreat, advanced, retreated_service, settled_in_turn};
+ghost use Rattle.kds_stream.specs.ReadEnds.{read_ends};
+ghost use Rattle.kds_service.specs.Clocks.{CanRetreat, advanced, retreated_service, settled_next};
 ghost use Rattle.kds_service.specs.Keyed.{is_listed_in, live_shard};
 ghost use Rattle.kds_service.specs.Shown.{Leads, ShowsAll, service};
 
-use crate::clocks::{advance_all, in_turn, retreat_all, settle_stream};
+use crate::clocks::{advance_all, in_rotation, retreat_all, settle_stream};
 use crate::serve::serve;
 use crate::streams_by_name::Streams;
 use crate::{laws, lease_keys};
@@ -35,7 +35,7 @@ use std::marker::Model;
 pub struct Service {
     clock: Moment,
     clock_before: Moment,
-    made: u64,
+    made_count: u64,
     streams: Streams,
     /// The index of the stream from which `settle` removes trimmed records next.
     next_to_settle: usize,
@@ -43,7 +43,7 @@ pub struct Service {
 
 impl Model for Service {
     ghost use Rattle.indexmap.specs.IndexMap.{values};
-    ghost use Rattle.kds_service.specs.Places.{ArePlaced};
+    ghost use Rattle.kds_service.specs.Indexes.{AreNamedAt};
     ghost use Rattle.kds_service.specs.Shown.{ServiceValue};
 
     ghost Value = { ServiceValue };
@@ -51,12 +51,12 @@ impl Model for Service {
     ghost view = { λ s. record {
       clock = s.clock;
       clock_before = s.clock_before;
-      made = s.made;
+      made_count = s.made_count;
       streams = values s.streams;
       next_to_settle = s.next_to_settle;
     } };
 
-    ghost invariant = { λ s. ArePlaced s.clock s.streams.entries };
+    ghost invariant = { λ s. AreNamedAt s.clock s.streams.entries };
 }
 
 impl Service {
@@ -69,7 +69,7 @@ impl Service {
         Service {
             clock: Moment::start(),
             clock_before: Moment::start(),
-            made: 0,
+            made_count: 0,
             streams: IndexMap::new(alloc),
             next_to_settle: 0,
         }
@@ -84,8 +84,8 @@ impl Service {
           streams = map (advanced clock) self.old.streams;
         } }
         ensures shows { (log : Journal) → ShowsAll self.old log → ShowsAll self.new log }
-        ensures back { CanRetreat self.new }
-        ensures shows_back { (log : Journal) → ShowsAll self.old log → ShowsAll (retreated_service self.new) log }
+        ensures can_retreat { CanRetreat self.new }
+        ensures shows_retreated { (log : Journal) → ShowsAll self.old log → ShowsAll (retreated_service self.new) log }
     {
         advance_all(&mut self.streams, self.clock, clock);
         self.clock_before = self.clock;
@@ -107,13 +107,13 @@ impl Service {
     /// with the number of streams or shards.
     pub fn settle(&mut self)
         ensures clock { self.new.clock ≡ self.old.clock }
-        ensures dropped { self.new ≡ settled_in_turn self.old }
+        ensures dropped { self.new ≡ settled_next self.old }
         ensures shows { (log : Journal) → ShowsAll self.old log → ShowsAll self.new log }
     {
         let count = self.streams.len();
-        let place = in_turn(count, self.next_to_settle);
-        settle_stream(&mut self.streams, place);
-        self.next_to_settle = next_of(count, place);
+        let index = in_rotation(count, self.next_to_settle);
+        settle_stream(&mut self.streams, index);
+        self.next_to_settle = next_of(count, index);
         self.clock_before = self.clock;
     }
 
@@ -128,7 +128,13 @@ impl Service {
         ensures kept { OnErr result (self.new ≡ self.old) }
     {
         let alloc = *self.streams.allocator();
-        serve(alloc, &mut self.streams, &mut self.made, self.clock, what)
+        serve(
+            alloc,
+            &mut self.streams,
+            &mut self.made_count,
+            self.clock,
+            what,
+        )
     }
 
     /// Whether the shard with this key is listed: its stream is live, and the shard was made and hasn't expired.

@@ -3,8 +3,8 @@
 ghost use Rattle.std.specs.Prelude.{◌≡◌, ◌+◌, ◌-◌, ◌<◌, IfSome, length, nat_le};
 ghost use Rattle.kds_defs.specs.declared.limits.TheConstants.{OPEN_SHARDS};
 ghost use Rattle.indexmap.specs.IndexMap.{keys, values};
-ghost use Rattle.kds_service.specs.Places.{is_full, open_beside, open_total, open_unless, index_by_number};
-ghost use Rattle.kds_service.specs.Places.{index_by_name};
+ghost use Rattle.kds_service.specs.Indexes.{is_full, open_beside, open_total, open_unless, index_by_number};
+ghost use Rattle.kds_service.specs.Indexes.{index_by_name};
 ghost use Rattle.kds_service.specs.Shown.{names_of};
 
 use indexmap::IndexMap;

@@ -19,7 +19,7 @@ use Rattle.kds_head.specs.Response.{response_text}
 use Rattle.kds_head.specs.declared.numbers.TheConstants.{HEAD_BYTES, BODY_BYTES}
 use Rattle.kds_session.specs.declared.limits.TheConstants.{REQUESTS}
 use Rattle.kds_session.specs.declared.limits.TheConstants.{PIECE_BYTES, UNREAD_BYTES}
-use Rattle.kds_session.specs.declared.reading.Reading.{Reading}
+use Rattle.kds_session.specs.declared.progress.Progress.{Progress}
 use Rattle.kds_session.specs.declared.state.Standing.{Standing}
 use Rattle.kds_session.specs.declared.state.Standing.TheVariants.{Live, Closed, Refused}
 use Rattle.kds_session.specs.declared.state.Waiting.{Waiting}
@@ -31,7 +31,7 @@ use Rattle.kds_session.specs.Standing.{Stage, going, over, stage_of, stage_text,
 use Rattle.kds_session.specs.Standing.{Traffic, fed_more, given_one, told_one, sent_more, StandsFor, IsQuiet, still}
 use Rattle.kds_session.specs.Standing.{to_come}
 use Rattle.kds_session.specs.Next.{IsNext, IsNearer, IsFewer, IsShort, IsReadOut, CanBeFed}
-use Rattle.kds_session.specs.Steps.{IsFree, read_state, with_reading}
+use Rattle.kds_session.specs.Steps.{IsFree, read_state, with_progress}
 use Rattle.kds_session.proofs.Readings.{HeadLaws, HeadStays, begins_at, last_is, goes_fed, goes_past, goes_last}
 use Rattle.kds_session.proofs.Readings.{goes_refused, unfinished_short}
 use Rattle.kds_session.proofs.Responses.{commands-push, responses-push, adds}
@@ -307,11 +307,12 @@ command_given laws s past head close what st free c whole asks new e =
 
 -- ---- The session adopts a reading of its unread bytes
 
--- The reading has gone past a message of `n` bytes.
-pub past_state : (bytes : List ℕ) (r new : Reading) (n : ℕ) → new.read ≡ r.read + n
+-- The reading `new` consumed `n` bytes more than the reading `r`. The session that `new` makes has `n` fewer unread
+-- bytes than the one that `r` makes, and its other fields are those of `new`.
+pub past_state : (bytes : List ℕ) (r new : Progress) (n : ℕ) → new.read ≡ r.read + n
     → read_state bytes new ≡ record {
       unread = drop n (drop r.read bytes);
-      output = new.answers;
+      output = new.responses;
       left = new.left;
       standing = new.standing;
       waiting = new.waiting;
@@ -319,14 +320,16 @@ pub past_state : (bytes : List ℕ) (r new : Reading) (n : ℕ) → new.read ≡
 past_state bytes r new n e =
     ap (λ (u : List ℕ). let y : SessionState = record {
       unread = u;
-      output = new.answers;
+      output = new.responses;
       left = new.left;
       standing = new.standing;
       waiting = new.waiting;
     } in
     y) (ap (λ k. drop k bytes) e ∙ sym (drop-drop n r.read bytes))
 
-pub command_state : (bytes : List ℕ) (r p : Reading) (n : ℕ) (w v : Waiting)
+-- If the reading `p` consumed one message of `n` bytes more than `r`, and a command then waits, the session that it
+-- makes has `n` fewer unread bytes, is allowed one request fewer, and waits for `v`.
+pub command_state : (bytes : List ℕ) (r p : Progress) (n : ℕ) (w v : Waiting)
     → p ≡ record r { read = r.read + n; left = r.left - 1 } → w ≡ v
     → read_state bytes (record p { waiting = w }) ≡ record (read_state bytes r) {
       unread = drop n (drop r.read bytes);
@@ -334,7 +337,7 @@ pub command_state : (bytes : List ℕ) (r p : Reading) (n : ℕ) (w v : Waiting)
       waiting = v;
     }
 command_state bytes r p n w v e f =
-    ap (λ (x : Reading). read_state bytes (record x { waiting = w })) e
+    ap (λ (x : Progress). read_state bytes (record x { waiting = w })) e
     ∙ past_state bytes r (record r { read = r.read + n; left = r.left - 1; waiting = w }) n refl
     ∙ ap (λ (z : Waiting). let y : SessionState = record (read_state bytes r) {
       unread = drop n (drop r.read bytes);
@@ -342,51 +345,64 @@ command_state bytes r p n w v e f =
       waiting = z;
     } in y) f
 
-pub fault_state : (bytes : List ℕ) (r p : Reading) (n : ℕ) (t text : List ℕ)
-    → p ≡ record r { answers = t; read = r.read + n; left = r.left - 1 } → t ≡ r.answers ++ text
+-- If the reading `p` consumed one faulty request of `n` bytes more than `r`, the session that it makes has `n` fewer
+-- unread bytes, is allowed one request fewer, and has the fault's response `text` added to its output.
+pub fault_state : (bytes : List ℕ) (r p : Progress) (n : ℕ) (t text : List ℕ)
+    → p ≡ record r { responses = t; read = r.read + n; left = r.left - 1 } → t ≡ r.responses ++ text
     → read_state bytes p ≡ record (read_state bytes r) {
       unread = drop n (drop r.read bytes);
       left = r.left - 1;
-      output = r.answers ++ text;
+      output = r.responses ++ text;
     }
 fault_state bytes r p n t text e f =
-    ap (λ (x : Reading). read_state bytes x) e
-    ∙ past_state bytes r (record r { answers = t; read = r.read + n; left = r.left - 1 }) n refl
+    ap (λ (x : Progress). read_state bytes x) e
+    ∙ past_state bytes r (record r { responses = t; read = r.read + n; left = r.left - 1 }) n refl
     ∙ ap (λ (z : List ℕ). let y : SessionState = record (read_state bytes r) {
       unread = drop n (drop r.read bytes);
       left = r.left - 1;
       output = z;
     } in y) f
 
-pub closed_state : (bytes : List ℕ) (r p : Reading) (n : ℕ) (t text : List ℕ)
-    → p ≡ record r { answers = t; read = r.read + n; left = r.left - 1 } → t ≡ r.answers ++ text
+-- If the reading `p` consumed one faulty request of `n` bytes more than `r`, and the connection closes after it, the
+-- session that it makes has `n` fewer unread bytes, is allowed one request fewer, has the fault's response `text` added
+-- to its output, and is closed.
+pub closed_state : (bytes : List ℕ) (r p : Progress) (n : ℕ) (t text : List ℕ)
+    → p ≡ record r { responses = t; read = r.read + n; left = r.left - 1 } → t ≡ r.responses ++ text
     → read_state bytes (record p { standing = Closed })
     ≡ record (read_state bytes r) {
       unread = drop n (drop r.read bytes);
       left = r.left - 1;
-      output = r.answers ++ text;
+      output = r.responses ++ text;
       standing = Closed;
     }
 closed_state bytes r p n t text e f =
     ap (λ (z : SessionState). let y : SessionState = record z { standing = Closed } in
     y) (fault_state bytes r p n t text e f)
 
-pub refused_state : (bytes : List ℕ) (r p : Reading) (status : ℕ)
-    → p ≡ record r { answers = r.answers ++ response_text status [] false true; standing = Refused status }
+-- If the reading `p` found a refused head after what `r` consumed, the session that it makes has the refusal's response
+-- added to its output and is refused with `status`. Its other fields are unchanged.
+pub refused_state : (bytes : List ℕ) (r p : Progress) (status : ℕ)
+    → p ≡ record r { responses = r.responses ++ response_text status [] false true; standing = Refused status }
     → read_state bytes p ≡ record (read_state bytes r) {
-      output = r.answers ++ response_text status [] false true;
+      output = r.responses ++ response_text status [] false true;
       standing = Refused status;
     }
-refused_state bytes r p status e = ap (λ (x : Reading). read_state bytes x) e
+refused_state bytes r p status e = ap (λ (x : Progress). read_state bytes x) e
 
 -- A reading that has consumed nothing yet makes a session that stands for the traffic of `s`, with the output of `s`
 -- counted as sent.
 pub reading_begins : (s : SessionState) (past : Traffic) → StandsFor s past → IsFree s
-    → (start : Reading) → start ≡ record { read = 0; left = s.left; answers = []; standing = Live; waiting = Nothing }
+    → (start : Progress) → start ≡ record {
+      read = 0;
+      left = s.left;
+      responses = [];
+      standing = Live;
+      waiting = Nothing;
+    }
     → StandsFor (read_state s.unread start) (sent_more s.output past)
 reading_begins s past st free start e =
     let f = runs_of s past st free in
-    subst (λ (r : Reading). StandsFor (read_state s.unread r) (sent_more s.output past)) (sym e) (record {
+    subst (λ (r : Progress). StandsFor (read_state s.unread r) (sent_more s.output past)) (sym e) (record {
       done = f.done;
       given_is = f.given_is;
       awaited = f.told_all;
@@ -395,37 +411,40 @@ reading_begins s past st free start e =
       written = append-nil _ ∙ f.written ∙ sym (append-nil _);
     })
 
-stands_then : (s : SessionState) (r : Reading) (past : Traffic)
-    → StandsFor (read_state s.unread r) (sent_more s.output past) → StandsFor (with_reading s r) past
+stands_then : (s : SessionState) (r : Progress) (past : Traffic)
+    → StandsFor (read_state s.unread r) (sent_more s.output past) → StandsFor (with_progress s r) past
 stands_then s r past st = record {
   done = st.done;
   given_is = st.given_is;
   awaited = st.awaited;
   live = st.live;
   leads = st.leads;
-  written = sym (append_assoc past.sent s.output r.answers) ∙ st.written;
+  written = sym (append_assoc past.sent s.output r.responses) ∙ st.written;
 }
 
-pub taken_over : (s : SessionState) (r : Reading) (o : Option Command) (past : Traffic)
+-- The reading `r` makes a session whose output lacks that of `s`. If `IsNext` holds of it, with the output of `s`
+-- counted as sent, `IsNext` holds of the session that has adopted `r`.
+pub taken_over : (s : SessionState) (r : Progress) (o : Option Command) (past : Traffic)
     → IsNext o (read_state s.unread r) (sent_more s.output past)
-    → (new : SessionState) → new ≡ with_reading s r → IsNext o new past
+    → (new : SessionState) → new ≡ with_progress s r → IsNext o new past
 taken_over s r None past n new e =
     subst (λ (x : SessionState). IsNext None x past) (sym e) (stands_then s r past n.0, n.1)
 taken_over s r (Some what) past n new e =
     subst (λ (x : SessionState). IsNext (Some what) x past) (sym e) (stands_then s r (given_one what past) n.0, n.1)
 
--- What the reading comes to, the session comes to.
-pub next_by : (s v : SessionState) (bytes : List ℕ) (start r : Reading) (o : Option Command) → v ≡ s → bytes ≡ v.unread
-    → start ≡ record { read = 0; left = v.left; answers = []; standing = Live; waiting = Nothing } → IsFree s
+-- Let `IsNext` hold of the session that the reading `r` makes, for each traffic that the reading stood for at its
+-- start. Then it holds of the session that has adopted `r`, for each traffic that `s` stands for.
+pub next_by : (s v : SessionState) (bytes : List ℕ) (start r : Progress) (o : Option Command) → v ≡ s → bytes ≡ v.unread
+    → start ≡ record { read = 0; left = v.left; responses = []; standing = Live; waiting = Nothing } → IsFree s
     → ((past : Traffic) → StandsFor (read_state bytes start) past → IsNext o (read_state bytes r) past)
-    → (new : SessionState) → new ≡ with_reading s r
+    → (new : SessionState) → new ≡ with_progress s r
     → (past : Traffic) → StandsFor s past → IsNext o new past
 next_by s v bytes start r o ev eb es free go new e past st =
     let bytes_is : bytes ≡ s.unread = eb ∙ ap (λ (x : SessionState). x.unread) ev in
-    let start_is = es ∙ ap (λ (x : SessionState). let y : Reading = record {
+    let start_is = es ∙ ap (λ (x : SessionState). let y : Progress = record {
       read = 0;
       left = x.left;
-      answers = [];
+      responses = [];
       standing = Live;
       waiting = Nothing;
     } in y) ev in
@@ -594,8 +613,10 @@ told_still left d new w close c waits e =
 abbrev pub Limits : Type 0
 Limits = (bytes : List ℕ) (found : Found) → IsFound bytes found → IsWithinLimits bytes found
 
-pub read_out : Limits → (o : Option Command) (s v new : SessionState) (bytes : List ℕ) (r : Reading) → v ≡ s
-    → bytes ≡ v.unread → (o ≡ None → IsQuiet (read_state bytes r)) → new ≡ with_reading s r → IsReadOut o new
+-- If the reading gave no command and makes a quiet session, the session that has adopted the reading waits for no
+-- answer and has no whole message unread (`IsReadOut`).
+pub read_out : Limits → (o : Option Command) (s v new : SessionState) (bytes : List ℕ) (r : Progress) → v ≡ s
+    → bytes ≡ v.unread → (o ≡ None → IsQuiet (read_state bytes r)) → new ≡ with_progress s r → IsReadOut o new
 read_out limits (Some what) s v new bytes r ev eb q e = tt
 read_out limits None s v new bytes r ev eb q e =
     let bytes_is : bytes ≡ s.unread = eb ∙ ap (λ (x : SessionState). x.unread) ev in
@@ -611,22 +632,24 @@ fewer_same (Some what) a b s n ea eb ua ub h = omega arith
 fewer_same None a b s n ea eb ua ub (inl h) = inl (omega arith)
 fewer_same None a b s n ea eb ua ub (inr h) = inr (sym ub ∙ h.0 ∙ ua, sym eb ∙ h.1 ∙ ea)
 
-pub fewer_by : (o : Option Command) (s v new : SessionState) (bytes : List ℕ) (start r : Reading) → v ≡ s
-    → bytes ≡ v.unread → start ≡ record { read = 0; left = v.left; answers = []; standing = Live; waiting = Nothing }
+-- If `to_come` falls over the reading in the way that `IsFewer` describes, it does so from the session `s` to the
+-- session that has adopted the reading.
+pub fewer_by : (o : Option Command) (s v new : SessionState) (bytes : List ℕ) (start r : Progress) → v ≡ s
+    → bytes ≡ v.unread → start ≡ record { read = 0; left = v.left; responses = []; standing = Live; waiting = Nothing }
     → IsFree s
-    → IsFewer o (read_state bytes start) (read_state bytes r) → new ≡ with_reading s r → IsFewer o s new
+    → IsFewer o (read_state bytes start) (read_state bytes r) → new ≡ with_progress s r → IsFewer o s new
 fewer_by o s v new bytes start r ev eb es free h e =
     let bytes_is : bytes ≡ s.unread = eb ∙ ap (λ (x : SessionState). x.unread) ev in
-    let all : to_come (read_state bytes start) ≡ to_come s = ap (λ (x : Reading). to_come (read_state bytes x)) es
+    let all : to_come (read_state bytes start) ≡ to_come s = ap (λ (x : Progress). to_come (read_state bytes x)) es
     ∙ ap (λ (x : SessionState). x.left + 1) ev ∙ sym (all_to_come s free) in
-    let unread : drop start.read bytes ≡ s.unread = ap (λ (x : Reading). drop x.read bytes) es ∙ bytes_is in
+    let unread : drop start.read bytes ≡ s.unread = ap (λ (x : Progress). drop x.read bytes) es ∙ bytes_is in
     fewer_same o (read_state bytes start) (read_state bytes r) s new all (sym (ap to_come e)) unread
     (ap (λ b. drop r.read b) bytes_is ∙ sym (ap (λ (x : SessionState). x.unread) e)) h
 
-few_then_room : (n : ℕ) → n < HEAD_BYTES + BODY_BYTES → PIECE_BYTES ≤ UNREAD_BYTES - n
-few_then_room n h = omega arith
+few_then_fed : (n : ℕ) → n < HEAD_BYTES + BODY_BYTES → PIECE_BYTES ≤ UNREAD_BYTES - n
+few_then_fed n h = omega arith
 
 -- If no command is given and no whole message is unread, a live session may be fed a whole piece (`CanBeFed`).
 pub read_out_fed : (o : Option Command) (new : SessionState) → IsReadOut o new → CanBeFed o new
 read_out_fed (Some what) new r = tt
-read_out_fed None new r = λ live. few_then_room (length new.unread) (r.1 live)
+read_out_fed None new r = λ live. few_then_fed (length new.unread) (r.1 live)

@@ -15,7 +15,7 @@ use Rattle.kds_session.specs.Text.{Answers, commands, responses, end_text, IsHtt
 use Rattle.kds_session.specs.States.{SessionState}
 use Rattle.kds_session.specs.Standing.{Stage, going, over, stage_of, stage_text, Leads, Awaits, Traffic, fed_more}
 use Rattle.kds_session.specs.Standing.{given_one, StandsFor, IsQuiet, end_in, end_of}
-use Rattle.kds_session.specs.Laws.{OneReading, IsFirstPart}
+use Rattle.kds_session.specs.Laws.{OneDivision, IsFirstPart}
 use Rattle.kds_session.specs.Next.{IsNext}
 use Rattle.kds_session.proofs.Readings.{goes_ending}
 use Rattle.kds_session.proofs.Responses.{responses-front, responses-enough, commands-append}
@@ -78,8 +78,8 @@ nothing_more s past st ended more = record {
 
 -- ---- All bytes that are fed, at any moment
 
--- The messages that are done are the first of all messages.
-done_first : OneReading
+-- The messages that were read are the first of all messages, whatever bytes follow.
+done_first : OneDivision
     → (stage : Stage) (fed : List ℕ) (done : List Message) (left : ℕ) (unread more : List ℕ) (all : List Message)
     (ending : Ending) → Leads stage fed done left unread → Falls 0 (fed ++ more) all ending
     → (ms : List Message) × (all ≡ done ++ ms)
@@ -87,8 +87,8 @@ done_first one going fed done left unread more all ending g f = let b = g.back m
 done_first one (over e) fed done left unread more all ending g f = let same =
     one 0 (fed ++ more) all done ending e f (g more) in ([], same.0 ∙ sym (append-nil done))
 
--- The commands that were given are the first of all commands.
-first_commands : OneReading → (s : SessionState) (past : Traffic) → StandsFor s past
+-- The commands that were given are the first of all commands, whatever bytes follow.
+first_commands : OneDivision → (s : SessionState) (past : Traffic) → StandsFor s past
     → (more : List ℕ) (all : List Message) (ending : Ending) → Falls 0 (past.fed ++ more) all ending
     → (coming : List Command) × (commands all ≡ past.given ++ coming)
 first_commands one s past st more all ending f =
@@ -109,7 +109,7 @@ front_more done ms all ending told later e =
           ∙ ap (λ z. z ++ (r.0 ++ end_text ending)) (sym (append-nil (responses 0 done told))),
     )
 
-first_text : OneReading
+first_text : OneDivision
     → (d : Standing) (w : Waiting) (fed : List ℕ) (done : List Message) (left : ℕ) (unread more : List ℕ)
     (all : List Message) (ending : Ending) (told later : Answers)
     → (w ≢ Nothing → d ≡ Live) → Awaits w done told → Leads (stage_of d w) fed done left unread
@@ -139,7 +139,9 @@ first_text one (Refused s) Answer fed done left unread more all ending told late
 first_text one (Refused s) LastAnswer fed done left unread more all ending told later live a g f =
     absurd (cc (live (λ e. cc e)))
 
-pub first_parts : OneReading → (s : SessionState) (past : Traffic) → StandsFor s past
+-- The commands that were given are the first of all commands, and what was written is a prefix of all that is to be
+-- written, whatever bytes and answers follow.
+pub first_parts : OneDivision → (s : SessionState) (past : Traffic) → StandsFor s past
     → (more : List ℕ) (all : List Message) (ending : Ending) → Falls 0 (past.fed ++ more) all ending
     → IsFirstPart all ending past.given past.told (past.sent ++ s.output)
 first_parts one s past st more all ending f = record {
@@ -156,7 +158,9 @@ get_seam : (xs : List Command) (y : Command) (ys : List Command) → slice_get (
 get_seam [] y ys = refl
 get_seam (x ∷ xs) y ys = get_seam xs y ys
 
-pub next_is : OneReading → (o : Option Command) (new : SessionState) (past : Traffic) → IsNext o new past
+-- Among the commands of all bytes that were fed, the command that `next` gives follows those already given. If `next`
+-- gives none, there is no further command.
+pub next_is : OneDivision → (o : Option Command) (new : SessionState) (past : Traffic) → IsNext o new past
     → (ms : List Message) (ending : Ending) → Falls 0 past.fed ms ending
     → o ≡ slice_get (commands ms) (length past.given)
 next_is one None new past n ms ending f =

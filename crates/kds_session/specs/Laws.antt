@@ -8,9 +8,9 @@ use Rattle.kds_session.specs.Text.{Answers, commands, responses, end_text, IsHtt
 use Rattle.kds_session.specs.States.{SessionState}
 use Rattle.kds_session.specs.Standing.{Traffic, fed_more, StandsFor, IsQuiet, end_of}
 
--- Bytes fall into messages in one way at most.
-abbrev pub OneReading : Type 0
-OneReading = (before : ℕ) (bytes : List ℕ) (ms ns : List Message) (ending other : Ending)
+-- Bytes that come after `before` messages of a connection fall into messages, and have an ending, in one way at most.
+abbrev pub OneDivision : Type 0
+OneDivision = (before : ℕ) (bytes : List ℕ) (ms ns : List Message) (ending other : Ending)
     → Falls before bytes ms ending → Falls before bytes ns other → (ms ≡ ns) × (ending ≡ other)
 
 -- If the session `s` waits for no answer and no whole message is unread (`IsQuiet`), the commands that it gave and the

@@ -112,9 +112,10 @@ told_one answer past = record past { told = past.told ++ answer ∷ [] }
 abbrev pub sent_more : List ℕ → Traffic → Traffic
 sent_more bytes past = record past { sent = past.sent ++ bytes }
 
--- Whatever traffic `past` had passed through the session `old`, it and the change `change` have passed through `new`.
-abbrev pub Passes : SessionState → SessionState → (Traffic → Traffic) → Type 0
-Passes old new change = (past : Traffic) → StandsFor old past → StandsFor new (change past)
+-- For each traffic `past` that the session `old` stands for, the session `new` stands for `past` after the change
+-- `change`.
+abbrev pub CarriesOn : SessionState → SessionState → (Traffic → Traffic) → Type 0
+CarriesOn old new change = (past : Traffic) → StandsFor old past → StandsFor new (change past)
 
 -- The session `s` waits for no answer. If it is live, no whole message is unread, and its unread bytes aren't refused.
 abbrev pub IsQuiet : SessionState → Type 0

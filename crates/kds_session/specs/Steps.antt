@@ -7,9 +7,9 @@ use Rattle.kds_head.specs.Response.{is_refusal}
 use Rattle.kds_json.specs.Asked.{IsRequest}
 use Rattle.kds_session.specs.declared.front.Front.{Front}
 use Rattle.kds_session.specs.declared.front.Front.TheVariants as front
-use Rattle.kds_session.specs.declared.reading.Reading.{Reading}
-use Rattle.kds_session.specs.declared.reading.Step.{Step}
-use Rattle.kds_session.specs.declared.reading.Step.TheVariants as step
+use Rattle.kds_session.specs.declared.progress.Progress.{Progress}
+use Rattle.kds_session.specs.declared.progress.Step.{Step}
+use Rattle.kds_session.specs.declared.progress.Step.TheVariants as step
 use Rattle.kds_session.specs.declared.state.Standing.TheVariants.{Live}
 use Rattle.kds_session.specs.declared.state.Waiting.TheVariants.{Nothing}
 use Rattle.kds_session.specs.Messages.{IsUnfinished, IsShort, IsWhole}
@@ -41,21 +41,23 @@ IsKnown (front.Whole head) = Unit {0}
 
 -- ---- How `next` reads on
 
--- What the reading `r` of the unread bytes `bytes` comes to: a session with its responses as output.
-abbrev pub read_state : List ℕ → Reading → SessionState
+-- The session that the reading `r` alone makes: unread are those of `bytes` that `r` hasn't consumed, and its output
+-- has only the responses of `r`. A reading (`Progress`) is what one call of `next` has consumed and answered so far.
+abbrev pub read_state : List ℕ → Progress → SessionState
 read_state bytes r = record {
   unread = drop r.read bytes;
-  output = r.answers;
+  output = r.responses;
   left = r.left;
   standing = r.standing;
   waiting = r.waiting;
 }
 
--- The session `s` after the reading `r` of its unread bytes.
-abbrev pub with_reading : SessionState → Reading → SessionState
-with_reading s r = record {
+-- The session `s` after it adopts the reading `r` of its unread bytes. The bytes that `r` consumed are no longer
+-- unread, and the responses of `r` are added to the output.
+abbrev pub with_progress : SessionState → Progress → SessionState
+with_progress s r = record {
   unread = drop r.read s.unread;
-  output = s.output ++ r.answers;
+  output = s.output ++ r.responses;
   left = r.left;
   standing = r.standing;
   waiting = r.waiting;
@@ -66,15 +68,17 @@ pub record IsFree (s : SessionState) : Type 0 where
   pub live : s.standing ≡ Live
   pub free : s.waiting ≡ Nothing
 
--- The session `new` is one step later, where `past` had passed before the step.
-abbrev pub IsAfter : Step → SessionState → Traffic → Type 0
-IsAfter step.Stop new past = StandsFor new past × IsQuiet new
-IsAfter step.Answered new past = StandsFor new past
-IsAfter (step.Command what) new past = StandsFor new (given_one what past) × (new.waiting ≢ Nothing)
+-- The session `new` is right after a step, before which the traffic `past` had passed. After Stop, no further message
+-- can be read now, and the session waits for no answer (`IsQuiet`). After Answered, a faulty request was answered.
+-- After Command, the session gave a command and waits for its answer.
+abbrev pub IsStepped : Step → SessionState → Traffic → Type 0
+IsStepped step.Stop new past = StandsFor new past × IsQuiet new
+IsStepped step.Answered new past = StandsFor new past
+IsStepped (step.Command what) new past = StandsFor new (given_one what past) × (new.waiting ≢ Nothing)
 
 -- For each traffic that the session `old` stands for, the session `new` is right after the step `step` (`IsStepped`).
 abbrev pub Steps : SessionState → SessionState → Step → Type 0
-Steps old new step = (past : Traffic) → StandsFor old past → IsAfter step new past
+Steps old new step = (past : Traffic) → StandsFor old past → IsStepped step new past
 
 -- What a step leads to, whatever was fed before. After Stop, the session `new` is quiet, and less may still come or
 -- nothing was read (`IsNearer`). After Answered, it is live, waits for no answer, and may read fewer requests. After

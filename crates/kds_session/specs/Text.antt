@@ -6,7 +6,7 @@ use Rattle.kds_defs.specs.declared.reply.Refusal.{Refusal}
 use Rattle.kds_defs.specs.declared.reply.Reply.{Reply}
 use Rattle.kds_json_members.specs.declared.problem.Fault.{Fault}
 use Rattle.kds_json_members.specs.declared.problem.FaultKind.TheVariants.{Unknown, Serialization}
-use Rattle.kds_json_members.specs.Reading.{fault_of}
+use Rattle.kds_json_members.specs.Results.{fault_of}
 use Rattle.kds_json.specs.Asked.{asked}
 use Rattle.kds_reply.specs.Replies.{reply_of, fault_reply}
 use Rattle.kds_head.specs.Response.{response_text}

@@ -2,11 +2,11 @@
 ghost use Rattle.std.specs.Prelude.{◌≡◌, ◌+◌};
 ghost use Rattle.kds_head.specs.declared.numbers.TheConstants.{HEAD_BYTES, BODY_BYTES};
 ghost use Rattle.kds_session.specs.declared.limits.TheConstants.{REQUESTS, PIECE_BYTES, UNREAD_BYTES};
-ghost use Rattle.kds_session.specs.Laws.{OneReading, WholeText, NothingFollows, FirstPart};
+ghost use Rattle.kds_session.specs.Laws.{OneDivision, WholeText, NothingFollows, FirstPart};
 
 /// The bytes of a connection can be split into messages in at most one way.
-pub fn one_reading()
-    ensures { OneReading }
+pub fn one_division()
+    ensures { OneDivision }
 {
     kds_head::one_finding();
     kds_head::decided_stays();
@@ -33,7 +33,7 @@ pub fn nothing_follows()
 pub fn first_part()
     ensures { FirstPart }
 {
-    one_reading();
+    one_division();
 }
 
 /// States the limits as plain numbers. The definitions in `specs` refer to these numbers only by the names of the

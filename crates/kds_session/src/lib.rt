@@ -7,11 +7,11 @@ mod front;
 mod laws;
 pub mod limits;
 mod output;
-mod reading;
+mod progress;
 mod request;
 mod session;
 mod state;
 
-pub use laws::{first_part, nothing_follows, one_reading, session_limits, whole_text};
+pub use laws::{first_part, nothing_follows, one_division, session_limits, whole_text};
 pub use session::Session;
 pub use state::Standing;

@@ -7,7 +7,7 @@ ghost use Rattle.kds_session.specs.Text.{answered};
 
 use kds_base::{Memory, Octets};
 use kds_defs::Answer;
-use kds_head::{FRONT_BYTES, put_front, response};
+use kds_head::{RESPONSE_HEAD_BYTES, put_response_head, response};
 use kds_reply::{add_reply, reply};
 use std::alloc::Global;
 use std::marker::Model;
@@ -18,7 +18,7 @@ const KEPT_BYTES: usize = 1_048_576;
 
 /// Placeholder bytes before the body of a response. The status line and the headers are later written over the end of
 /// these bytes.
-static GAP: [u8; FRONT_BYTES] = [0; FRONT_BYTES];
+static GAP: [u8; RESPONSE_HEAD_BYTES] = [0; RESPONSE_HEAD_BYTES];
 
 /// Writes the response to a command into `text`, and returns the index at which the response begins. The body is
 /// appended after a gap. The status line and the headers are then written into the gap, directly before the body.
@@ -36,7 +36,7 @@ fn write_response(
 {
     text.extend_from_slice(&GAP)?;
     let status = add_reply(alloc, answer, text)?;
-    Ok(put_front(status, true, close, text.as_mut_slice(), GAP.len()))
+    Ok(put_response_head(status, true, close, text.as_mut_slice(), GAP.len()))
 }
 
 /// A queue of response bytes. Bytes are appended at the end, and are removed from the front after they were sent. In a

@@ -108,9 +108,10 @@ kept_settled floor log s n zero (l ∷ ls) h =
     (record { from = floor; early = omega arith; rest = same }, h.1)
 kept_settled floor log s n (suc i) (l ∷ ls) h = (h.0, kept_settled floor log s (n + 1) i ls h.1)
 
--- The stream `v` after the log at the index `i` is settled, whatever clock it remembers and whichever log is next.
-abbrev pub settled_place : StreamValue → ℕ → ℕ → Option ℕ → ℕ → StreamValue
-settled_place v i clock cut next =
+-- The stream `v` after the log at the index `i` has lost its trimmed records. The log at the index `next` is the next
+-- to lose them, and a retreat goes back to `clock` and `cut`.
+abbrev pub settled_at_index : StreamValue → ℕ → ℕ → Option ℕ → ℕ → StreamValue
+settled_at_index v i clock cut next =
     record v {
       logs = settled_at (floor_of v.cut) i v.logs;
       clock_before = clock;
@@ -120,7 +121,7 @@ settled_place v i clock cut next =
 
 -- A stream still shows its journal after the log at the index `i` has lost its trimmed records.
 pub shows_settled : (v : StreamValue) (i clock : ℕ) (cut : Option ℕ) (next : ℕ) (log : Journal) → Shows v log
-    → Shows (settled_place v i clock cut next) log
+    → Shows (settled_at_index v i clock cut next) log
 shows_settled v i clock cut next log shown = record {
   stored = record {
     live = shown.stored.live;
@@ -137,7 +138,8 @@ shows_settled v i clock cut next log shown = record {
   rates = shown.rates;
 }
 
-pub settled_stream : (v : StreamValue) (i next : ℕ) → IsStream v → IsStream (settled_place v i v.clock v.cut next)
+-- A stream keeps its invariant (`IsStream`) after the log at the index `i` has lost its trimmed records.
+pub settled_stream : (v : StreamValue) (i next : ℕ) → IsStream v → IsStream (settled_at_index v i v.clock v.cut next)
 settled_stream v i next is = record {
   as_many = length-settled (floor_of v.cut) i v.logs ∙ is.as_many;
   few = is.few;

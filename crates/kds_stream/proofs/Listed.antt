@@ -19,15 +19,16 @@ use Rattle.kds_defs.specs.Decision.{Decision, Accepted}
 use Rattle.kds_defs.specs.Histories.{answer_of}
 use Rattle.kds_defs.specs.Journal.{Journal}
 use Rattle.kds_defs.specs.Listings.{are_none, behind, ends_at, get_iterator, get_records, is_closed_at, is_good_start}
-use Rattle.kds_defs.specs.Listings.{is_old, iterator_at, position_of, records_reply}
-use Rattle.kds_defs.specs.Records.{Logged, batch, first_at, left_among, left_from, next_number, numbers_of, place_after}
+use Rattle.kds_defs.specs.Listings.{is_expired_token, iterator_at, position_of, records_reply}
+use Rattle.kds_defs.specs.Records.{Logged, batch, first_at, left_among, left_from, next_number, numbers_of}
+use Rattle.kds_defs.specs.Records.{position_after}
 use Rattle.kds_defs.specs.Records.{stored}
 use Rattle.kds_defs.specs.Shards.{Closing, ShardState, children, children_among, ending, is_closed_below, is_listed}
 use Rattle.kds_defs.specs.Shards.{is_listed_state, shard_at, shown}
 use Rattle.kds_defs.specs.Streams.{floor_of, trim_floor}
 use Rattle.kds_log.specs.Log.{LogValue, first_arrival}
 use Rattle.kds_stream.proofs.ReadLemmas.{are_none_by, batch_is, behind_first, left_is}
-use Rattle.kds_stream_logs.specs.Reading.{batch_among, behind_by, position_from}
+use Rattle.kds_stream_logs.specs.Batches.{batch_among, behind_by, position_from}
 use Rattle.kds_stream.specs.Showing.{Shows}
 use Rattle.kds_stream.specs.Value.{IsStream, StreamValue, is_listed_at, listed_at}
 
@@ -197,25 +198,28 @@ module _ (v : StreamValue) (log : Journal) (show : Shows v log) where
   closed_by None = refl
   closed_by (Some closing) = refl
 
-  pub ends_is : (sh place : ℕ) (y : Shard) (x : ShardState) (l : LogValue) (left : Option ℕ)
+  -- By the journal, reading of shard `sh` ends at `reach` if and only if the shard, shown as `y`, has an ending
+  -- sequence number and its log `l` has no untrimmed record from `reach` on. `left` is the arrival of the first such
+  -- record, or `None`.
+  pub ends_is : (sh reach : ℕ) (y : Shard) (x : ShardState) (l : LogValue) (left : Option ℕ)
       → slice_get v.tree sh ≡ Some x → y ≡ shown x → sh < length v.logs → l ≡ get_or v.logs sh l
-      → left ≡ first_arrival (left_among (floor_of v.cut) place l.kept)
-      → ends_at log v.clock v.no sh place ≡ (is_some y.end && is_none left)
-  ends_is sh place y x l left at is_shown below is first =
-      ap (λ o. is_closed_at o && are_none (left_from log v.clock v.no sh place)) (shard_is sh ∙ at)
-      ∙ ap (λ b. b && are_none (left_from log v.clock v.no sh place))
+      → left ≡ first_arrival (left_among (floor_of v.cut) reach l.kept)
+      → ends_at log v.clock v.no sh reach ≡ (is_some y.end && is_none left)
+  ends_is sh reach y x l left at is_shown below is first =
+      ap (λ o. is_closed_at o && are_none (left_from log v.clock v.no sh reach)) (shard_is sh ∙ at)
+      ∙ ap (λ b. b && are_none (left_from log v.clock v.no sh reach))
       (sym (ap (λ (z : Shard). is_some z.end) is_shown ∙ closed_by x.closing))
-      ∙ ap (λ rs. is_some y.end && are_none rs) (left_is v log show sh l below is place)
-      ∙ ap (λ b. is_some y.end && b) (are_none_by (left_among (floor_of v.cut) place l.kept) ∙ ap is_none (sym first))
+      ∙ ap (λ rs. is_some y.end && are_none rs) (left_is v log show sh l below is reach)
+      ∙ ap (λ b. is_some y.end && b) (are_none_by (left_among (floor_of v.cut) reach l.kept) ∙ ap is_none (sym first))
 
   -- ---- A read
 
-  module _ (sh position limit place : ℕ) (l : LogValue) (left : Option ℕ) (below : sh < length v.logs)
+  module _ (sh position limit reach : ℕ) (l : LogValue) (left : Option ℕ) (below : sh < length v.logs)
       (at : l ≡ get_or v.logs sh l)
-      (after : place ≡ place_after position (numbers_of (batch_among (floor_of v.cut) position limit l.kept)))
-      (first : left ≡ first_arrival (left_among (floor_of v.cut) place l.kept)) where
-    place_is : place_after position (numbers_of (batch log v.clock v.no sh position limit)) ≡ place
-    place_is = ap (λ rs. place_after position (numbers_of rs)) (batch_is v log show sh l below at position limit)
+      (after : reach ≡ position_after position (numbers_of (batch_among (floor_of v.cut) position limit l.kept)))
+      (first : left ≡ first_arrival (left_among (floor_of v.cut) reach l.kept)) where
+    reach_is : position_after position (numbers_of (batch log v.clock v.no sh position limit)) ≡ reach
+    reach_is = ap (λ rs. position_after position (numbers_of rs)) (batch_is v log show sh l below at position limit)
         ∙ sym after
 
     -- A read of the shard that is shown as `y` ends the shard if and only if the shard has an ending sequence number
@@ -223,34 +227,35 @@ module _ (v : StreamValue) (log : Journal) (show : Shows v log) where
     pub read_end : (y : Shard) (end : Bool) → Some y ≡ option_map shown (slice_get v.tree sh)
         → end ≡ (is_some y.end && is_none left)
         → end ≡ ends_at log v.clock v.no sh
-        (place_after position (numbers_of (batch log v.clock v.no sh position limit)))
+        (position_after position (numbers_of (batch log v.clock v.no sh position limit)))
     read_end y end is ended = by (slice_get v.tree sh) refl is
       where
         by : (o : Option ShardState) → slice_get v.tree sh ≡ o → Some y ≡ option_map shown o
             → end ≡ ends_at log v.clock v.no sh
-            (place_after position (numbers_of (batch log v.clock v.no sh position limit)))
+            (position_after position (numbers_of (batch log v.clock v.no sh position limit)))
         by None e h = absurd cc
-        by (Some x) e h = ended ∙ sym (ends_is sh place y x l left e (same_some y (shown x) h) below at first)
-            ∙ ap (ends_at log v.clock v.no sh) (sym place_is)
+        by (Some x) e h = ended ∙ sym (ends_is sh reach y x l left e (same_some y (shown x) h) below at first)
+            ∙ ap (ends_at log v.clock v.no sh) (sym reach_is)
 
     -- A read of a shard that doesn't exist ends no shard: the result is false.
     pub read_no_end : (end : Bool) → None ≡ option_map shown (slice_get v.tree sh) → end ≡ false
         → end ≡ ends_at log v.clock v.no sh
-        (place_after position (numbers_of (batch log v.clock v.no sh position limit)))
+        (position_after position (numbers_of (batch log v.clock v.no sh position limit)))
     read_no_end end is open_still = by (slice_get v.tree sh) refl is
       where
         by : (o : Option ShardState) → slice_get v.tree sh ≡ o → None ≡ option_map shown o
             → end ≡ ends_at log v.clock v.no sh
-            (place_after position (numbers_of (batch log v.clock v.no sh position limit)))
+            (position_after position (numbers_of (batch log v.clock v.no sh position limit)))
         by (Some x) e h = absurd cc
         by None e h = open_still
             ∙ sym (ap (λ o. is_closed_at o
             && are_none (left_from log v.clock v.no sh
-            (place_after position (numbers_of (batch log v.clock v.no sh position limit))))) (shard_is sh ∙ e))
+            (position_after position (numbers_of (batch log v.clock v.no sh position limit))))) (shard_is sh ∙ e))
 
   -- ---- Records
 
-  pub records_expired : (iter : Iter) (limit : ℕ) → true ≡ is_old v.clock iter.issued
+  -- If the iterator is too old, GetRecords is refused with `Expired`.
+  pub records_expired : (iter : Iter) (limit : ℕ) → true ≡ is_expired_token v.clock iter.issued
       → Err refusal.Expired ≡ answer_of (get_records log v.clock iter limit)
   records_expired iter limit old = sym (ap answer_of (refused_if _ _ _ (sym old)))
 
@@ -269,7 +274,8 @@ module _ (v : StreamValue) (log : Journal) (show : Shows v log) where
         issued = iter.issued;
       } in get_records log v.clock i limit) (sym is)
 
-  pub records_unlisted : (iter : Iter) (limit : ℕ) → iter.stream ≡ v.no → false ≡ is_old v.clock iter.issued
+  -- If the iterator isn't too old, but the code finds no listed shard for it, GetRecords is refused with `NoShard`.
+  pub records_unlisted : (iter : Iter) (limit : ℕ) → iter.stream ≡ v.no → false ≡ is_expired_token v.clock iter.issued
       → None ≡ option_map shown (listed_at (floor_of v.cut) (slice_get v.tree iter.shard))
       → Err refusal.NoShard ≡ answer_of (get_records log v.clock iter limit)
   records_unlisted iter limit own young h =
@@ -278,49 +284,50 @@ module _ (v : StreamValue) (log : Journal) (show : Shows v log) where
       ∙ passed_if _ _ _ (ap not show.stored.live)
       ∙ refused_if _ _ _ (ap not (listed_is iter.shard ∙ unlisted (floor_of v.cut) (slice_get v.tree iter.shard) h))))
 
-  -- The reply, by whether the shard ends.
-  reply_by : (b : Bool) (sh place : ℕ) (rs : List Logged) → ends_at log v.clock v.no sh place ≡ b
-      → records_reply log v.clock v.no sh rs place
+  -- The reply to a GetRecords of shard `sh` with the batch `rs`, after which reading goes on at `reach`. If reading
+  -- ends there (`b`), the reply has the shard's children, and otherwise the next iterator.
+  reply_by : (b : Bool) (sh reach : ℕ) (rs : List Logged) → ends_at log v.clock v.no sh reach ≡ b
+      → records_reply log v.clock v.no sh rs reach
       ≡ Accepted [] (if b then reply.Records (map stored rs) None
-      (behind v.clock (left_from log v.clock v.no sh place)) (map shown (children log v.no sh)) else reply.Records
-      (map stored rs) (Some (iterator_at v.clock v.no sh place))
-      (behind v.clock (left_from log v.clock v.no sh place)) [])
-  reply_by b sh place rs is =
+      (behind v.clock (left_from log v.clock v.no sh reach)) (map shown (children log v.no sh)) else reply.Records
+      (map stored rs) (Some (iterator_at v.clock v.no sh reach))
+      (behind v.clock (left_from log v.clock v.no sh reach)) [])
+  reply_by b sh reach rs is =
       ap (λ c. Accepted [] (if c then reply.Records (map stored rs) None
-      (behind v.clock (left_from log v.clock v.no sh place)) (map shown (children log v.no sh)) else reply.Records
-      (map stored rs) (Some (iterator_at v.clock v.no sh place))
-      (behind v.clock (left_from log v.clock v.no sh place)) [])) is
+      (behind v.clock (left_from log v.clock v.no sh reach)) (map shown (children log v.no sh)) else reply.Records
+      (map stored rs) (Some (iterator_at v.clock v.no sh reach))
+      (behind v.clock (left_from log v.clock v.no sh reach)) [])) is
 
-  module _ (iter : Iter) (limit place : ℕ) (y : Shard) (l : LogValue) (left : Option ℕ) (items : List Stored) (ago : ℕ)
-      (own : iter.stream ≡ v.no) (young : false ≡ is_old v.clock iter.issued)
+  module _ (iter : Iter) (limit reach : ℕ) (y : Shard) (l : LogValue) (left : Option ℕ) (items : List Stored) (ago : ℕ)
+      (own : iter.stream ≡ v.no) (young : false ≡ is_expired_token v.clock iter.issued)
       (is : Some y ≡ option_map shown (listed_at (floor_of v.cut) (slice_get v.tree iter.shard)))
       (below : iter.shard < length v.logs) (at : l ≡ get_or v.logs iter.shard l)
       (taken : items ≡ map stored (batch_among (floor_of v.cut) iter.position limit l.kept))
-      (after : place ≡ place_after iter.position
+      (after : reach ≡ position_after iter.position
       (numbers_of (batch_among (floor_of v.cut) iter.position limit l.kept)))
-      (first : left ≡ first_arrival (left_among (floor_of v.cut) place l.kept))
+      (first : left ≡ first_arrival (left_among (floor_of v.cut) reach l.kept))
       (since : ago ≡ behind_by v.clock left) where
     replied : get_records log v.clock iter limit
-        ≡ records_reply log v.clock v.no iter.shard (batch_among (floor_of v.cut) iter.position limit l.kept) place
+        ≡ records_reply log v.clock v.no iter.shard (batch_among (floor_of v.cut) iter.position limit l.kept) reach
     replied =
         let has = has_state (floor_of v.cut) (slice_get v.tree iter.shard) y is in
         sym (records_by iter limit own)
         ∙ passed_if _ _ _ (sym young)
         ∙ passed_if _ _ _ (ap not show.stored.live)
         ∙ passed_if _ _ _ (ap not (listed_is iter.shard ∙ has.listed))
-        ∙ ap (λ rs. records_reply log v.clock v.no iter.shard rs (place_after iter.position (numbers_of rs)))
+        ∙ ap (λ rs. records_reply log v.clock v.no iter.shard rs (position_after iter.position (numbers_of rs)))
         (batch_is v log show iter.shard l below at iter.position limit)
         ∙ ap (λ p. records_reply log v.clock v.no iter.shard (batch_among (floor_of v.cut) iter.position limit l.kept)
         p) (sym after)
 
-    ends : ends_at log v.clock v.no iter.shard place ≡ (is_some y.end && is_none left)
+    ends : ends_at log v.clock v.no iter.shard reach ≡ (is_some y.end && is_none left)
     ends =
         let has = has_state (floor_of v.cut) (slice_get v.tree iter.shard) y is in
-        ends_is iter.shard place y has.state l left has.at has.is_shown below at first
+        ends_is iter.shard reach y has.state l left has.at has.is_shown below at first
 
-    behind_is : behind v.clock (left_from log v.clock v.no iter.shard place) ≡ ago
-    behind_is = ap (behind v.clock) (left_is v log show iter.shard l below at place)
-        ∙ behind_first v.clock (left_among (floor_of v.cut) place l.kept) ∙ ap (behind_by v.clock) (sym first)
+    behind_is : behind v.clock (left_from log v.clock v.no iter.shard reach) ≡ ago
+    behind_is = ap (behind v.clock) (left_is v log show iter.shard l below at reach)
+        ∙ behind_first v.clock (left_among (floor_of v.cut) reach l.kept) ∙ ap (behind_by v.clock) (sym first)
         ∙ sym since
 
     -- If the read ends the shard, GetRecords answers with the batch and the shard's children, and without an iterator.
@@ -329,9 +336,9 @@ module _ (v : StreamValue) (log : Journal) (show : Shows v log) where
         → Ok (reply.Records items None ago after_it) ≡ answer_of (get_records log v.clock iter limit)
     records_end after_it ended are =
         sym (ap answer_of (replied
-        ∙ reply_by true iter.shard place (batch_among (floor_of v.cut) iter.position limit l.kept) (ends
+        ∙ reply_by true iter.shard reach (batch_among (floor_of v.cut) iter.position limit l.kept) (ends
         ∙ sym ended))
-        ∙ ap (λ xs. Ok (reply.Records xs None (behind v.clock (left_from log v.clock v.no iter.shard place))
+        ∙ ap (λ xs. Ok (reply.Records xs None (behind v.clock (left_from log v.clock v.no iter.shard reach))
         (map shown (children log v.no iter.shard)))) (sym taken)
         ∙ ap (λ n. Ok (reply.Records items None n (map shown (children log v.no iter.shard)))) behind_is
         ∙ ap (λ xs. Ok (reply.Records items None ago (map shown (children_among iter.shard xs)))) show.stored.shards_are
@@ -339,13 +346,13 @@ module _ (v : StreamValue) (log : Journal) (show : Shows v log) where
 
     -- If the read doesn't end the shard, GetRecords answers with the batch and the next iterator, and without children.
     pub records_more : (none : List Shard) → false ≡ (is_some y.end && is_none left) → none ≡ []
-        → Ok (reply.Records items (Some (iterator_at v.clock v.no iter.shard place)) ago none)
+        → Ok (reply.Records items (Some (iterator_at v.clock v.no iter.shard reach)) ago none)
         ≡ answer_of (get_records log v.clock iter limit)
     records_more none ended are =
         sym (ap answer_of (replied
-        ∙ reply_by false iter.shard place (batch_among (floor_of v.cut) iter.position limit l.kept) (ends
+        ∙ reply_by false iter.shard reach (batch_among (floor_of v.cut) iter.position limit l.kept) (ends
         ∙ sym ended))
-        ∙ ap (λ xs. Ok (reply.Records xs (Some (iterator_at v.clock v.no iter.shard place))
-        (behind v.clock (left_from log v.clock v.no iter.shard place)) [])) (sym taken)
-        ∙ ap (λ n. Ok (reply.Records items (Some (iterator_at v.clock v.no iter.shard place)) n [])) behind_is
-        ∙ ap (λ xs. Ok (reply.Records items (Some (iterator_at v.clock v.no iter.shard place)) ago xs)) (sym are))
+        ∙ ap (λ xs. Ok (reply.Records xs (Some (iterator_at v.clock v.no iter.shard reach))
+        (behind v.clock (left_from log v.clock v.no iter.shard reach)) [])) (sym taken)
+        ∙ ap (λ n. Ok (reply.Records items (Some (iterator_at v.clock v.no iter.shard reach)) n [])) behind_is
+        ∙ ap (λ xs. Ok (reply.Records items (Some (iterator_at v.clock v.no iter.shard reach)) ago xs)) (sym are))

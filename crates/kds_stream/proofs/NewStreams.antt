@@ -67,7 +67,7 @@ abbrev pub new_value : ℕ → ℕ → List ℕ → List ShardState → List Log
 new_value s made name tree logs windows cut cut_before = record {
   no = s;
   name = name;
-  made = made;
+  made_at = made;
   hours = FIRST_HOURS;
   tree = tree;
   logs = logs;

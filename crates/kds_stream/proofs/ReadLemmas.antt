@@ -10,7 +10,7 @@ use Rattle.kds_defs.specs.Streams.{floor_of, trim_floor}
 use Rattle.kds_log.specs.Log.{LogValue, first_arrival}
 use Rattle.kds_stream.proofs.Clocks.{left_twice}
 use Rattle.kds_stream_logs.proofs.LogLemmas.{all_at}
-use Rattle.kds_stream_logs.specs.Reading.{batch_among, behind_by}
+use Rattle.kds_stream_logs.specs.Batches.{batch_among, behind_by}
 use Rattle.kds_stream.specs.Showing.{AreKept, IsKept, Shows}
 use Rattle.kds_stream_logs.specs.Logs.{IsBelow, IsUnder}
 use Rattle.kds_stream.specs.Value.{IsStream, StreamValue}

@@ -35,8 +35,9 @@ use Rattle.kds_stream_logs.specs.declared.routes.Routed.{Routed}
 use Rattle.kds_stream_logs.specs.declared.routes.Routes.{Routes}
 use Rattle.kds_stream_logs.specs.Rating.{StandFor}
 use Rattle.kds_stream.specs.Rating.{AreRated, ShowsRates}
-use Rattle.kds_stream_logs.specs.Routes.{AreInTurn, AreRouted, CanTake, IsWithin, after_item, after_items, after_number}
-use Rattle.kds_stream_logs.specs.Routes.{is_held}
+use Rattle.kds_stream_logs.specs.Routes.{AreRoutedInOrder, AreRouted, CanTake, IsWithin, after_item, after_items}
+use Rattle.kds_stream_logs.specs.Routes.{after_number}
+use Rattle.kds_stream_logs.specs.Routes.{is_throttled_item}
 use Rattle.kds_stream_logs.specs.Routes.{outcome_of, outcomes, taken, routed_items, settled_each, with_each}
 use Rattle.kds_stream.specs.Showing.{Shows, ShowsStored}
 use Rattle.kds_stream_logs.specs.Logs.{IsBelow, settled_at, with_appended}
@@ -48,7 +49,7 @@ use Rattle.kds_stream_logs.proofs.Routings.{IsFrom, all_from, apart, turns}
 -- Which items are taken of a list whose first item is `item`. `b` says whether this item is held back. The other items
 -- are judged after it.
 taken_at : (xs : List ShardState) (c : ℕ) (on : Bool) (f : ℕ → List SizedPut) (item : NewItem) (items : List NewItem)
-    (b : Bool) → is_held xs c on f item ≡ b
+    (b : Bool) → is_throttled_item xs c on f item ≡ b
     → taken xs c on f (item ∷ items)
     ≡ (if b then taken xs c on (after_item xs c f item b) items else item
     ∷ taken xs c on (after_item xs c f item b) items)
@@ -57,12 +58,12 @@ taken_at xs c on f item items b is =
     ∷ taken xs c on (after_item xs c f item d) items) is
 
 after_at : (xs : List ShardState) (c : ℕ) (on : Bool) (f : ℕ → List SizedPut) (item : NewItem) (items : List NewItem)
-    (b : Bool) (sh : ℕ) → is_held xs c on f item ≡ b
+    (b : Bool) (sh : ℕ) → is_throttled_item xs c on f item ≡ b
     → after_items xs c on f (item ∷ items) sh ≡ after_items xs c on (after_item xs c f item b) items sh
 after_at xs c on f item items b sh is = ap (λ d. after_items xs c on (after_item xs c f item d) items sh) is
 
 outcomes_at : (xs : List ShardState) (c : ℕ) (on : Bool) (f : ℕ → List SizedPut) (n : ℕ) (item : NewItem)
-    (items : List NewItem) (b : Bool) → is_held xs c on f item ≡ b
+    (items : List NewItem) (b : Bool) → is_throttled_item xs c on f item ≡ b
     → outcomes xs c on f n (item ∷ items) ≡ outcome_of xs n item b
     ∷ outcomes xs c on (after_item xs c f item b) (after_number n b) items
 outcomes_at xs c on f n item items b is =
@@ -83,9 +84,11 @@ can_take v items rs is are within =
       arrival = arrived_later v.clock_before r.item.arrival v.logs (omega (arith, is.order, f.arrival)) is.arrivals;
     }) rs within from
 
-pub in_turn : (v : StreamValue) (items : List NewItem) (rs : List Routed)
-    → rs ≡ routed_items v.tree v.clock v.next items → AreInTurn rs
-in_turn v items rs are = subst AreInTurn (sym are) (turns v.tree v.clock v.next items)
+-- The records of items that get consecutive sequence numbers are in order, each before all later ones
+-- (`AreRoutedInOrder`).
+pub in_order : (v : StreamValue) (items : List NewItem) (rs : List Routed)
+    → rs ≡ routed_items v.tree v.clock v.next items → AreRoutedInOrder rs
+in_order v items rs are = subst AreRoutedInOrder (sym are) (turns v.tree v.clock v.next items)
 
 -- ---- What the stream shows after the puts
 
@@ -143,7 +146,7 @@ puts_stay v log by item f shards_are same n =
 
 judged : (v : StreamValue) (log : Journal) (item : NewItem) (f : ℕ → List SizedPut) → shards log v.no ≡ v.tree
     → is_enforced log v.no ≡ v.enforced → ((n : ℕ) → f n ≡ puts log v.no n)
-    → is_held_back log v.clock v.no item ≡ is_held v.tree v.clock v.enforced f item
+    → is_held_back log v.clock v.no item ≡ is_throttled_item v.tree v.clock v.enforced f item
 judged v log item f shards_are enforces same =
     held_is log v.clock v.no v.tree item v.enforced (home_among (filter is_open v.tree) item.hash) (item_bytes item)
     (f (home_among (filter is_open v.tree) item.hash)) shards_are enforces refl refl
@@ -163,14 +166,14 @@ pub puts_told : (items : List NewItem) (v : StreamValue) (log : Journal) (by n :
     → ((m : ℕ) → f m ≡ puts log v.no m) → Told v log by n f items
 puts_told [] v log by n f shards_are enforces number same = record { many = refl; so = refl }
 puts_told (item ∷ items) v log by n f shards_are enforces number same =
-    by_held (is_held v.tree v.clock v.enforced f item) refl
+    by_held (is_throttled_item v.tree v.clock v.enforced f item) refl
     (puts_told items v log by n f shards_are enforces number same)
     (puts_told items v (put_line log v.clock by v.no (next_number log v.no) item ∷ log) by (n + 1)
     (after_item v.tree v.clock f item false) shards_are enforces
     (one_more (v.no == v.no) (next_number log v.no) n (is_equal v.no v.no refl) number)
     (puts_stay v log by item f shards_are same))
   where
-    by_held : (b : Bool) → is_held v.tree v.clock v.enforced f item ≡ b → Told v log by n f items
+    by_held : (b : Bool) → is_throttled_item v.tree v.clock v.enforced f item ≡ b → Told v log by n f items
         → Told v (put_line log v.clock by v.no (next_number log v.no) item ∷ log) by (n + 1)
         (after_item v.tree v.clock f item false) items
         → Told v log by n f (item ∷ items)
@@ -239,13 +242,13 @@ shows_puts [] v log by f enforces same none within trims shown = record {
   };
 }
 shows_puts (item ∷ items) v log by f enforces same none within trims shown =
-    by_held (is_held v.tree v.clock v.enforced f item) refl
+    by_held (is_throttled_item v.tree v.clock v.enforced f item) refl
     (λ inside. shows_puts items v log by f enforces same none inside trims shown)
     (λ none' inside one. shows_puts items (after_one v item) (put_line log v.clock by v.no (next_number log v.no) item
     ∷ log) by (after_item v.tree v.clock f item false) enforces
     (puts_stay v log by item f shown.shards_are same) none' inside trims one)
   where
-    by_held : (b : Bool) → is_held v.tree v.clock v.enforced f item ≡ b
+    by_held : (b : Bool) → is_throttled_item v.tree v.clock v.enforced f item ≡ b
         → (AllByRecursion (IsWithin (length v.tree))
         (routed_items v.tree v.clock v.next (taken v.tree v.clock v.enforced f items)) → Stores v log by f items)
         → (((sh : ℕ) → length v.tree ≤ sh → after_item v.tree v.clock f item false sh ≡ [])

@@ -10,7 +10,7 @@ value_of s =
     record {
       no = s.no;
       name = s.name;
-      made = s.made;
+      made_at = s.made_at;
       hours = s.hours;
       tree = s.tree.shards;
       logs = map log_of s.logs.items;

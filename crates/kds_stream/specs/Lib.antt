@@ -1,5 +1,5 @@
 pub mod Fields
-pub mod Reading
+pub mod ReadEnds
 pub mod Rating
 pub mod Serving
 pub mod Showing

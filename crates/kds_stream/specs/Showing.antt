@@ -43,7 +43,7 @@ pub record ShowsFields (v : StreamValue) (log : Journal) : Type 0 where
   pub live : is_live log v.no ≡ true
   pub was : was_made log v.no ≡ true
   pub named : name_of log v.no ≡ v.name
-  pub made_is : made_at log v.no ≡ v.made
+  pub made_is : made_at log v.no ≡ v.made_at
   pub hours_are : hours log v.no ≡ v.hours
   pub shards_are : shards log v.no ≡ v.tree
   pub next_is : next_number log v.no ≡ v.next

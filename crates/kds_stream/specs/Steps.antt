@@ -28,7 +28,7 @@ are_spent next count steps = nat_lt last_number (next + length steps) || nat_lt 
 pub record IsPlan (v : StreamValue) (target : ℕ) (steps : List ScaleStep) : Type 0 where
   pub are : steps ≡ scale (starts_in v.tree) target
   pub leads : LeadTo steps (starts_in v.tree) (uniform_starts target)
-  pub free : are_spent v.next (length v.tree) steps ≡ false
+  pub unspent : are_spent v.next (length v.tree) steps ≡ false
 
 -- The decision on UpdateShardCount, which scales the live stream `s` with the name `name` to `target` shards. If `full`
 -- is true, more shards would be open than may be, and the command is refused with `Full`.

@@ -1,7 +1,7 @@
 -- The value that represents a stream in contracts, its invariant, and what the functions of a stream change in it. A
 -- retreat sets a stream's clock and cut back to `clock_before` and `cut_before`.
 use Rattle.std.specs.Prelude.{ℕ, ◌≡◌, ◌<◌, ◌≤◌, ◌-◌, ◌*◌, ◌^◌, max, Bool, false, not, nat_lt, if◌then◌else◌, List}
-use Rattle.std.specs.Prelude.{length, Option, Some, None}
+use Rattle.std.specs.Prelude.{length, IfOk, OnErr, OnOk, Option, Result, Some, None}
 use Rattle.std.specs.List.{AllByRecursion, filter}
 use Rattle.kds_base.specs.Circle.{next_of}
 use Rattle.kds_defs.specs.declared.limits.TheConstants.{HOUR, OPEN_SHARDS}
@@ -20,7 +20,7 @@ use Rattle.kds_stream_logs.specs.Logs.{HasArrived, IsBelow, settled_at}
 pub record StreamValue : Type 0 where
   pub no : ℕ
   pub name : List ℕ
-  pub made : ℕ
+  pub made_at : ℕ
   pub hours : ℕ
   pub tree : List ShardState
   pub logs : List LogValue
@@ -66,16 +66,26 @@ abbrev pub KeepsFields : StreamValue → StreamValue → Type 0
 KeepsFields new old = (new.no ≡ old.no) × (new.name ≡ old.name) × (new.clock ≡ old.clock)
     × (new.next_to_settle ≡ old.next_to_settle)
 
--- After a change, the time at which the stream was made, its retention and its cut are as before. Going back to before
--- the last advance leaves the present clock and cut.
-pub record IsChangedAt (old new : StreamValue) : Type 0 where
-  pub made : new.made ≡ old.made
+-- A change of the stream `old` to `new` keeps its time of making, its retention and its cut. From now on, a retreat
+-- goes back to the clock and the cut of `old`.
+pub record KeepsRetention (old new : StreamValue) : Type 0 where
+  pub made : new.made_at ≡ old.made_at
   pub hours : new.hours ≡ old.hours
   pub cut : new.cut ≡ old.cut
   pub clock_before : new.clock_before ≡ old.clock
   pub cut_before : new.cut_before ≡ old.cut
 
--- The cut at `clock` by a retention of `hours` hours alone. What happened at or before the cut is trimmed.
+-- A call answered a command with `result`, and changed the stream `old` to `new`. The change always keeps the fields of
+-- `KeepsFields`. If the command was refused or memory ran out, nothing changed. If the command was accepted, the time
+-- of making, the retention and the cut are kept too (`KeepsRetention`).
+pub record ChangesIfAccepted {A B C : Type 0} (old new : StreamValue) (result : Result (Result A B) C) : Type 0 where
+  pub fields : KeepsFields new old
+  pub refused : IfOk result (λ a. OnErr a (new ≡ old))
+  pub changed : IfOk result (λ a. OnOk a (KeepsRetention old new))
+  pub kept : OnErr result (new ≡ old)
+
+-- The cut at the clock `clock` by a retention of `hours` hours alone: the clock minus the retention, or `None` if this
+-- is negative. What happened at or before the cut is trimmed.
 abbrev pub cut_at : ℕ → ℕ → Option ℕ
 cut_at clock hours = if nat_lt clock (hours * HOUR) then None else Some (clock - hours * HOUR)
 
@@ -89,7 +99,7 @@ later_cut (Some a) (Some b) = Some (max a b)
 -- is kept. Its cut is the later one of the cut before and the cut by the new retention, and a retreat goes back to the
 -- clock of `old` and this cut.
 pub record IsKeptAt (wanted : ℕ) (old new : StreamValue) : Type 0 where
-  pub made : new.made ≡ old.made
+  pub made : new.made_at ≡ old.made_at
   pub hours : new.hours ≡ wanted
   pub cut : new.cut ≡ later_cut old.cut (cut_at old.clock wanted)
   pub clock_before : new.clock_before ≡ old.clock

@@ -37,7 +37,7 @@ use std::marker::Model;
 pub struct Stream {
     no: StreamNo,
     name: Name,
-    made: Moment,
+    made_at: Moment,
     hours: u32,
     tree: ShardTree,
     logs: Vec<ShardLog>,
@@ -75,14 +75,14 @@ impl Stream {
         alloc: Global,
         no: StreamNo,
         name: Name,
-        made: Moment,
+        made_at: Moment,
         shards: u32,
     ) -> Result<Stream, Memory>
         requires { IsShardCount shards }
         ensures shows { (log : Journal) (by : ℕ) → IsFresh log no
-            → IfOk result (λ v. Shows v (plain_line made by (entry.Made no name shards) ∷ log)) }
-        ensures fields { IfOk result (λ v. (v.no ≡ no) × (v.name ≡ name) × (v.clock ≡ made)) }
-        ensures made { IfOk result (λ v. v.made ≡ made) }
+            → IfOk result (λ v. Shows v (plain_line made_at by (entry.Made no name shards) ∷ log)) }
+        ensures fields { IfOk result (λ v. (v.no ≡ no) × (v.name ≡ name) × (v.clock ≡ made_at)) }
+        ensures made_at { IfOk result (λ v. v.made_at ≡ made_at) }
         ensures hours { IfOk result (λ v. v.hours ≡ FIRST_HOURS) }
     {
         let tree = ShardTree::new(alloc, shards)?;
@@ -91,17 +91,17 @@ impl Stream {
         Ok(Stream {
             no,
             name,
-            made,
+            made_at,
             hours: FIRST_HOURS,
             tree,
             logs,
             windows,
             enforced: false,
             next: Seq(1),
-            clock: made,
-            cut: cut_at(made, FIRST_HOURS),
-            clock_before: made,
-            cut_before: cut_at(made, FIRST_HOURS),
+            clock: made_at,
+            cut: cut_at(made_at, FIRST_HOURS),
+            clock_before: made_at,
+            cut_before: cut_at(made_at, FIRST_HOURS),
             next_to_settle: 0,
         })
     }

@@ -11,7 +11,7 @@ use Rattle.kds_defs.specs.declared.limits.TheConstants.{BATCH_BYTES}
 use Rattle.kds_defs.specs.Listings.{last_no}
 use Rattle.kds_defs.specs.Records.{Logged, beginning, first_at, is_left, stored}
 use Rattle.kds_log.specs.Log.{IsOrderly, IsUpTo, LogValue, first_number, since}
-use Rattle.kds_stream_logs.specs.Reading.{batch_among}
+use Rattle.kds_stream_logs.specs.Batches.{batch_among}
 use Rattle.kds_stream_logs.specs.Logs.{IsBelow, IsUnder}
 
 -- ---- The last shard of a page

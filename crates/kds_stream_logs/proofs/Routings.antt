@@ -19,8 +19,10 @@ use Rattle.kds_stream_logs.proofs.Rates.{stand_along}
 use Rattle.kds_stream_logs.specs.declared.routes.Routed.{Routed}
 use Rattle.kds_stream_logs.specs.declared.routes.Routes.{Routes}
 use Rattle.kds_stream_logs.specs.Rating.{StandFor}
-use Rattle.kds_stream_logs.specs.Routes.{AreInTurn, ArePlaced, AreRouted, CanTake, CanTakeAll, GoesOn, IsRouted}
-use Rattle.kds_stream_logs.specs.Routes.{IsSooner, IsWithin, after_item, after_items, after_number, is_held, outcome_of}
+use Rattle.kds_stream_logs.specs.Routes.{AreRoutedInOrder, AreOfRecords, AreRouted, CanTake, CanTakeAll, GoesOn}
+use Rattle.kds_stream_logs.specs.Routes.{IsRouted}
+use Rattle.kds_stream_logs.specs.Routes.{IsSooner, IsWithin, after_item, after_items, after_number, is_throttled_item}
+use Rattle.kds_stream_logs.specs.Routes.{outcome_of}
 use Rattle.kds_stream_logs.specs.Routes.{outcomes, taken, is_place_of, is_routed_to, place_of, reserved_at, routed_item}
 use Rattle.kds_stream_logs.specs.Routes.{routed_items, stored_item, with_each}
 use Rattle.kds_stream_logs.specs.Logs.{HasArrived, IsBelow, with_appended}
@@ -168,9 +170,9 @@ module _ (ls : List LogWithReserve) (i : ℕ) (d l : LogWithReserve) (r : Routed
   pub taken_one : CanTakeAll (slice_set ls i l) rs
   taken_one = record {
     each = all_both (IsSooner r) (CanTake (map log_of ls)) (CanTake (map log_of (slice_set ls i l)))
-        take_more rs can.in_turn.0 can.each.1;
+        take_more rs can.in_order.0 can.each.1;
     reserved = λ sh. used_by sh (r.shard == sh) refl;
-    in_turn = can.in_turn.1;
+    in_order = can.in_order.1;
   }
 
   -- Appending the other records then gives what appending all records gives from the start.
@@ -185,7 +187,7 @@ module _ (ls : List LogWithReserve) (i : ℕ) (d l : LogWithReserve) (r : Routed
 module _ (xs : List ShardState) (c : ℕ) (on : Bool) (f : ℕ → List SizedPut) (n : ℕ) (whole items rest : List NewItem)
     (item : NewItem) (r q : Routes) (us ws : List WindowValue) (are : items ≡ item ∷ rest)
     (h : GoesOn xs c on f n whole items r us) (one : IsRouted xs c on h.present item r q ws) where
-  routed_by : (b : Bool) → is_held xs c on h.present item ≡ b
+  routed_by : (b : Bool) → is_throttled_item xs c on h.present item ≡ b
       → q.routed.items ++ routed_items xs c q.next (taken xs c on (after_item xs c h.present item b) rest)
       ≡ r.routed.items ++ routed_items xs c r.next
       (if b then taken xs c on (after_item xs c h.present item b) rest else item
@@ -205,7 +207,7 @@ module _ (xs : List ShardState) (c : ℕ) (on : Bool) (f : ℕ → List SizedPut
       ∙ append_assoc r.routed.items (routed_item xs c r.next item ∷ []) (routed_items xs c q.next ts)
       ∙ ap (λ k. r.routed.items ++ routed_item xs c r.next item ∷ routed_items xs c k ts) number
 
-  number_by : (b : Bool) → is_held xs c on h.present item ≡ b
+  number_by : (b : Bool) → is_throttled_item xs c on h.present item ≡ b
       → q.next + length (taken xs c on (after_item xs c h.present item b) rest)
       ≡ r.next + length (if b then taken xs c on (after_item xs c h.present item b) rest else item
       ∷ taken xs c on (after_item xs c h.present item b) rest)
@@ -217,21 +219,23 @@ module _ (xs : List ShardState) (c : ℕ) (on : Bool) (f : ℕ → List SizedPut
   -- If `GoesOn` holds before the item is routed, it holds after it, with `rest` as the items that are left.
   pub goes_on : GoesOn xs c on f n whole rest q ws
   goes_on = record {
-    present = after_item xs c h.present item (is_held xs c on h.present item);
+    present = after_item xs c h.present item (is_throttled_item xs c on h.present item);
     stand = one.stand;
     after = λ sh. ap (λ ys. after_items xs c on h.present ys sh) (sym are) ∙ h.after sh;
-    routed = routed_by (is_held xs c on h.present item) refl
+    routed = routed_by (is_throttled_item xs c on h.present item) refl
         ∙ ap (λ ys. r.routed.items ++ routed_items xs c r.next (taken xs c on h.present ys)) (sym are) ∙ h.routed;
     outcomes_are =
-        ap (λ os. os ++ outcomes xs c on (after_item xs c h.present item (is_held xs c on h.present item)) q.next rest)
+        ap (λ os. os ++ outcomes xs c on (after_item xs c h.present item (is_throttled_item xs c on h.present item))
+        q.next rest)
         one.outcomes_are
-        ∙ append_assoc r.outcomes (outcome_of xs r.next item (is_held xs c on h.present item) ∷ [])
-        (outcomes xs c on (after_item xs c h.present item (is_held xs c on h.present item)) q.next rest)
-        ∙ ap (λ k. r.outcomes ++ outcome_of xs r.next item (is_held xs c on h.present item)
-        ∷ outcomes xs c on (after_item xs c h.present item (is_held xs c on h.present item)) k rest) one.next_is
+        ∙ append_assoc r.outcomes (outcome_of xs r.next item (is_throttled_item xs c on h.present item) ∷ [])
+        (outcomes xs c on (after_item xs c h.present item (is_throttled_item xs c on h.present item)) q.next rest)
+        ∙ ap (λ k. r.outcomes ++ outcome_of xs r.next item (is_throttled_item xs c on h.present item)
+        ∷ outcomes xs c on (after_item xs c h.present item (is_throttled_item xs c on h.present item)) k rest)
+        one.next_is
         ∙ ap (λ ys. r.outcomes ++ outcomes xs c on h.present r.next ys) (sym are)
         ∙ h.outcomes_are;
-    next_is = number_by (is_held xs c on h.present item) refl
+    next_is = number_by (is_throttled_item xs c on h.present item) refl
         ∙ ap (λ ys. r.next + length (taken xs c on h.present ys)) (sym are) ∙ h.next_is;
   }
 
@@ -263,7 +267,7 @@ routed-append xs c n (x ∷ items) item =
 
 -- Routes without records and places are those of no items: `AreOfRecords` holds, and their next sequence number is `n`.
 pub placed_none : (xs : List ShardState) (c n : ℕ) (r : Routes) → r.routed.items ≡ [] → r.places ≡ [] → r.next ≡ n
-    → n < 2 ^ 64 → ArePlaced xs c n r
+    → n < 2 ^ 64 → AreOfRecords xs c n r
 placed_none xs c n r none no_place number below = record {
   items = [];
   are = none;
@@ -276,7 +280,7 @@ placed_none xs c n r none no_place number below = record {
 -- If `AreOfRecords` holds of the routes `r`, it holds of the routes `q`, which have the same records, places and next
 -- sequence number.
 pub placed_same : (xs : List ShardState) (c n : ℕ) (r q : Routes) → q.routed.items ≡ r.routed.items
-    → q.places ≡ r.places → q.next ≡ r.next → ArePlaced xs c n r → ArePlaced xs c n q
+    → q.places ≡ r.places → q.next ≡ r.next → AreOfRecords xs c n r → AreOfRecords xs c n q
 placed_same xs c n r q same there number placed = record {
   items = placed.items;
   are = same ∙ placed.are;
@@ -291,7 +295,7 @@ placed_same xs c n r q same there number placed = record {
 pub placed_more : (xs : List ShardState) (c n sh : ℕ) (r q : Routes) (item : NewItem)
     → sh ≡ home_among (filter is_open xs) item.hash → q.routed.items ≡ r.routed.items ++ stored_item sh c r.next item
     ∷ [] → q.places ≡ r.places ++ place_of (stored_item sh c r.next item) ∷ [] → q.next ≡ r.next + 1 → q.next < 2 ^ 64
-    → sh < length xs → ArePlaced xs c n r → ArePlaced xs c n q
+    → sh < length xs → AreOfRecords xs c n r → AreOfRecords xs c n q
 placed_more xs c n sh r q item at more there number fits inside placed =
     let x : Routed = stored_item sh c r.next item in
     let many : length (placed.items ++ item ∷ []) ≡ length placed.items + 1 = length-append placed.items (item ∷ []) in
@@ -339,7 +343,9 @@ all_from xs clock first n [] le = tt
 all_from xs clock first n (item ∷ items) le =
     (record { number = le; arrival = refl }, all_from xs clock first (n + 1) items (omega arith))
 
-pub turns : (xs : List ShardState) (clock n : ℕ) (items : List NewItem) → AreInTurn (routed_items xs clock n items)
+-- The records of items with sequence numbers from `n` on are in the order of their numbers and times.
+pub turns : (xs : List ShardState) (clock n : ℕ) (items : List NewItem)
+    → AreRoutedInOrder (routed_items xs clock n items)
 turns xs clock n [] = tt
 turns xs clock n (item ∷ items) = (
   all_weaker (IsFrom (n + 1) clock) (IsSooner (routed_item xs clock n item))
@@ -366,13 +372,13 @@ places_within ls rs ps placed can =
 -- If each record may be appended to the logs, the records are in order, and memory is reserved for the places of all of
 -- them, the logs can take all of them (`CanTakeAll`).
 pub can_take_all : (before : List LogValue) (ls : List LogWithReserve) (rs : List Routed) (ps : List Place)
-    → ps ≡ map place_of rs → map log_of ls ≡ before → AllByRecursion (CanTake before) rs → AreInTurn rs
+    → ps ≡ map place_of rs → map log_of ls ≡ before → AllByRecursion (CanTake before) rs → AreRoutedInOrder rs
     → ((sh : ℕ) → count_by (is_place_of sh) ps ≤ reserved_at ls sh) → CanTakeAll ls rs
 can_take_all before ls rs ps placed same can turns reserved = record {
   each = subst (λ (ms : List LogValue). AllByRecursion (CanTake ms) rs) (sym same) can;
   reserved = λ sh. subst (λ n. n ≤ reserved_at ls sh) (ap (count_by (is_place_of sh)) placed ∙ count_routed rs sh)
       (reserved sh);
-  in_turn = turns;
+  in_order = turns;
 }
 
 -- ---- Shards that exist and others

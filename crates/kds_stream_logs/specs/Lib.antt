@@ -1,5 +1,5 @@
 pub mod Logs
-pub mod Reading
+pub mod Batches
 pub mod Rating
 pub mod Routes
 pub mod Saved

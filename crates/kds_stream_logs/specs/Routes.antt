@@ -35,9 +35,11 @@ routed_items xs clock n (item ∷ items) = routed_item xs clock n item ∷ route
 
 -- ---- What the throughput limits hold back
 
--- Whether the limits are on, and `item` is more than its home accepts after the puts `f`.
-abbrev pub is_held : List ShardState → ℕ → Bool → (ℕ → List SizedPut) → NewItem → Bool
-is_held xs clock on f item = on && is_throttled (f (home_among (filter is_open xs) item.hash)) clock (item_bytes item)
+-- Whether the limits are on (`on`), and the home of `item` doesn't accept it any more at the time `clock`, because it
+-- has already accepted too much within a second. The puts of each shard so far are `f`.
+abbrev pub is_throttled_item : List ShardState → ℕ → Bool → (ℕ → List SizedPut) → NewItem → Bool
+is_throttled_item xs clock on f item =
+    on && is_throttled (f (home_among (filter is_open xs) item.hash)) clock (item_bytes item)
 
 -- The puts of each shard after `item`, if they were `f` before it. If the Boolean is true, the item is held back, and
 -- no put is added. Otherwise its put is added in its home.
@@ -50,15 +52,16 @@ after_item xs clock f item false =
 abbrev pub after_items : List ShardState → ℕ → Bool → (ℕ → List SizedPut) → List NewItem → ℕ → List SizedPut
 after_items xs clock on f [] = f
 after_items xs clock on f (item ∷ items) =
-    after_items xs clock on (after_item xs clock f item (is_held xs clock on f item)) items
+    after_items xs clock on (after_item xs clock f item (is_throttled_item xs clock on f item)) items
 
 -- The items of a list that aren't held back by the limits, in order. Each item is judged by the puts of those before
 -- it, and before all of them the puts of each shard are `f`.
 abbrev pub taken : List ShardState → ℕ → Bool → (ℕ → List SizedPut) → List NewItem → List NewItem
 taken xs clock on f [] = []
 taken xs clock on f (item ∷ items) =
-    let rest : List NewItem = taken xs clock on (after_item xs clock f item (is_held xs clock on f item)) items in
-    if is_held xs clock on f item then rest else item ∷ rest
+    let rest : List NewItem =
+    taken xs clock on (after_item xs clock f item (is_throttled_item xs clock on f item)) items in
+    if is_throttled_item xs clock on f item then rest else item ∷ rest
 
 -- The stream's next sequence number after an item, if it was `n` before it. If the Boolean is true, the item is held
 -- back and draws no number.
@@ -77,7 +80,7 @@ outcome_of xs n item false = outcome.Stored (record { shard = home_among (filter
 abbrev pub outcomes : List ShardState → ℕ → Bool → (ℕ → List SizedPut) → ℕ → List NewItem → List Outcome
 outcomes xs clock on f n [] = []
 outcomes xs clock on f n (item ∷ items) =
-    let held : Bool = is_held xs clock on f item in
+    let held : Bool = is_throttled_item xs clock on f item in
     outcome_of xs n item held ∷ outcomes xs clock on (after_item xs clock f item held) (after_number n held) items
 
 -- The shard and the sequence number of the record `r`.
@@ -109,10 +112,10 @@ reserved_at (l ∷ ls) (suc n) = reserved_at ls n
 abbrev pub IsSooner : Routed → Routed → Type 0
 IsSooner a b = (a.item.seq < b.item.seq) × (a.item.arrival ≤ b.item.arrival)
 
--- Each record of a list is sooner than those that follow it.
-abbrev pub AreInTurn : List Routed → Type 0
-AreInTurn [] = Unit {0}
-AreInTurn (r ∷ rs) = AllByRecursion (IsSooner r) rs × AreInTurn rs
+-- Each record of a list has a lower sequence number than those after it, and arrived no later.
+abbrev pub AreRoutedInOrder : List Routed → Type 0
+AreRoutedInOrder [] = Unit {0}
+AreRoutedInOrder (r ∷ rs) = AllByRecursion (IsSooner r) rs × AreRoutedInOrder rs
 
 -- The record `r` may be appended to the logs `ls`: its shard has a log, its sequence number is above all that were ever
 -- appended to any log, and it arrived no earlier than the records in them.
@@ -134,7 +137,7 @@ is_place_of sh p = p.shard == sh
 pub record CanTakeAll (ls : List LogWithReserve) (rs : List Routed) : Type 0 where
   pub each : AllByRecursion (CanTake (map log_of ls)) rs
   pub reserved : (sh : ℕ) → count_by (is_routed_to sh) rs ≤ reserved_at ls sh
-  pub in_turn : AreInTurn rs
+  pub in_order : AreRoutedInOrder rs
 
 -- ---- What routing makes of items
 
@@ -144,12 +147,13 @@ pub record CanTakeAll (ls : List LogWithReserve) (rs : List Routed) : Type 0 whe
 pub record IsRouted (xs : List ShardState) (clock : ℕ) (on : Bool) (f : ℕ → List SizedPut) (item : NewItem)
     (before after : Routes)
     (ws : List WindowValue) : Type 0 where
-  pub stand : StandFor (after_item xs clock f item (is_held xs clock on f item)) 0 ws
-  pub routed : after.routed.items ≡ (if is_held xs clock on f item then before.routed.items
+  pub stand : StandFor (after_item xs clock f item (is_throttled_item xs clock on f item)) 0 ws
+  pub routed : after.routed.items ≡ (if is_throttled_item xs clock on f item then before.routed.items
       else before.routed.items ++ routed_item xs clock before.next item ∷ [])
-  pub outcomes_are : after.outcomes ≡ before.outcomes ++ outcome_of xs before.next item (is_held xs clock on f item)
+  pub outcomes_are : after.outcomes ≡ before.outcomes
+      ++ outcome_of xs before.next item (is_throttled_item xs clock on f item)
       ∷ []
-  pub next_is : after.next ≡ after_number before.next (is_held xs clock on f item)
+  pub next_is : after.next ≡ after_number before.next (is_throttled_item xs clock on f item)
 
 -- The routes `r` have the outcomes of `items`, and the records of those that aren't held back, with sequence numbers
 -- from `n` on. The puts of each shard before the items are `f`, and the windows `ws` stand for those after them.
@@ -175,9 +179,10 @@ pub record GoesOn (xs : List ShardState) (clock : ℕ) (on : Bool) (f : ℕ
   pub outcomes_are : r.outcomes ++ outcomes xs clock on present r.next items ≡ outcomes xs clock on f n all
   pub next_is : r.next + length (taken xs clock on present items) ≡ n + length (taken xs clock on f all)
 
--- The routes `r` are those of the records of some items, with sequence numbers from `first` on, and they are within the
--- shards `xs`. The places of `r` are those of these records.
-pub record ArePlaced (xs : List ShardState) (clock first : ℕ) (r : Routes) : Type 0 where
+-- The records of the routes `r` are those of some items, with sequence numbers from `first` up to the one before
+-- `r.next`, which is below 2^64. Each record goes to a shard of `xs`, and `r.places` has the shard and the number of
+-- each record.
+pub record AreOfRecords (xs : List ShardState) (clock first : ℕ) (r : Routes) : Type 0 where
   pub items : List NewItem
   pub are : r.routed.items ≡ routed_items xs clock first items
   pub next_is : r.next ≡ first + length items

@@ -4,15 +4,15 @@ ghost use Rattle.std.specs.Prelude.{◌≡◌, ◌&&◌, is_some, ◌-◌, ◌^�
 ghost use Rattle.std.specs.List.{AllByRecursion};
 ghost use Rattle.kds_defs.specs.Listings.{is_good_after, is_good_at, is_good_start, last_no};
 ghost use Rattle.kds_defs.specs.Origins.{iterator_start};
-ghost use Rattle.kds_defs.specs.Records.{first_at, left_among, numbers_of, place_after, stored};
+ghost use Rattle.kds_defs.specs.Records.{first_at, left_among, numbers_of, position_after, stored};
 ghost use Rattle.kds_defs.specs.Shards.{ShardState, shown};
 ghost use Rattle.kds_defs.specs.Streams.{floor_of};
 ghost use Rattle.kds_log.specs.Log.{log_of};
-ghost use Rattle.kds_stream_logs.specs.Reading.{batch_among, behind_by, position_from};
+ghost use Rattle.kds_stream_logs.specs.Batches.{batch_among, behind_by, position_from};
 ghost use Rattle.kds_stream_logs.specs.Logs.{IsBelow, IsUnder};
 
 use kds_base::{Items, Memory, Moment, Seq, ShardNo};
-use kds_defs::{Origin, Shard, Start, Stored, place_after};
+use kds_defs::{Origin, Shard, Start, Stored, position_after};
 use kds_log::ShardLog;
 use std::alloc::Global;
 
@@ -111,12 +111,12 @@ pub fn batch_at(
     requires { IsBelow (2 ^ 64 - 1) (log_of log.now) }
     ensures batch { IfOk result (λ r. r.0 ≡ map stored (batch_among (floor_of cut) position limit log.now.kept)) }
     ensures numbers { IfOk result (λ r. AllByRecursion (λ x. x.seq < 2 ^ 64 - 1) r.0) }
-    ensures place { IfOk result
-        (λ r. r.1 ≡ place_after position (numbers_of (batch_among (floor_of cut) position limit log.now.kept))) }
+    ensures reach { IfOk result
+        (λ r. r.1 ≡ position_after position (numbers_of (batch_among (floor_of cut) position limit log.now.kept))) }
 {
     let batch = log.batch(alloc, cut, position, limit)?;
-    let place = place_after(position, batch.as_slice());
-    Ok((batch, place))
+    let reach = position_after(position, batch.as_slice());
+    Ok((batch, reach))
 }
 
 /// Whether a reader has reached the end of the shard: the shard is closed, and no record is left to read.

@@ -10,7 +10,8 @@ ghost use Rattle.kds_defs.specs.Streams.{floor_of};
 ghost use Rattle.kds_log.specs.Log.{log_of};
 ghost use Rattle.kds_rate.specs.Windows.{WindowValue};
 ghost use Rattle.kds_stream_logs.specs.Rating.{ForPutsOf, IsCounted, StandFor, with_put};
-ghost use Rattle.kds_stream_logs.specs.Routes.{AreInTurn, ArePlaced, AreRouted, CanTake, CanTakeAll, IsRouted, is_held};
+ghost use Rattle.kds_stream_logs.specs.Routes.{AreRoutedInOrder, AreOfRecords, AreRouted, CanTake, CanTakeAll};
+ghost use Rattle.kds_stream_logs.specs.Routes.{IsRouted, is_throttled_item};
 ghost use Rattle.kds_stream_logs.specs.Routes.{is_place_of, place_of, reserved_at, settled_each, stored_item, taken};
 ghost use Rattle.kds_stream_logs.specs.Routes.{with_each};
 ghost use Rattle.kds_stream_logs.specs.Saved.{DiffersAt, restored};
@@ -88,7 +89,7 @@ impl Routes {
     }
 
     /// Adds the outcome `Throttled` for an item that its shard doesn't accept.
-    fn hold_back(&mut self, shard: ShardNo) -> Result<(), Memory>
+    fn add_throttled(&mut self, shard: ShardNo) -> Result<(), Memory>
         ensures routed { self.new.routed.items ≡ self.old.routed.items }
         ensures places { self.new.places ≡ self.old.places }
         ensures outcomes { OnOk result (self.new.outcomes ≡ self.old.outcomes ++ Outcome.Throttled shard ∷ []) }
@@ -170,10 +171,10 @@ fn route_one(
         → ForPutsOf windows.old
         (λ f. IsRouted tree.now.shards clock enforced f item routes.old routes.new windows.new)) }
     ensures spent { IfOk result (λ more. more ≡ false
-        → ForPutsOf windows.old (λ f. (is_held tree.now.shards clock enforced f item ≡ false)
+        → ForPutsOf windows.old (λ f. (is_throttled_item tree.now.shards clock enforced f item ≡ false)
         × (routes.old.next + 1 ≡ 2 ^ 64))) }
     ensures placed { IfOk result (λ more. more ≡ true → (first : ℕ)
-        → ArePlaced tree.now.shards clock first routes.old → ArePlaced tree.now.shards clock first routes.new) }
+        → AreOfRecords tree.now.shards clock first routes.old → AreOfRecords tree.now.shards clock first routes.new) }
     ensures counted { AllByRecursion (IsCounted clock) windows.new }
     ensures saved { restored routes.new.saved.items windows.new ≡ restored routes.old.saved.items windows.old }
 {
@@ -181,7 +182,7 @@ fn route_one(
     let bytes = item_bytes(&item);
     routes.save(windows, shard)?;
     if holds_back_or_counts(windows, enforced, shard, clock, bytes) {
-        routes.hold_back(shard)?;
+        routes.add_throttled(shard)?;
         return Ok(true);
     }
     if routes.next == u64::MAX {
@@ -208,7 +209,7 @@ pub fn route_all(
     requires counted { AllByRecursion (IsCounted clock) windows.old }
     ensures routed { IfOk result (λ o. IfSome o (λ r.
         ForPutsOf windows.old (λ f. AreRouted tree.now.shards clock enforced f first items.items r windows.new))) }
-    ensures placed { IfOk result (λ o. IfSome o (λ r. ArePlaced tree.now.shards clock first r)) }
+    ensures placed { IfOk result (λ o. IfSome o (λ r. AreOfRecords tree.now.shards clock first r)) }
     ensures spent { IfOk result
         (λ o. IfNone o (ForPutsOf windows.old
         (λ f. 2 ^ 64 ≤ first + length (taken tree.now.shards clock enforced f items.items)))) }
@@ -291,7 +292,7 @@ pub fn put_all(
 ) -> Result<(), Memory>
     requires places { places.now ≡ map place_of routed.items }
     requires each { AllByRecursion (CanTake (map log_of logs.old)) routed.items }
-    requires in_turn { AreInTurn routed.items }
+    requires in_order { AreRoutedInOrder routed.items }
     ensures ok { OnOk result (map log_of logs.new
         ≡ settled_each (floor_of cut) places.now (with_each routed.items (map log_of logs.old))) }
     ensures err { OnErr result (map log_of logs.new ≡ map log_of logs.old) }

@@ -1,14 +1,14 @@
 //! Decides whether tokens have expired.
 ghost use Rattle.std.specs.Prelude.{◌≡◌};
-ghost use Rattle.kds_defs.specs.Listings.{is_old};
+ghost use Rattle.kds_defs.specs.Listings.{is_expired_token};
 
 use kds_base::Moment;
 use kds_defs::limits::TOKEN_LIFE;
 use kds_defs::{Iter, Page};
 
 /// Whether a token that was issued at the time `issued` is more than `TOKEN_LIFE` milliseconds old at the time `clock`.
-fn expired(issued: Moment, clock: Moment) -> bool
-    ensures { result ≡ is_old clock issued }
+fn is_expired_token(issued: Moment, clock: Moment) -> bool
+    ensures { result ≡ is_expired_token clock issued }
 {
     clock.ms().saturating_sub(issued.ms()) > TOKEN_LIFE
 }
@@ -16,15 +16,15 @@ fn expired(issued: Moment, clock: Moment) -> bool
 /// Whether a shard iterator has expired at the time `clock`, which means that it was issued more than 5 minutes before
 /// `clock` (Kinesis API Reference, GetRecords, ExpiredIteratorException).
 pub fn iter_expired(iter: &Iter, clock: Moment) -> bool
-    ensures { result ≡ is_old clock iter.now.issued }
+    ensures { result ≡ is_expired_token clock iter.now.issued }
 {
-    expired(iter.issued, clock)
+    is_expired_token(iter.issued, clock)
 }
 
 /// Whether the token of a listing of shards has expired at the time `clock`, which means that it was issued more than 5
 /// minutes before `clock` (Kinesis API Reference, ListShards, ExpiredNextTokenException).
 pub fn page_expired(page: &Page, clock: Moment) -> bool
-    ensures { result ≡ is_old clock page.now.issued }
+    ensures { result ≡ is_expired_token clock page.now.issued }
 {
-    expired(page.issued, clock)
+    is_expired_token(page.issued, clock)
 }

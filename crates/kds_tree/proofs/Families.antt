@@ -13,51 +13,51 @@ use Rattle.kds_base.specs.Span.{Span}
 use Rattle.kds_base.proofs.Facts.{apart}
 use Rattle.kds_defs.specs.Shards.{ShardState, Closing, children_among, first_shards, is_child, is_open, new_shard}
 use Rattle.kds_defs.specs.Shards.{with_closed}
-use Rattle.kds_tree.specs.Families.{AreFamilies, MayStandAt, told_of}
+use Rattle.kds_tree.specs.Families.{AreFamilies, MayStandAt, flat}
 use Rattle.kds_tree.proofs.OpenStarts.{Closes, IsBehind, closes_one, closes_two, get_back, get_cases, get_front}
 
 -- ---- A shard's children are among the two shards that the index gives
 
 none_passes : (p : ShardState → Bool) (xs : List ShardState)
-    → ((place : ℕ) (x : ShardState) → slice_get xs place ≡ Some x → p x ≡ false) → filter p xs ≡ []
+    → ((index : ℕ) (x : ShardState) → slice_get xs index ≡ Some x → p x ≡ false) → filter p xs ≡ []
 none_passes p [] none = refl
 none_passes p (x ∷ xs) none =
     ap (λ (b : Bool). cond b (x ∷ filter p xs) (filter p xs)) (none 0 x refl)
-    ∙ none_passes p xs (λ place y is. none (suc place) y is)
+    ∙ none_passes p xs (λ index y is. none (suc index) y is)
 
 near : (p : ShardState → Bool) (first : ℕ) (xs : List ShardState)
-    → ((place : ℕ) (x : ShardState) → slice_get xs place ≡ Some x → p x ≡ true → (first ≤ place) × (place ≤ first + 1))
+    → ((index : ℕ) (x : ShardState) → slice_get xs index ≡ Some x → p x ≡ true → (first ≤ index) × (index ≤ first + 1))
     → filter p (take 2 (drop first xs)) ≡ filter p xs
 near p zero [] only = refl
 near p zero (x ∷ []) only = refl
 near p zero (x ∷ y ∷ ys) only =
     let none = none_passes p ys
-    (λ place z is. false_from_ne_true (p z) (λ t. absurd (omega (arith, (only (suc (suc place)) z is t).1)))) in
+    (λ index z is. false_from_ne_true (p z) (λ t. absurd (omega (arith, (only (suc (suc index)) z is t).1)))) in
     ap (λ zs. cond (p x) (x ∷ cond (p y) (y ∷ zs) zs) (cond (p y) (y ∷ zs) zs)) (sym none)
 near p (suc first) [] only = refl
 near p (suc first) (x ∷ xs) only =
-    near p first xs (λ place y is t. let h = only (suc place) y is t in (omega (arith, h.0), omega (arith, h.1)))
+    near p first xs (λ index y is t. let h = only (suc index) y is t in (omega (arith, h.0), omega (arith, h.1)))
     ∙ sym (ap (λ (b : Bool). cond b (x ∷ filter p xs) (filter p xs))
     (false_from_ne_true (p x) (λ t. absurd (omega (arith, (only 0 x refl t).0)))))
 
 -- If the index gives `first` as the first child of the shard `parent`, all children of this shard are among the two
 -- shards from the index `first` on.
 pub all_near : (firsts : List (Option ℕ)) (xs pair : List ShardState) (parent first : ℕ) → AreFamilies firsts xs
-    → Some first ≡ told_of (slice_get firsts parent) → pair ≡ take 2 (drop first xs)
+    → Some first ≡ flat (slice_get firsts parent) → pair ≡ take 2 (drop first xs)
     → children_among parent pair ≡ children_among parent xs
 all_near firsts xs pair parent first families is is_pair =
     ap (children_among parent) is_pair
-    ∙ near (is_child parent) first xs (λ place x there child.
-    subst (λ o. MayStandAt o place) (sym is) (families.each parent place x there child))
+    ∙ near (is_child parent) first xs (λ index x there child.
+    subst (λ o. MayStandAt o index) (sym is) (families.each parent index x there child))
 
 -- If the index gives no first child of the shard `parent`, this shard has no children.
 pub none_known : (firsts : List (Option ℕ)) (xs : List ShardState) (parent : ℕ) → AreFamilies firsts xs
-    → None ≡ told_of (slice_get firsts parent)
+    → None ≡ flat (slice_get firsts parent)
     → [] ≡ children_among parent xs
 none_known firsts xs parent families is =
     sym (none_passes (is_child parent) xs
-    (λ place x there. false_from_ne_true (is_child parent x)
-    (λ t. subst (λ o. MayStandAt o place) (sym is) (families.each parent place x there t))))
+    (λ index x there. false_from_ne_true (is_child parent x)
+    (λ t. subst (λ o. MayStandAt o index) (sym is) (families.each parent index x there t))))
 
 -- ---- Lists in which an element is replaced
 
@@ -90,28 +90,28 @@ set_filled (a ∷ l) zero (suc j) w v is = (w, is)
 set_filled (a ∷ l) (suc i) zero w v is = (w, is)
 set_filled (a ∷ l) (suc i) (suc j) w v is = set_filled l i j w v is
 
-stood : (o : Option (Option ℕ)) (place : ℕ) → MayStandAt (told_of o) place → (w : Option ℕ) × (o ≡ Some w)
-stood None place h = absurd h
-stood (Some w) place h = (w, refl)
+stood : (o : Option (Option ℕ)) (index : ℕ) → MayStandAt (flat o) index → (w : Option ℕ) × (o ≡ Some w)
+stood None index h = absurd h
+stood (Some w) index h = (w, refl)
 
 -- ---- A new stream
 
-unrelated : (n start : ℕ) (ranges : List Span) (parent place : ℕ) (x : ShardState)
-    → slice_get (first_shards n start ranges) place ≡ Some x
+unrelated : (n start : ℕ) (ranges : List Span) (parent index : ℕ) (x : ShardState)
+    → slice_get (first_shards n start ranges) index ≡ Some x
     → is_child parent x ≡ false
-unrelated n start [] parent place x is = absurd cc
+unrelated n start [] parent index x is = absurd cc
 unrelated n start (r ∷ ranges) parent zero x is = let e : new_shard n r None None start ≡ x = cc in
     ap (is_child parent) (sym e)
-unrelated n start (r ∷ ranges) parent (suc place) x is = unrelated (n + 1) start ranges parent place x is
+unrelated n start (r ∷ ranges) parent (suc index) x is = unrelated (n + 1) start ranges parent index x is
 
 nones : ℕ → List (Option ℕ)
 nones n = replicate n None
 
-none_at : (n place : ℕ) → place < n → slice_get (nones n) place ≡ Some None
+none_at : (n index : ℕ) → index < n → slice_get (nones n) index ≡ Some None
 unfolding nones
-none_at zero place below = absurd (omega arith)
+none_at zero index below = absurd (omega arith)
 none_at (suc n) zero below = refl
-none_at (suc n) (suc place) below = none_at n place (omega arith)
+none_at (suc n) (suc index) below = none_at n index (omega arith)
 
 -- An index without any first child fits the shards of a new stream, because none of them has a parent.
 pub families_made : (count n start : ℕ) (ranges : List Span) → length (first_shards n start ranges) ≡ count
@@ -119,36 +119,36 @@ pub families_made : (count n start : ℕ) (ranges : List Span) → length (first
 unfolding nones
 families_made count n start ranges long = record {
   long = (let none : Option ℕ = None in length-replicate count none ∙ sym long);
-  each = λ parent place x is child.
-      absurd (apart (is_child parent x) child (unrelated n start ranges parent place x is));
-  young = λ place x is open_now.
-      none_at count place (omega (arith, long, slice_get_within (first_shards n start ranges) place x is));
+  each = λ parent index x is child.
+      absurd (apart (is_child parent x) child (unrelated n start ranges parent index x is));
+  young = λ index x is open_now.
+      none_at count index (omega (arith, long, slice_get_within (first_shards n start ranges) index x is));
 }
 
 -- ---- Shards are closed, and others are added at the end
 
 -- Each child in the list `closed` is, at the same index in the list `xs`, a child of the same shard.
 abbrev pub Kin : List ShardState → List ShardState → Type 0
-Kin xs closed = (parent place : ℕ) (y : ShardState) → slice_get closed place ≡ Some y → is_child parent y ≡ true
-    → (x : ShardState) × ((slice_get xs place ≡ Some x) × (is_child parent x ≡ true))
+Kin xs closed = (parent index : ℕ) (y : ShardState) → slice_get closed index ≡ Some y → is_child parent y ≡ true
+    → (x : ShardState) × ((slice_get xs index ≡ Some x) × (is_child parent x ≡ true))
 
 -- After a shard is closed, each shard is a child of the same shards as before (`Kin`).
 pub kin_closed : (xs : List ShardState) (sh : ℕ) (closing : Closing) → Kin xs (with_closed sh closing xs)
-kin_closed [] sh closing parent place y is child = absurd cc
+kin_closed [] sh closing parent index y is child = absurd cc
 kin_closed (x ∷ xs) zero closing parent zero y is child =
     let x' : ShardState = record x { closing = Some closing } in
     let e : x' ≡ y = cc in
     (x, (refl, ap (is_child parent) e ∙ child))
-kin_closed (x ∷ xs) zero closing parent (suc place) y is child = (y, (is, child))
+kin_closed (x ∷ xs) zero closing parent (suc index) y is child = (y, (is, child))
 kin_closed (x ∷ xs) (suc sh) closing parent zero y is child = (y, (is, child))
-kin_closed (x ∷ xs) (suc sh) closing parent (suc place) y is child = kin_closed xs sh closing parent place y is child
+kin_closed (x ∷ xs) (suc sh) closing parent (suc index) y is child = kin_closed xs sh closing parent index y is child
 
 -- After two shards are closed, each shard is a child of the same shards as before (`Kin`).
 pub kin_twice : (xs : List ShardState) (sh other : ℕ) (closing : Closing)
     → Kin xs (with_closed other closing (with_closed sh closing xs))
-kin_twice xs sh other closing parent place y is child =
-    let once = kin_closed (with_closed sh closing xs) other closing parent place y is child in
-    kin_closed xs sh closing parent place once.0 once.1.0 once.1.1
+kin_twice xs sh other closing parent index y is child =
+    let once = kin_closed (with_closed sh closing xs) other closing parent index y is child in
+    kin_closed xs sh closing parent index once.0 once.1.0 once.1.1
 
 -- The index `firsts` after the shards `sh` and `other` have got the first child `child`, and the entries `more` have
 -- been added for new shards.
@@ -163,7 +163,7 @@ module _ (firsts more : List (Option ℕ)) (xs closed born : List ShardState) (s
     (families : AreFamilies firsts xs) (closes : Closes xs closed sh other) (kin : Kin xs closed)
     (few : length born ≤ 2) (as_many : length more ≡ length born) (none : AreNone more) (is_first : child ≡ length xs)
     (young : slice_get firsts sh ≡ Some None) (young_other : slice_get firsts other ≡ Some None)
-    (parents : (parent place : ℕ) (y : ShardState) → slice_get born place ≡ Some y → is_child parent y ≡ true
+    (parents : (parent index : ℕ) (y : ShardState) → slice_get born index ≡ Some y → is_child parent y ≡ true
     → (parent ≡ sh) ⊎ (parent ≡ other)) where
   long_sets : length (slice_set (slice_set firsts sh (Some child)) other (Some child)) ≡ length closed
   long_sets = length-set (slice_set firsts sh (Some child)) other (Some child) ∙ length-set firsts sh (Some child)
@@ -188,39 +188,40 @@ module _ (firsts more : List (Option ℕ)) (xs closed born : List ShardState) (s
       (ap (slice_get (slice_set (slice_set firsts sh (Some child)) other (Some child))) e
       ∙ set_there (slice_set firsts sh (Some child)) other once.0 (Some child) once.1)
 
-  -- A shard that has no child yet isn't the parent of a child that may stand at the place.
-  not_yet : (i parent place : ℕ) → slice_get firsts i ≡ Some None → MayStandAt (told_of (slice_get firsts parent)) place
+  -- If the index gives no first child of the shard `i`, and some child of the shard `parent` may have the number
+  -- `index`, then `parent` isn't `i`.
+  not_yet : (i parent index : ℕ) → slice_get firsts i ≡ Some None → MayStandAt (flat (slice_get firsts parent)) index
       → parent ≢ i
-  not_yet i parent place is h e = subst (λ o. MayStandAt (told_of o) place) (ap (slice_get firsts) e ∙ is) h
+  not_yet i parent index is h e = subst (λ o. MayStandAt (flat o) index) (ap (slice_get firsts) e ∙ is) h
 
-  each_by : (parent place : ℕ) (y : ShardState) → is_child parent y ≡ true → (slice_get closed place ≡ Some y)
-      ⊎ IsBehind born (length closed) place y
-      → MayStandAt (told_of (slice_get (after_birth firsts sh other child more) parent)) place
-  each_by parent place y is_its (inl h) =
-      let k = kin parent place y h is_its in
-      let was = families.each parent place k.0 k.1.0 k.1.1 in
-      let w = stood (slice_get firsts parent) place was in
-      let now = kept parent w.0 (not_yet sh parent place young was) (not_yet other parent place young_other was) w.1 in
-      subst (λ o. MayStandAt (told_of o) place) (w.1 ∙ sym now) was
-  each_by parent place y is_its (inr h) =
-      let now = written parent (parents parent h.place y h.at is_its) in
-      let within = slice_get_within born h.place y h.at in
-      subst (λ o. MayStandAt (told_of o) place) (sym now) (
+  each_by : (parent index : ℕ) (y : ShardState) → is_child parent y ≡ true → (slice_get closed index ≡ Some y)
+      ⊎ IsBehind born (length closed) index y
+      → MayStandAt (flat (slice_get (after_birth firsts sh other child more) parent)) index
+  each_by parent index y is_its (inl h) =
+      let k = kin parent index y h is_its in
+      let was = families.each parent index k.0 k.1.0 k.1.1 in
+      let w = stood (slice_get firsts parent) index was in
+      let now = kept parent w.0 (not_yet sh parent index young was) (not_yet other parent index young_other was) w.1 in
+      subst (λ o. MayStandAt (flat o) index) (w.1 ∙ sym now) was
+  each_by parent index y is_its (inr h) =
+      let now = written parent (parents parent h.index y h.at is_its) in
+      let within = slice_get_within born h.index y h.at in
+      subst (λ o. MayStandAt (flat o) index) (sym now) (
         omega (arith, is_first, h.is, closes.long),
         omega (arith, is_first, h.is, closes.long, within, few),
       )
 
-  young_by : (place : ℕ) (y : ShardState) → is_open y ≡ true → (slice_get closed place ≡ Some y)
-      ⊎ IsBehind born (length closed) place y
-      → slice_get (after_birth firsts sh other child more) place ≡ Some None
-  young_by place y open_now (inl h) =
-      let was = closes.back place y h open_now in
-      kept place None was.1 was.2 (families.young place y was.0 open_now)
-  young_by place y open_now (inr h) =
-      let within = slice_get_within born h.place y h.at in
+  young_by : (index : ℕ) (y : ShardState) → is_open y ≡ true → (slice_get closed index ≡ Some y)
+      ⊎ IsBehind born (length closed) index y
+      → slice_get (after_birth firsts sh other child more) index ≡ Some None
+  young_by index y open_now (inl h) =
+      let was = closes.back index y h open_now in
+      kept index None was.1 was.2 (families.young index y was.0 open_now)
+  young_by index y open_now (inr h) =
+      let within = slice_get_within born h.index y h.at in
       let sets = slice_set (slice_set firsts sh (Some child)) other (Some child) in
-      let e : place ≡ length sets + h.place = omega (arith, h.is, long_sets) in
-      ap (slice_get (sets ++ more)) e ∙ get_back sets more h.place ∙ none h.place (omega arith)
+      let e : index ≡ length sets + h.index = omega (arith, h.is, long_sets) in
+      ap (slice_get (sets ++ more)) e ∙ get_back sets more h.index ∙ none h.index (omega arith)
 
   -- Let the shards `sh` and `other`, which have no children, be closed, and let the shards `born`, at most two, be
   -- added at the end, with no other parents than these. Then the changed index (`after_birth`) fits the shards.
@@ -231,8 +232,8 @@ module _ (firsts more : List (Option ℕ)) (xs closed born : List ShardState) (s
         ∙ ap (λ n. n + length more) long_sets
         ∙ ap (λ n. length closed + n) as_many
         ∙ sym (length-append closed born);
-    each = λ parent place y is is_its. each_by parent place y is_its (get_cases closed born place y is);
-    young = λ place y is open_now. young_by place y open_now (get_cases closed born place y is);
+    each = λ parent index y is is_its. each_by parent index y is_its (get_cases closed born index y is);
+    young = λ index y is open_now. young_by index y open_now (get_cases closed born index y is);
   }
 
 -- ---- Splits and merges
@@ -246,8 +247,8 @@ two_parents true c sh other parent is_b is_c h = inl (grind (arith, nat_tests))
 two_parents false true sh other parent is_b is_c h = inr (grind (arith, nat_tests))
 two_parents false false sh other parent is_b is_c h = absurd cc
 
-of_split : (sh a b start : ℕ) (r q : Span) (parent place : ℕ) (y : ShardState)
-    → slice_get (new_shard a r (Some sh) None start ∷ new_shard b q (Some sh) None start ∷ []) place ≡ Some y
+of_split : (sh a b start : ℕ) (r q : Span) (parent index : ℕ) (y : ShardState)
+    → slice_get (new_shard a r (Some sh) None start ∷ new_shard b q (Some sh) None start ∷ []) index ≡ Some y
     → is_child parent y ≡ true → (parent ≡ sh) ⊎ (parent ≡ sh)
 of_split sh a b start r q parent zero y is child =
     let e : new_shard a r (Some sh) None start ≡ y = cc in
@@ -255,15 +256,15 @@ of_split sh a b start r q parent zero y is child =
 of_split sh a b start r q parent (suc zero) y is child =
     let e : new_shard b q (Some sh) None start ≡ y = cc in
     inl (one_parent sh parent (ap (is_child parent) e ∙ child))
-of_split sh a b start r q parent (suc (suc place)) y is child = absurd cc
+of_split sh a b start r q parent (suc (suc index)) y is child = absurd cc
 
-of_merge : (sh other a start : ℕ) (r : Span) (parent place : ℕ) (y : ShardState)
-    → slice_get (new_shard a r (Some sh) (Some other) start ∷ []) place ≡ Some y → is_child parent y ≡ true
+of_merge : (sh other a start : ℕ) (r : Span) (parent index : ℕ) (y : ShardState)
+    → slice_get (new_shard a r (Some sh) (Some other) start ∷ []) index ≡ Some y → is_child parent y ≡ true
     → (parent ≡ sh) ⊎ (parent ≡ other)
 of_merge sh other a start r parent zero y is child =
     let e : new_shard a r (Some sh) (Some other) start ≡ y = cc in
     two_parents (sh == parent) (other == parent) sh other parent refl refl (ap (is_child parent) e ∙ child)
-of_merge sh other a start r parent (suc place) y is child = absurd cc
+of_merge sh other a start r parent (suc index) y is child = absurd cc
 
 none_in_one : AreNone (None ∷ [])
 none_in_one zero below = refl

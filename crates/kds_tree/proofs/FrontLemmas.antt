@@ -13,7 +13,7 @@ use Rattle.kds_defs.specs.Listings.{is_after_shard, refs_of}
 use Rattle.kds_defs.specs.Shards.{Closing, ShardState, is_closed_below, is_open, listed_among, shown, was_closed_below}
 use Rattle.kds_defs.specs.Streams.{floor_of}
 use Rattle.kds_tree.specs.Front.{AreLeft, listing, picked, picked_before}
-use Rattle.kds_tree.specs.Tree.{was_expired}
+use Rattle.kds_tree.specs.Tree.{is_expired_at}
 use Rattle.kds_tree.proofs.Listing.{listing_behind}
 
 still_below : (f g : ℕ) (o : Option Closing) → f ≤ g → was_closed_below f o ≡ true → was_closed_below g o ≡ true
@@ -319,8 +319,8 @@ left_within f n (suc c) [] (x ∷ xs) left = omega (arith, left_within f (suc n)
 left_within f n (suc c) (i ∷ names) (x ∷ xs) (inl a) = omega (arith, left_within f (suc n) c names xs a.1)
 left_within f n (suc c) (i ∷ names) (x ∷ xs) (inr a) = omega (arith, left_within f (suc n) c (i ∷ names) xs a.1)
 
--- A name is dropped only if its shard has expired.
-was_true : (f j : ℕ) (o : Option ShardState) (x : ShardState) → o ≡ Some x → not (was_expired f o) ≡ false
+-- If the test that a shard isn't expired fails for the option `o`, which has the shard `x`, then `x` is expired.
+was_true : (f j : ℕ) (o : Option ShardState) (x : ShardState) → o ≡ Some x → not (is_expired_at f o) ≡ false
     → is_closed_below f x ≡ true
 was_true f j None x is e = absurd cc
 was_true f j (Some y) x is e = let same : y ≡ x = cc in
@@ -332,6 +332,6 @@ was_true f j (Some y) x is e = let same : y ≡ x = cc in
 
 -- If the test that a shard isn't expired fails for the shard at the index `j`, this shard is expired.
 pub drops_expired : (f : ℕ) (xs : List ShardState) (j : ℕ) (x : ShardState) → slice_get xs j ≡ Some x
-    → not (was_expired f (slice_get xs (0 + j))) ≡ false → is_closed_below f x ≡ true
+    → not (is_expired_at f (slice_get xs (0 + j))) ≡ false → is_closed_below f x ≡ true
 drops_expired f xs j x is e = let same : 0 + j ≡ j = omega arith in
-    was_true f j (slice_get xs j) x is (sym (ap (λ k. not (was_expired f (slice_get xs k))) same) ∙ e)
+    was_true f j (slice_get xs j) x is (sym (ap (λ k. not (is_expired_at f (slice_get xs k))) same) ∙ e)

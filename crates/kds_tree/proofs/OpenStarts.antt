@@ -112,18 +112,18 @@ get_back (z ∷ zs) ys i = let e : suc (length zs) + i ≡ suc (length zs + i) =
 -- The shard `x` is in the list `ys`, which comes after `n` other shards, and `i` is the index of `x` among all of these
 -- shards.
 pub record IsBehind (ys : List ShardState) (n i : ℕ) (x : ShardState) : Type 0 where
-  pub place : ℕ
-  pub at : slice_get ys place ≡ Some x
-  pub is : i ≡ n + place
+  pub index : ℕ
+  pub at : slice_get ys index ≡ Some x
+  pub is : i ≡ n + index
 
 behind_more : (ys : List ShardState) (n i : ℕ) (x : ShardState) → IsBehind ys n i x → IsBehind ys (suc n) (suc i) x
-behind_more ys n i x h = record { place = h.place; at = h.at; is = omega (arith, h.is) }
+behind_more ys n i x h = record { index = h.index; at = h.at; is = omega (arith, h.is) }
 
 -- If the shard `x` is at the index `i` of `xs` followed by `ys`, it is at this index of `xs`, or it is in `ys`
 -- (`IsBehind`).
 pub get_cases : (xs ys : List ShardState) (i : ℕ) (x : ShardState) → slice_get (xs ++ ys) i ≡ Some x
     → (slice_get xs i ≡ Some x) ⊎ IsBehind ys (length xs) i x
-get_cases [] ys i x is = inr (record { place = i; at = is; is = omega arith })
+get_cases [] ys i x is = inr (record { index = i; at = is; is = omega arith })
 get_cases (z ∷ zs) ys zero x is = inl is
 get_cases (z ∷ zs) ys (suc i) x is = more (get_cases zs ys i x is)
   where
@@ -227,9 +227,9 @@ module _ (xs closed born : List ShardState) (sh other : ℕ) (closes : Closes xs
       (contains_left (stays sh other) ss (start_of x i) member.0 member.1 member.2
       (passes_by sh other (start_of x i) was.1 was.2))
   whole_by ss of i x open_now (inr h) =
-      let e : x.no ≡ i = omega (arith, number_at born (length xs) h.place x numbers h.at, h.is, closes.long) in
+      let e : x.no ≡ i = omega (arith, number_at born (length xs) h.index x numbers h.at, h.is, closes.long) in
       Contains-append_right (filter (stays sh other) ss) (open_starts born) (start_of x i)
-      (subst (λ (k : ℕ). Contains (open_starts born) (start_of x k)) e (contains_open born h.place x h.at open_now))
+      (subst (λ (k : ℕ). Contains (open_starts born) (start_of x k)) e (contains_open born h.index x h.at open_now))
 
   -- Let two shards be closed, and let the shards `born` be added at the end. Then the starts before, without those of
   -- the closed shards, and the starts of `born` are together those of the open shards (`AreOf`).

@@ -6,7 +6,8 @@ use Rattle.std.specs.Prelude.{Result, Ok, Err, slice_get, slice_set, slice_index
 use Rattle.std.proofs.lemmas.Option.{slice_get_within, get_or_from_slice_get}
 use Rattle.std.proofs.lemmas.List.{get_or_append_left, length-append}
 use Rattle.std.proofs.lemmas.Bool.Decides.{nat_tests}
-use Rattle.kds_base.specs.Span.{Span, is_inside, lower_part, upper_part, are_adjacent, follows, joined, uniform_from}
+use Rattle.kds_base.specs.Span.{Span, is_inside, lower_part, upper_part, are_adjacent, is_followed_by, joined}
+use Rattle.kds_base.specs.Span.{uniform_from}
 use Rattle.kds_defs.specs.declared.reply.Refusal.{Refusal}
 use Rattle.kds_defs.specs.Shards.{ShardState, Closing, first_shards, is_open, new_shard, range_of, with_closed}
 use Rattle.kds_defs.specs.Shards.{split_shards, merged_shards, made_shards}
@@ -195,7 +196,7 @@ tree_merged xs sh other start closing h tree =
           (within_at xs other can.beside can.other_made tree.within) in
           within-append closed (child ∷ [])
           (within-closed (with_closed sh closing xs) other closing (within-closed xs sh closing tree.within)) (
-            chosen_within (follows low high) (record { start = low.start; end = high.end })
+            chosen_within (is_followed_by low high) (record { start = low.start; end = high.end })
                 (record { start = high.start; end = low.end }) b a,
             tt,
           );

@@ -34,10 +34,10 @@ pub record IsHome (xs : List ShardState) (key sh : ℕ) : Type 0 where
   pub is_open_now : is_open state ≡ true
   pub contains : Covers state.range key
 
--- Whether a shard is there and was closed below `floor`.
-abbrev pub was_expired : ℕ → Option ShardState → Bool
-was_expired floor None = false
-was_expired floor (Some x) = is_closed_below floor x
+-- Whether there is a shard, and it was closed at a time below `floor`.
+abbrev pub is_expired_at : ℕ → Option ShardState → Bool
+is_expired_at floor None = false
+is_expired_at floor (Some x) = is_closed_below floor x
 
 -- The lower range and the upper range into which a split at the key `at` divides the range of shard `sh`.
 abbrev pub split_parts : List ShardState → ℕ → ℕ → Span × Span

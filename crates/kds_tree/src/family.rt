@@ -3,7 +3,7 @@
 ghost use Rattle.std.specs.Prelude.{◌≡◌, ◌<◌, ◌≤◌, drop, length, map, replicate, slice_get, slice_set, take};
 ghost use Rattle.std.specs.Prelude.{vec_capacity, vec_len, IfOk, None, Some};
 ghost use Rattle.kds_defs.specs.Shards.{children_among, shown};
-ghost use Rattle.kds_tree.specs.Families.{AreFamilies, told_of};
+ghost use Rattle.kds_tree.specs.Families.{AreFamilies, flat};
 
 use crate::kept::KeptShard;
 use kds_base::{Items, Memory, ShardNo};
@@ -37,7 +37,7 @@ pub fn family_of<'a>(
 
 /// Returns the number of the first child of shard `no`, or `None` if shard `no` doesn't exist or has no child.
 fn first_child(first_children: &[Option<ShardNo>], no: ShardNo) -> Option<ShardNo>
-    ensures { result ≡ told_of (slice_get first_children.now no) }
+    ensures { result ≡ flat (slice_get first_children.now no) }
 {
     match first_children.get(no.0 as usize) {
         Some(first) => *first,

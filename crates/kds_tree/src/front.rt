@@ -5,7 +5,7 @@ ghost use Rattle.std.specs.Prelude.{◌≡◌, ◌+◌, ◌-◌, ◌<◌, ◌≤
 ghost use Rattle.kds_defs.specs.Shards.{ShardState};
 ghost use Rattle.kds_defs.specs.Streams.{floor_of};
 ghost use Rattle.kds_tree.specs.Front.{AreLeft};
-ghost use Rattle.kds_tree.specs.Tree.{was_expired};
+ghost use Rattle.kds_tree.specs.Tree.{is_expired_at};
 
 use crate::kept::KeptShard;
 use kds_base::{Memory, Moment, ShardNo};
@@ -53,7 +53,7 @@ fn is_no_earlier(cut: &Option<Moment>, other: &Option<Moment>) -> bool
 /// Returns the number of shards at the beginning of `shards` that a listing at the trim horizon `cut` skips, and the
 /// numbers of the shards among them that it doesn't skip. If `cut` is earlier than the trim horizon of `front`, the
 /// listing skips no shards.
-pub fn passed_at<'a>(
+pub fn skipped_at<'a>(
     front: &'a ExpiredFront,
     shards: &[KeptShard],
     cut: &Option<Moment>,
@@ -91,7 +91,7 @@ pub fn move_on(front: &mut ExpiredFront, shards: &[KeptShard], cut: Option<Momen
         return;
     }
     remove_expired(&mut front.left, shards, &cut);
-    front.count = pass_until(&mut front.left, shards, &cut, front.count, end);
+    front.count = skip_until(&mut front.left, shards, &cut, front.count, end);
     front.cut = cut;
     front.child = child_after(front, child, end);
 }
@@ -128,7 +128,7 @@ fn has_no_parent(shards: &[KeptShard], child: &KeptShard, cut: &Option<Moment>) 
 
 /// Whether shard `no` has expired at the trim horizon `cut`.
 pub fn is_expired_at(shards: &[KeptShard], no: ShardNo, cut: &Option<Moment>) -> bool
-    ensures { result ≡ was_expired (floor_of cut.now) (slice_get shards.now no) }
+    ensures { result ≡ is_expired_at (floor_of cut.now) (slice_get shards.now no) }
 {
     match shards.get(no.0 as usize) {
         Some(kept) => kept.is_expired(cut),
@@ -147,7 +147,7 @@ fn remove_expired(left: &mut Vec<ShardNo>, shards: &[KeptShard], cut: &Option<Mo
 /// Passes the shards from the index `start` on until the index `end`, and adds the numbers of those to `left` that
 /// haven't expired at the trim horizon `cut`. Returns the index up to which the shards are passed. It is less than
 /// `end` if memory runs out, or if there are fewer shards.
-fn pass_until(
+fn skip_until(
     left: &mut Vec<ShardNo>,
     shards: &[KeptShard],
     cut: &Option<Moment>,
@@ -159,7 +159,7 @@ fn pass_until(
 {
     let mut count = start;
     while count < end && count < shards.len() {
-        match pass_one(left, shards, cut, count) {
+        match skip_one(left, shards, cut, count) {
             Ok(()) => count += 1,
             Err(_) => return count,
         }
@@ -169,7 +169,7 @@ fn pass_until(
 
 /// Passes the shard with the index `count`, and adds its number to `left` if it hasn't expired at the trim horizon
 /// `cut`. If memory runs out, `left` is unchanged.
-fn pass_one(
+fn skip_one(
     left: &mut Vec<ShardNo>,
     shards: &[KeptShard],
     cut: &Option<Moment>,

@@ -15,10 +15,10 @@ ghost use Rattle.kds_defs.specs.Tiled.{AreNumbered, IsTiled};
 ghost use Rattle.kds_tree.specs.Front.{Lists, listing, picked, picked_before};
 ghost use Rattle.kds_tree.specs.Starts.{AreStarts, starting_keys};
 ghost use Rattle.kds_tree.specs.Tree.{IsHome, IsWithinKeys, after_merge, after_split, answer_by, merge_refusal};
-ghost use Rattle.kds_tree.specs.Tree.{split_parts, split_refusal, was_expired};
+ghost use Rattle.kds_tree.specs.Tree.{split_parts, split_refusal, is_expired_at};
 
 use crate::family::{children_in, family_of, no_children, set_first_child};
-use crate::front::{ExpiredFront, is_expired_at, move_on, no_front, numbers_from, passed_at};
+use crate::front::{ExpiredFront, is_expired_at, move_on, no_front, numbers_from, skipped_at};
 use crate::kept::KeptShard;
 use crate::listed_keys::{add_numbers, add_rest};
 use crate::start::{OpenStart, home_of, remove_starts, sort_starts};
@@ -120,7 +120,7 @@ impl ShardTree {
 
     /// Whether shard `no` has expired, which means that it was closed at or before the trim horizon `cut`.
     pub fn expired(&self, no: ShardNo, cut: Option<Moment>) -> bool
-        ensures { result ≡ was_expired (floor_of cut) (slice_get self.now.shards no) }
+        ensures { result ≡ is_expired_at (floor_of cut) (slice_get self.now.shards no) }
     {
         is_expired_at(&self.shards, no, &cut)
     }
@@ -140,10 +140,10 @@ impl ShardTree {
         ensures more { let xs = map shown (filter (is_after_shard after) (listed_among (floor_of cut) self.now.shards))
             in IfOk result (λ r. r.1 ≡ are_more limit xs) }
     {
-        let (passed, left) = passed_at(&self.front, &self.shards, &cut);
+        let (skipped, left) = skipped_at(&self.front, &self.shards, &cut);
         let start = start_behind(&self.shards, after);
         let numbers = numbers_from(left, start);
-        let (_, rest) = self.shards.split_at(start.max(passed));
+        let (_, rest) = self.shards.split_at(start.max(skipped));
         page_of(
             *self.shards.allocator(),
             &self.shards,
@@ -165,15 +165,15 @@ impl ShardTree {
         ensures { OnOk result (keys.new ≡ keys.old
             ++ refs_of stream (listed_among (floor_of cut) self.now.shards)) }
     {
-        let (passed, left) = passed_at(&self.front, &self.shards, &cut);
+        let (skipped, left) = skipped_at(&self.front, &self.shards, &cut);
         add_numbers(keys, stream, &self.shards, left, &cut)?;
-        let (_, rest) = self.shards.split_at(passed);
+        let (_, rest) = self.shards.split_at(skipped);
         add_rest(keys, stream, rest, &cut)
     }
 
     /// Remembers which shards at the beginning of the list have expired at the trim horizon `cut`, so that listings can
     /// skip these shards. The shards themselves are unchanged.
-    pub fn pass_expired(&mut self, cut: Option<Moment>)
+    pub fn note_expired(&mut self, cut: Option<Moment>)
         ensures { self.new ≡ self.old }
     {
         move_on(&mut self.front, &self.shards, cut);

@@ -15,8 +15,8 @@ ghost use Rattle.kds_turn.specs.Passes.{AreAllBy, HasAll, IsAnswered, IsSamePass
 use crate::pass::{Note, Pass, Past, TurnErr};
 use crate::rule::InOrder;
 use crate::steps::{
-    Seat, append, join_seats, load_turns, lock, note_seat, put_machine, split_seat, take_machine,
-    unlock,
+    Seat, count_turn, join_seats, load_turns, lock, note_seat, put_machine, split_seat,
+    take_machine, unlock,
 };
 use crate::view::View;
 use atomic_table::{Refused, Table};
@@ -40,9 +40,9 @@ pub struct Hall<M: Machine> {
 
 impl<M: Machine> Model for Hall<M> {
     ghost use Rattle.std.specs.Prelude.{◌≡◌};
-    ghost use Rattle.kds_turn.specs.Passes.{Place};
+    ghost use Rattle.kds_turn.specs.Passes.{HallValue};
 
-    ghost Value = { Place };
+    ghost Value = { HallValue };
 
     ghost view = { λ h. record { id = h.table.shared.table_id; passes = h.table.shared.key } };
 
@@ -141,7 +141,7 @@ impl<M: Machine> Hall<M> {
         match machine.apply(turn) {
             Ok(answer) => {
                 put_machine(shared, &mut pass.seat, machine);
-                append::<M, Brand>(shared, &mut pass.seat, &asked);
+                count_turn::<M, Brand>(shared, &mut pass.seat, &asked);
                 unlock(shared, &self.sleepers, &mut pass.seat);
                 Ok(answer)
             }

@@ -19,9 +19,9 @@ impl<M> Model for Pass<M> {
     ghost use Rattle.std.specs.Prelude.{◌≡◌, ◌<◌, ◌∷◌};
     ghost use Rattle.kds_turn.specs.Known.{account, first_turns, after_first};
     ghost use Rattle.kds_turn.specs.Plays.{IsIdle};
-    ghost use Rattle.kds_turn.specs.Passes.{Standing};
+    ghost use Rattle.kds_turn.specs.Passes.{PassValue};
 
-    ghost Value = { Standing };
+    ghost Value = { PassValue };
 
     ghost view = { λ p. record {
       hall = p.seat.table_id;
@@ -54,9 +54,9 @@ pub struct Note<M> {
 impl<M> Model for Note<M> {
     ghost use Rattle.std.specs.Prelude.{◌≡◌, []};
     ghost use Rattle.kds_turn.specs.Plays.{IsIdle};
-    ghost use Rattle.kds_turn.specs.Passes.{Tidings};
+    ghost use Rattle.kds_turn.specs.Passes.{NoteValue};
 
-    ghost Value = { Tidings };
+    ghost Value = { NoteValue };
 
     ghost view = { λ n. record { hall = n.seat.table_id; seen = n.seat.me.0.seen } };
 

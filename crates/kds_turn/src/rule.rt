@@ -70,9 +70,9 @@ impl<M> Play<Option<M>, View> for Unlock {
 }
 
 /// The step that makes the seat of a new pass. The second account of the old seat moves to the new seat.
-pub struct Deal;
+pub struct NewPass;
 
-impl Split<View> for Deal {
+impl Split<View> for NewPass {
     ghost left = { keeps_rest };
 
     ghost right = { gets_second };

@@ -7,7 +7,7 @@ ghost use Rattle.kds_defs.specs.Lawful.{IsLawful};
 ghost use Rattle.kds_turn.specs.Known.{first_number, keeps_rest, gets_second, note_of, both};
 ghost use Rattle.kds_turn.specs.Plays.{IsIdle, HasEmpty, HasMachine, Locked, Loaded, Appended, Unlocked};
 
-use crate::rule::{Append, Deal, InOrder, Load, Lock, Merge, Next, Tell, Unlock};
+use crate::rule::{Append, InOrder, Load, Lock, Merge, NewPass, Next, Tell, Unlock};
 use crate::view::View;
 use atomic_table::Shared;
 use kds_defs::{Machine, Turn};
@@ -104,11 +104,11 @@ pub fn put_machine<M: Machine>(board: &Board<M>, seat: &mut Seat<M>, machine: M)
 }
 
 /// Adds the turn to the history. At run time, this increases the number of turns by one.
-pub fn append<M: Machine, N: Next>(board: &Board<M>, seat: &mut Seat<M>, _turn: &Snapshot<Turn>)
+pub fn count_turn<M: Machine, N: Next>(board: &Board<M>, seat: &mut Seat<M>, _turn: &Snapshot<Turn>)
     requires board { (seat.old.table_id ≡ board.now.table_id) × (board.now.table_id.words ≡ 3)
         × (board.now.table_id.slots ≡ 1) }
-    requires seat { (seat.old.me.0.busy ≡ true) × (seat.old.me.0.told ≡ []) }
-    requires room { length seat.old.me.0.seen + 1 < 2 ^ 64 }
+    requires seat { (seat.old.me.0.busy ≡ true) × (seat.old.me.0.joined ≡ []) }
+    requires unspent { length seat.old.me.0.seen + 1 < 2 ^ 64 }
     requires turn { (_turn.now.value ≡ N.turn) × IsLawful N.turn × (N.turn.by ≡ first_number seat.old.me.0.accounts)
         × (0 < N.turn.by) }
     ensures seat { (seat.new.table_id ≡ seat.old.table_id) × (seat.new.id ≡ seat.old.id) }
@@ -139,7 +139,7 @@ pub fn split_seat<M: Machine>(board: &Board<M>, seat: &mut Seat<M>) -> Seat<M>
     ensures seat { (seat.new.table_id ≡ seat.old.table_id) × (result.table_id ≡ seat.old.table_id) }
     ensures view { (seat.new.me ≡ (keeps_rest seat.old.me.0, [])) × (result.me ≡ (gets_second seat.old.me.0, [])) }
 {
-    board.split_seat::<Deal>(seat)
+    board.split_seat::<NewPass>(seat)
 }
 
 /// Makes a new seat that has seen the same turns as `seat` and has no accounts.

@@ -15,7 +15,7 @@ pub struct Account {
 /// seat's accounts. `busy` says whether the seat has the lock.
 pub struct View {
     pub seen: LinkedList<Turn>,
-    pub told: LinkedList<Turn>,
+    pub joined: LinkedList<Turn>,
     pub accounts: LinkedList<Account>,
     pub busy: bool,
 }

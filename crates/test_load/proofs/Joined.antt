@@ -7,14 +7,14 @@ use Rattle.std.specs.List.{All}
 use Rattle.std.proofs.lemmas.List.{get_or_append_left}
 use Rattle.atomic_table.specs.Seated.{TableId}
 use Rattle.kds_turn.specs.Known.{has, times, account}
-use Rattle.kds_turn.specs.Passes.{Standing, accounts_of}
+use Rattle.kds_turn.specs.Passes.{PassValue, accounts_of}
 use Rattle.kds_turn.proofs.Turns.{has_one, times_append}
 
--- it has all numbers from `least` to `last`
-abbrev pub HasFrom : ℕ → ℕ → Standing → Type 0
+-- Each number from `least` to `last` is that of an account of the pass.
+abbrev pub HasFrom : ℕ → ℕ → PassValue → Type 0
 HasFrom least last p = (n : ℕ) → least ≤ n → n ≤ last → 0 < times n (accounts_of p)
 
-pub has_more : (least by last : ℕ) (p q r : Standing) → by + 1 ≡ least → q.by ≡ by → r.by ≡ p.by
+pub has_more : (least by last : ℕ) (p q r : PassValue) → by + 1 ≡ least → q.by ≡ by → r.by ≡ p.by
     → r.joined ≡ p.joined ++ accounts_of q → HasFrom least last p → HasFrom by last r
 has_more least by last p q r e f same joined from = λ n a b.
     let all : times n r.joined ≡ times n p.joined + times n (accounts_of q) =
@@ -24,10 +24,11 @@ has_more least by last p q r e f same joined from = λ n a b.
     (λ is. let one = has_one n (account q.by q.own) (f ∙ is) in omega arith)
     (λ ne. let before = from n (omega arith) b in omega arith)
 
--- the passes before the last one are of the hall as well
-pub all_front : (id : TableId) (all xs : List Standing) (x : Standing) → all ≡ xs ++ x ∷ [] → All (λ p. p.hall ≡ id) all
+-- If all passes belong to the hall, so do those before the last one.
+pub all_front : (id : TableId) (all xs : List PassValue) (x : PassValue) → all ≡ xs ++ x ∷ []
+    → All (λ p. p.hall ≡ id) all
     → All (λ p. p.hall ≡ id) xs
 all_front id all xs x e of = λ k d below.
     let longer : k < length (xs ++ x ∷ []) = omega (arith, below, length-append xs (x ∷ [])) in
-    let h = subst (λ (l : List Standing). All (λ p. p.hall ≡ id) l) e of k d longer in
-    ap (λ (p : Standing). p.hall) (sym (get_or_append_left xs (x ∷ []) d k below)) ∙ h
+    let h = subst (λ (l : List PassValue). All (λ p. p.hall ≡ id) l) e of k d longer in
+    ap (λ (p : PassValue). p.hall) (sym (get_or_append_left xs (x ∷ []) d k below)) ∙ h

@@ -14,12 +14,16 @@ use std::alloc::Global;
 impl Stream {
     /// Returns the stream's name, its creation time, and its retention period in hours.
     fn about(&self, alloc: Global) -> Result<About, Memory>
-        ensures { IfOk result (λ a. a ≡ record { name = self.now.name; made = self.now.made; hours = self.now.hours }) }
+        ensures { IfOk result (λ a. a ≡ record {
+          name = self.now.name;
+          made = self.now.made_at;
+          hours = self.now.hours;
+        }) }
     {
         let name = self.name.copy(alloc)?;
         Ok(About {
             name,
-            made: self.made,
+            made: self.made_at,
             hours: self.hours,
         })
     }

@@ -59,7 +59,7 @@ impl Stream {
         ensures dropped { self.new ≡ settled self.old }
     {
         settle_at(&mut self.logs, self.next_to_settle, &self.cut);
-        self.tree.pass_expired(self.cut);
+        self.tree.note_expired(self.cut);
         self.next_to_settle = next_of(self.logs.len(), self.next_to_settle);
         self.clock_before = self.clock;
         self.cut_before = self.cut;

@@ -4,7 +4,7 @@ ghost use Rattle.kds_defs.specs.PutCommands.{enforce};
 ghost use Rattle.kds_defs.specs.Rates.{SizedPut, is_throttled};
 ghost use Rattle.kds_stream_logs.specs.Rating.{StandFor};
 ghost use Rattle.kds_stream.specs.Showing.{Decides};
-ghost use Rattle.kds_stream.specs.Value.{IsChangedAt, KeepsFields};
+ghost use Rattle.kds_stream.specs.Value.{KeepsRetention, KeepsFields};
 
 use crate::stream::Stream;
 use kds_base::ShardNo;
@@ -19,7 +19,7 @@ impl Stream {
         ensures answered { Decides self.old self.new result (λ log by. enforce log self.old.clock by self.old.no on) }
         ensures fields { KeepsFields self.new self.old }
         ensures done { result ≡ Ok Reply.Done }
-        ensures changed { IsChangedAt self.old self.new }
+        ensures changed { KeepsRetention self.old self.new }
         ensures enforced { self.new.enforced ≡ on }
     {
         self.enforced = on;

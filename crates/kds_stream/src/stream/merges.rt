@@ -1,8 +1,8 @@
 //! Merges two adjacent shards of a stream (MergeShards).
-ghost use Rattle.std.specs.Prelude.{◌≡◌, ◌≢◌, IfOk, IfNone, None, OnErr, OnOk};
+ghost use Rattle.std.specs.Prelude.{◌≡◌, ◌≢◌, IfOk, IfNone, None};
 ghost use Rattle.kds_defs.specs.StreamCommands.{last_number, merge};
 ghost use Rattle.kds_stream.specs.Showing.{Decides, RefusesAs, merge_line};
-ghost use Rattle.kds_stream.specs.Value.{IsChangedAt, KeepsFields};
+ghost use Rattle.kds_stream.specs.Value.{ChangesIfAccepted};
 ghost use Rattle.kds_tree.specs.Tree.{merge_refusal};
 
 use crate::stream::Stream;
@@ -18,7 +18,7 @@ impl Stream {
         ensures decided { RefusesAs self.now result (λ log c by s. merge_line log c by s shard other)
             (λ log c by s. merge log c by s shard other) }
         ensures merges { IfNone result (merge_refusal self.now.tree shard other ≡ None) }
-        ensures free { IfNone result (self.now.next ≢ last_number) }
+        ensures unspent { IfNone result (self.now.next ≢ last_number) }
     {
         if !self.is_listed(shard) || !self.is_listed(other) {
             return Some(Refusal::NoShard);
@@ -42,10 +42,7 @@ impl Stream {
     pub fn merge(&mut self, shard: ShardNo, other: ShardNo) -> Result<Answer, Memory>
         ensures answered { IfOk result
             (λ a. Decides self.old self.new a (λ log by. merge log self.old.clock by self.old.no shard other)) }
-        ensures fields { KeepsFields self.new self.old }
-        ensures refused { IfOk result (λ a. OnErr a (self.new ≡ self.old)) }
-        ensures changed { IfOk result (λ a. OnOk a (IsChangedAt self.old self.new)) }
-        ensures kept { OnErr result (self.new ≡ self.old) }
+        ensures change { ChangesIfAccepted self.old self.new result }
     {
         if let Some(refusal) = self.merge_refusal(shard, other) {
             return Ok(Err(refusal));

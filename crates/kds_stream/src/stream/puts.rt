@@ -1,9 +1,9 @@
 //! Puts records into a stream (PutRecord and PutRecords).
-ghost use Rattle.std.specs.Prelude.{◌≡◌, IfOk, OnErr, OnOk};
+ghost use Rattle.std.specs.Prelude.{IfOk};
 ghost use Rattle.kds_defs.specs.Lawful.{AreItems, IsItem};
 ghost use Rattle.kds_defs.specs.PutCommands.{put, put_many};
 ghost use Rattle.kds_stream.specs.Showing.{Decides};
-ghost use Rattle.kds_stream.specs.Value.{IsChangedAt, KeepsFields};
+ghost use Rattle.kds_stream.specs.Value.{ChangesIfAccepted};
 
 use crate::stream::Stream;
 use kds_base::{Items, Memory, Seq};
@@ -22,10 +22,7 @@ impl Stream {
         requires { IsItem item }
         ensures answered { IfOk result
             (λ a. Decides self.old self.new a (λ log by. put log self.old.clock by self.old.no item)) }
-        ensures fields { KeepsFields self.new self.old }
-        ensures refused { IfOk result (λ a. OnErr a (self.new ≡ self.old)) }
-        ensures changed { IfOk result (λ a. OnOk a (IsChangedAt self.old self.new)) }
-        ensures kept { OnErr result (self.new ≡ self.old) }
+        ensures change { ChangesIfAccepted self.old self.new result }
     {
         let shard = self.tree.home(item.hash);
         let bytes = item_bytes(&item);
@@ -60,10 +57,7 @@ impl Stream {
         requires { AreItems items }
         ensures answered { IfOk result
             (λ a. Decides self.old self.new a (λ log by. put_many log self.old.clock by self.old.no items)) }
-        ensures fields { KeepsFields self.new self.old }
-        ensures refused { IfOk result (λ a. OnErr a (self.new ≡ self.old)) }
-        ensures changed { IfOk result (λ a. OnOk a (IsChangedAt self.old self.new)) }
-        ensures kept { OnErr result (self.new ≡ self.old) }
+        ensures change { ChangesIfAccepted self.old self.new result }
     {
         let alloc = *self.logs.allocator();
         let seq = self.next;

@@ -12,7 +12,7 @@ ghost use Rattle.kds_defs.specs.Origins.{origin_position};
 ghost use Rattle.kds_defs.specs.Records.{batch, stored};
 ghost use Rattle.kds_defs.specs.Shards.{listed_among, shown};
 ghost use Rattle.kds_defs.specs.Streams.{floor_of};
-ghost use Rattle.kds_stream.specs.Reading.{read_ends};
+ghost use Rattle.kds_stream.specs.ReadEnds.{read_ends};
 ghost use Rattle.kds_stream.specs.Showing.{Shows};
 ghost use Rattle.kds_stream_logs.specs.Logs.{IsUnder};
 ghost use Rattle.kds_stream.specs.Value.{is_listed_at, listed_at};
@@ -93,8 +93,8 @@ impl Stream {
         };
         let no = iter.shard;
         let log = &self.logs[no.0 as usize];
-        let (batch, place) = batch_at(log, alloc, self.cut, iter.position, limit)?;
-        let left = log.first_left(self.cut, place);
+        let (batch, reach) = batch_at(log, alloc, self.cut, iter.position, limit)?;
+        let left = log.first_left(self.cut, reach);
         let end = is_end(&shard, left.is_none());
         let behind = millis_behind(self.clock, left);
         if end {
@@ -109,7 +109,7 @@ impl Stream {
         let next = Iter {
             stream: self.no,
             shard: no,
-            position: place,
+            position: reach,
             issued: self.clock,
         };
         Ok(Ok(Reply::Records {
@@ -187,8 +187,8 @@ impl Stream {
             → IfOk result (λ r. r.1 ≡ read_ends log self.now.clock self.now.no shard position limit) }
     {
         let log = &self.logs[shard.0 as usize];
-        let (batch, place) = batch_at(log, alloc, self.cut, position, limit)?;
-        let left = log.first_left(self.cut, place);
+        let (batch, reach) = batch_at(log, alloc, self.cut, position, limit)?;
+        let left = log.first_left(self.cut, reach);
         let end = match self.tree.shard(shard) {
             Some(state) => is_end(state, left.is_none()),
             None => false,

@@ -4,7 +4,7 @@ ghost use Rattle.kds_defs.specs.Lawful.{IsShardCount};
 ghost use Rattle.kds_defs.specs.ScaleCommands.{made_by};
 ghost use Rattle.kds_stream.specs.Showing.{Decides};
 ghost use Rattle.kds_stream.specs.Steps.{IsPlan, is_over, scale_where};
-ghost use Rattle.kds_stream.specs.Value.{IsChangedAt, KeepsFields};
+ghost use Rattle.kds_stream.specs.Value.{ChangesIfAccepted, KeepsRetention, KeepsFields};
 
 use crate::stream::Stream;
 use kds_base::{Items, Memory, Seq};
@@ -23,10 +23,7 @@ impl Stream {
         requires { IsShardCount target }
         ensures answered { IfOk result (λ a. Decides self.old self.new a (λ log by.
             scale_where (is_over target open_limit) log self.old.clock by self.old.name self.old.no target)) }
-        ensures fields { KeepsFields self.new self.old }
-        ensures refused { IfOk result (λ a. OnErr a (self.new ≡ self.old)) }
-        ensures changed { IfOk result (λ a. OnOk a (IsChangedAt self.old self.new)) }
-        ensures kept { OnErr result (self.new ≡ self.old) }
+        ensures change { ChangesIfAccepted self.old self.new result }
     {
         if u64::from(target) > open_limit {
             return Ok(Err(Refusal::Full));
@@ -59,7 +56,7 @@ impl Stream {
         ensures answered { IfOk result (λ reply. Decides self.old self.new (Ok reply) (λ log by.
             scale_where false log self.old.clock by self.old.name self.old.no target)) }
         ensures fields { KeepsFields self.new self.old }
-        ensures changed { OnOk result (IsChangedAt self.old self.new) }
+        ensures changed { OnOk result (KeepsRetention self.old self.new) }
         ensures kept { OnErr result (self.new ≡ self.old) }
     {
         let alloc = *self.logs.allocator();

@@ -1,11 +1,11 @@
 //! Splits a shard of a stream (SplitShard).
-ghost use Rattle.std.specs.Prelude.{◌≡◌, ◌≢◌, ◌<◌, length, IfOk, IfNone, None, OnErr, OnOk};
+ghost use Rattle.std.specs.Prelude.{◌≡◌, ◌≢◌, ◌<◌, length, IfOk, IfNone, None};
 ghost use Rattle.std.specs.List.{filter};
 ghost use Rattle.kds_defs.specs.declared.limits.TheConstants.{OPEN_SHARDS};
 ghost use Rattle.kds_defs.specs.Shards.{is_open};
 ghost use Rattle.kds_defs.specs.StreamCommands.{last_number, split_where};
 ghost use Rattle.kds_stream.specs.Showing.{Decides, RefusesAs, is_full, split_line};
-ghost use Rattle.kds_stream.specs.Value.{IsChangedAt, KeepsFields};
+ghost use Rattle.kds_stream.specs.Value.{ChangesIfAccepted};
 ghost use Rattle.kds_tree.specs.Tree.{split_refusal};
 
 use crate::stream::Stream;
@@ -32,7 +32,7 @@ impl Stream {
         ensures decided { RefusesAs self.now result (λ log c by s. split_line log c by s shard at)
             (λ log c by s. split_where (is_full self.now open_limit) log c by s shard at) }
         ensures splits { IfNone result (split_refusal self.now.tree shard at ≡ None) }
-        ensures free { IfNone result (self.now.next ≢ last_number) }
+        ensures unspent { IfNone result (self.now.next ≢ last_number) }
         ensures few { IfNone result (length (filter is_open self.now.tree) < OPEN_SHARDS) }
     {
         if !self.is_listed(shard) {
@@ -62,10 +62,7 @@ impl Stream {
     pub fn split(&mut self, shard: ShardNo, at: u128, open_limit: u64) -> Result<Answer, Memory>
         ensures answered { IfOk result (λ a. Decides self.old self.new a (λ log by.
             split_where (is_full self.old open_limit) log self.old.clock by self.old.no shard at)) }
-        ensures fields { KeepsFields self.new self.old }
-        ensures refused { IfOk result (λ a. OnErr a (self.new ≡ self.old)) }
-        ensures changed { IfOk result (λ a. OnOk a (IsChangedAt self.old self.new)) }
-        ensures kept { OnErr result (self.new ≡ self.old) }
+        ensures change { ChangesIfAccepted self.old self.new result }
     {
         if let Some(refusal) = self.split_refusal(shard, at, open_limit) {
             return Ok(Err(refusal));

@@ -1,5 +1,5 @@
 use Rattle.std.proofs.Common.{◌≡◌, ◌-◌, ◌≤◌, slice_set, ◌∙◌, true, false, subst, rules, refl, ap, sym}
-use Rattle.kds_defs.specs.Records.{place_after}
+use Rattle.kds_defs.specs.Records.{position_after}
 use Rattle.kcl_book.specs.Tenures.{tenure_at, with_read}
 use Rattle.kcl_leases.proofs.TenureWrites.{of_book, read_refused, reads_from, room_from, goes_onward}
 use Rattle.kcl_leases.specs.Standing.{facing}
@@ -59,14 +59,14 @@ returns-clause-judged c =
     λ log st. read_entry w a.table.now a.book.now.tenures a.by a.no a.limit p a.end a.numbers.now
     c.reach-position.ensures log st
     y (c.in-Ok.ensures.value log st.shows) v (search rules) ms (search rules) e (search rules) c.read-2.new.self.tenures
-    c.place_after_numbers.result
+    c.position_after_numbers.result
     (λ log line sh at none. shows_lease w log line sh at none) (search rules)
     (of_book (tenure_at a.book.now.tenures a.no) c.read-2.new.self a.book.now
-    (λ x. slice_set a.book.now.tenures (a.no - 1) (with_read c.place_after_numbers.result e x)) c.read-2.ensures)
+    (λ x. slice_set a.book.now.tenures (a.no - 1) (with_read c.position_after_numbers.result e x)) c.read-2.ensures)
     (search rules) (search rules)
 
-pub read-requires-2-clause-room : goal.read-requires-2-clause-room
-read-requires-2-clause-room c =
+pub read-requires-2-clause-few : goal.read-requires-2-clause-few
+read-requires-2-clause-few c =
     let a = c.args in
     let log = c.requires.stands.0 in
     room_from (tenure_at a.book.now.tenures a.no) a.by log a.shards.now.clock c.reach-position.result c.in-Ok.tenure
@@ -81,12 +81,13 @@ read-requires-2-clause-onward c =
     let p = c.reach-position.result in
     let ms = c.in_ok-batch.batch in
     let e = c.in_ok-batch.ends in
-    let at : c.place_after_numbers.result ≡ place_after p ms = search rules in
+    let at : c.position_after_numbers.result ≡ position_after p ms = search rules in
     let log = c.requires.stands.0 in
     let st = c.requires.stands.1 in
     let ns = numbers_are w a.table.now a.book.now.tenures a.by a.no a.limit p a.end a.numbers.now
     c.reach-position.ensures log st
     y (c.in-Ok.ensures.value log st.shows) v (search rules) ms (search rules) e (search rules) in
-    reads_from (tenure_at a.book.now.tenures a.no) a.by log w.clock p c.place_after_numbers.result y
+    reads_from (tenure_at a.book.now.tenures a.no) a.by log w.clock p c.position_after_numbers.result y
     (c.in-Ok.ensures.value log st.shows)
-    (subst (λ n. p ≤ n) (sym (at ∙ ap (place_after p) ns)) (goes_onward log w.clock y.key.stream y.key.shard p a.limit))
+    (subst (λ n. p ≤ n) (sym (at ∙ ap (position_after p) ns))
+    (goes_onward log w.clock y.key.stream y.key.shard p a.limit))

@@ -1,4 +1,4 @@
-use Rattle.kcl_consumer.proofs.RoomLemmas.{never_full}
+use Rattle.kcl_consumer.proofs.WaitingLemmas.{never_full}
 use Rattle.kcl_consumer.proofs.laws.never_full.Goals as goal
 
 pub returns : goal.returns

@@ -1,6 +1,5 @@
-use Rattle.std.proofs.Common.{◌-◌, ◌^◌, List}
-use Rattle.kds_defs.specs.declared.command.Turn.{Turn as Asked}
-use Rattle.kcl_drill_drain.specs.Leased.{HasLeased}
+use Rattle.std.proofs.Common.{◌-◌, ◌^◌}
+use Rattle.kcl_drill_drain.specs.Leased.{KeepsLeased}
 use Rattle.kcl_drill_drain.specs.Standing.{IsSpot, ReadsOn, Spot}
 use Rattle.kcl_drill_drain.proofs.reading.read_on.Given as goal
 
@@ -8,10 +7,9 @@ use Rattle.kcl_drill_drain.proofs.reading.read_on.Given as goal
 -- was ready for a read before the loop, it still is (`ReadsOn`).
 abbrev pub invariant-loop-next : goal.invariant-loop-next
 invariant-loop-next g l =
-    ((h : List Asked) → HasLeased (g.M.Machine.stands_for l.fn.machine) l.by l.at h
-    → HasLeased (g.M.Machine.stands_for l.machine) l.by l.at h)
+    KeepsLeased (g.M.Machine.stands_for l.fn.machine) (g.M.Machine.stands_for l.machine) l.by l.at
     × ((w : Spot) → IsSpot w l.at → ReadsOn (g.M.Machine.stands_for l.fn.machine) w l.by l.at l.fn.from
     → ReadsOn (g.M.Machine.stands_for l.machine) w l.by l.at l.held)
 
 abbrev pub decreases-loop-next : goal.decreases-loop-next
-decreases-loop-next g l = 2 ^ 64 - l.held.place
+decreases-loop-next g l = 2 ^ 64 - l.held.position

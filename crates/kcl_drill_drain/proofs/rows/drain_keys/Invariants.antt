@@ -2,15 +2,14 @@ use Rattle.std.proofs.Common.{◌≡◌, List}
 use Rattle.kds_defs.specs.declared.command.Turn.{Turn as Asked}
 use Rattle.kcl_drill_drain.specs.Draining.{CanDrain}
 use Rattle.kcl_drill_drain.specs.Keys.{AreDrainedTo, listed_keys}
-use Rattle.kcl_drill_drain.specs.Leased.{HasLeased, Leads}
+use Rattle.kcl_drill_drain.specs.Leased.{KeepsLeased, Leads}
 use Rattle.kcl_drill_drain.proofs.rows.drain_keys.Given as goal
 
 -- The machine has still answered only turns on leases since any history for which this was true before. The rows of the
 -- keys so far are drained, and the others wait.
 abbrev pub invariant-loop-key : goal.invariant-loop-key
 invariant-loop-key g l =
-    ((h : List Asked) → HasLeased (g.M.Machine.stands_for l.fn.machine) l.by l.at h
-    → HasLeased (g.M.Machine.stands_for l.machine) l.by l.at h)
+    KeepsLeased (g.M.Machine.stands_for l.fn.machine) (g.M.Machine.stands_for l.machine) l.by l.at
     × ((h : List Asked) → CanDrain h l.at → l.keys ≡ listed_keys h l.at
     → Leads (g.M.Machine.stands_for l.fn.machine) l.by l.at h (AreDrainedTo h l.keys l.among 0)
     → Leads (g.M.Machine.stands_for l.machine) l.by l.at h (AreDrainedTo h l.keys l.among l.key-index))

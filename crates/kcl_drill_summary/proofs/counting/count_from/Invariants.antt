@@ -2,7 +2,7 @@ use Rattle.std.proofs.Common.{◌≡◌, ◌-◌, ◌^◌, List, max, Some}
 use Rattle.kds_defs.specs.declared.command.Turn.{Turn as Asked}
 use Rattle.kds_defs.specs.Histories.{clock, journal}
 use Rattle.kds_defs.specs.Listings.{iterator_at}
-use Rattle.kcl_drill_summary.specs.Reading.{HasRead}
+use Rattle.kcl_drill_summary.specs.Reads.{HasRead}
 use Rattle.kcl_drill_summary.specs.Counting.{CanCount, GoesOn}
 use Rattle.kcl_drill_summary.proofs.counting.count_from.Given as goal
 

@@ -3,7 +3,7 @@ use Rattle.kds_defs.specs.declared.command.Turn.{Turn as Asked}
 use Rattle.kds_defs.specs.Histories.{journal}
 use Rattle.kcl_drill_summary.specs.Counting.{of_stream, summed_key}
 use Rattle.kcl_drill_summary.specs.Summing.{CanTell, IsTold}
-use Rattle.kcl_drill_summary.specs.Reading.{HasRead}
+use Rattle.kcl_drill_summary.specs.Reads.{HasRead}
 use Rattle.kcl_drill_summary.proofs.summing.sum_shards.Given as goal
 
 -- The machine has still only read since any history for which this was true before. The entries so far and what the

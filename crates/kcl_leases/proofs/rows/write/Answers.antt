@@ -1,7 +1,7 @@
 use Rattle.std.proofs.Common.{◌+◌}
 use Rattle.std.proofs.lemmas.Result.{err_from_is_err_and}
 use Rattle.kcl_table.specs.Rows.{row_of}
-use Rattle.kcl_table.specs.Writes.{renew_answer, written_row}
+use Rattle.kcl_table.specs.Writes.{write_answer, written_row}
 use Rattle.kcl_leases.proofs.CounterWrites.{is_written, not_own, renewal, renewal_agrees, write_asks, write_done}
 use Rattle.kcl_leases.proofs.CounterWrites.{write_entry, write_refused, written_bound}
 use Rattle.kcl_leases.specs.Conditions.{write_command}
@@ -27,7 +27,7 @@ returns-in_err-next g c =
     (let s = (facing (g.L.Shards.clock a.shards.now) (g.L.Shards.shows a.shards.now)) in
     write_refused s a.table.now a.book.now.tenures a.by a.tenure a.counter (write_command a.change a.tenure a.counter) y
     (write_entry a.change a.tenure)
-    (renew_answer (row_of a.table.now y.key) a.tenure a.counter)
+    (write_answer (row_of a.table.now y.key) a.tenure a.counter)
     (renewal (write_entry a.change a.tenure) s.clock a.by a.tenure a.counter)
     (write_asks a.change s.clock a.by a.tenure a.counter) c.in_ok-own.ensures.value
     (λ log T is rows. renewal_agrees s.clock a.by a.tenure a.counter (write_entry a.change a.tenure) a.table.now y log T
@@ -41,7 +41,7 @@ returns g c =
     rw c.in_ok-next.ensures.written (let s = (facing (g.L.Shards.clock a.shards.now) (g.L.Shards.shows a.shards.now)) in
     write_done s a.table.now a.book.now.tenures a.by a.tenure a.counter (write_command a.change a.tenure a.counter) y
     (write_entry a.change a.tenure)
-    (renew_answer (row_of a.table.now y.key) a.tenure a.counter)
+    (write_answer (row_of a.table.now y.key) a.tenure a.counter)
     (renewal (write_entry a.change a.tenure) s.clock a.by a.tenure a.counter)
     (write_asks a.change s.clock a.by a.tenure a.counter) c.in_ok-own.ensures.value
     (λ log T is rows. renewal_agrees s.clock a.by a.tenure a.counter (write_entry a.change a.tenure) a.table.now y log T

@@ -20,7 +20,7 @@ returns-in-Ok-clause-going g c =
     c.call_all.ensures.made c.call_all.ensures.called c.requires.going in
     ok_so c.make_turn.result _ _
     (λ turned. going_turned g.P.Processor.stands_for c.call_all.new.worker c.make_turn.new.worker c.args.pass.now
-    c.make_turn.new.pass c.args.now c.make_turn.ensures.made turned before) c.make_turn.ensures.ok
+    c.make_turn.new.pass c.args.now c.make_turn.ensures.run.made turned before) c.make_turn.ensures.ok
 
 pub returns-in-Ok-clause-err : goal.returns-in-Ok-clause-err
 returns-in-Ok-clause-err g c =

@@ -6,10 +6,10 @@ pub returns-clause-served : goal.returns-clause-served
 returns-clause-served g c =
     ok_so c.drive-result.result _ _
     (run_served g.P.Processor.stands_for c.drive-result.new.worker c.served.ensures c.drive-result.new.pass)
-    c.drive-result.ensures.ok
+    c.drive-result.ensures.ran.ok
 
 pub returns-clause-served_so_far : goal.returns-clause-served_so_far
 returns-clause-served_so_far g c =
     err_to c.drive-result.result _ _
     (cut_served g.P.Processor.stands_for c.drive-result.new.worker c.served.ensures c.drive-result.new.pass)
-    c.drive-result.ensures.err
+    c.drive-result.ensures.ran.err

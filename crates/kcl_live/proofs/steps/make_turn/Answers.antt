@@ -13,7 +13,7 @@ returns-in-Err-absorb-clause-err g c = λ past d.
     answer_failed g.P.Processor.stands_for c.args.worker.now c.next-what.new.self c.args.pass.now c.turn.new.pass past
     c.args.now c.next-what.result c.next-what.ensures.same.made d c.next-what.ensures.next c.turn.ensures.kept.1
     c.absorb.new.self c.in-Ok.answer c.in-Ok.ensures.answered c.in-Err-absorb.ensures.kept c.next-what.ensures.waits
-    c.without.result c.without.ensures
+    c.drop_answer.result c.drop_answer.ensures
 
 pub returns-in-Err-clause-err : goal.returns-in-Err-clause-err
 returns-in-Err-clause-err g c = λ past d.

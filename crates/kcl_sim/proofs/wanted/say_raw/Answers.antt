@@ -1,11 +1,9 @@
-use Rattle.kcl_sim.proofs.Running.{on_ok_so}
-use Rattle.kcl_sim.proofs.Wanting.{said, unsaid}
+use Rattle.kcl_sim.proofs.Wanting.{said_whole, unsaid_whole}
 use Rattle.kcl_sim.proofs.wanted.say_raw.Goals as goal
 
-pub returns-then-wants_answers-clause-ok : goal.returns-then-wants_answers-clause-ok
-returns-then-wants_answers-clause-ok g c =
-    on_ok_so c.print_raw.result c.print_raw.ensures.ok
-    (λ wrote. said g.K.Keep.wanted _ c.args.to.now _ c.if-wants_answers.ensures wrote)
+pub returns-then-wants_answers : goal.returns-then-wants_answers
+returns-then-wants_answers g c =
+    said_whole g.K.Keep.wanted _ c.args.to.now _ _ c.if-wants_answers.ensures c.print_raw.ensures
 
-pub returns-else-wants_answers-clause-ok : goal.returns-else-wants_answers-clause-ok
-returns-else-wants_answers-clause-ok g c = unsaid g.K.Keep.wanted _ c.args.to.now c.if-wants_answers.ensures
+pub returns-else-wants_answers : goal.returns-else-wants_answers
+returns-else-wants_answers g c = unsaid_whole g.K.Keep.wanted _ _ c.args.to.now c.if-wants_answers.ensures

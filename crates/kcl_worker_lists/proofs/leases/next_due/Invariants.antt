@@ -8,5 +8,5 @@ use Rattle.kcl_worker_lists.proofs.leases.next_due.Given as goal
 
 abbrev pub invariant-loop-h : goal.invariant-loop-h
 invariant-loop-h l =
-    let test : Held → Bool = λ h. is_past l.fn.place (id_of_held h) && is_due h l.fn.now l.fn.failover in
+    let test : Held → Bool = λ h. is_past l.fn.last (id_of_held h) && is_due h l.fn.now l.fn.failover in
     find test (drop l.h-index l.held) ≡ find test l.held

@@ -1,5 +1,5 @@
 use Rattle.std.proofs.Common.{◌-◌, arith, rules}
-use Rattle.kcl_worker_lists.proofs.Places.{rising_back}
+use Rattle.kcl_worker_lists.proofs.Indexes.{rising_back}
 use Rattle.kcl_worker_lists.proofs.search.are_rising.Goals as goal
 
 pub loop-i-preserved : goal.loop-i-preserved

@@ -93,7 +93,7 @@ returns-in-Err-clause-performed g c =
       listens = listens;
     }))
     (λ task. listens_or_not task (around left left) (around held held) moments listens
-    (c.no_room.ensures task left left moments held))
+    (c.memory_may_run_out.ensures task left left moments held))
     (task_of (texts_of c.args.words.now.items))
 
 pub returns-in-Err-clause-complete : goal.returns-in-Err-clause-complete

@@ -6,13 +6,14 @@ use Rattle.kds_lines.proofs.feed.feed_lines.Given as goal
 -- Whatever was fed before, a first part of `piece` was fed, and `rest` remains. The sink's fault count hasn't fallen,
 -- and fewer than OUTPUT_BYTES bytes of output wait.
 abbrev pub invariant-loop-at : goal.invariant-loop-at
-invariant-loop-at g l =
-    ((fed : List ℕ) (start : Option (List ℕ))
-    → Stands (g.T.Taker.took l.fn.taker) g.T.Taker.output fed l.fn.line_buffer start (g.K.Sink.held l.fn.out)
-    → FedLines (g.T.Taker.took l.taker) g.T.Taker.output fed l.piece l.rest l.line_buffer start (g.K.Sink.held l.out))
-    × (fed_count l.line_buffer + length l.rest ≡ fed_count l.fn.line_buffer + length l.piece)
-    × (g.K.Sink.faults l.fn.out ≤ g.K.Sink.faults l.out)
-    × (length l.line_buffer.output < OUTPUT_BYTES)
+invariant-loop-at g l = record {
+  feeds : (fed : List ℕ) (start : Option (List ℕ))
+      → Stands (g.T.Taker.took l.fn.taker) g.T.Taker.output fed l.fn.line_buffer start (g.K.Sink.held l.fn.out)
+      → FedLines (g.T.Taker.took l.taker) g.T.Taker.output fed l.piece l.rest l.line_buffer start (g.K.Sink.held l.out);
+  count : fed_count l.line_buffer + length l.rest ≡ fed_count l.fn.line_buffer + length l.piece;
+  later : g.K.Sink.faults l.fn.out ≤ g.K.Sink.faults l.out;
+  bounded : length l.line_buffer.output < OUTPUT_BYTES;
+}
 
 -- Each round of the loop feeds at least one byte of those that remain.
 abbrev pub decreases-loop-at : goal.decreases-loop-at

@@ -15,7 +15,7 @@ returns c =
     let three = more t _ _ _ _ two c.in_ok-push_piece-3.ensures in
     let four = more t _ _ _ _ three c.in_ok-put_decimal.ensures in
     let five = more t _ _ _ _ four c.in_ok-push_piece-4.ensures in
-    let six = more t _ _ _ _ five c.in_ok-put_records.ensures in
+    let six = more t _ _ _ _ five c.in_ok-append_records.ensures in
     let seven = more t _ _ _ _ six c.in_ok-push_piece-5.ensures in
     seven ∙ ap (λ (text : List ℕ). t ++ text)
     (end_pieces c.args.batch.now c.args.behind children c.as_slice.result.now family)

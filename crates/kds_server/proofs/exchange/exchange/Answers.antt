@@ -43,7 +43,7 @@ returns-in-Err-read_next-clause-ended g c = λ all start given told r.
     (flushed all (g.S.Source.left c.args.input.now) c.args.session.now c.flush.new.session start
     (g.K.Sink.held c.args.out.now) (g.K.Sink.held c.flush.new.out) given told r c.in-Ok.ensures.stands
     c.in-Ok.ensures.written)
-    c.requires.quiet c.in-Ok.ensures.same (λ e. c.in-Err-read_next.ensures.left (ap Err e))
+    c.requires.quiet c.in-Ok.ensures.same (λ e. c.in-Err-read_next.ensures.kept (ap Err e))
 
 pub returns-in_default : goal.returns-in_default
 returns-in_default g c = record {
@@ -57,7 +57,7 @@ returns-in_default g c = record {
       c.in-Ok.ensures.written)
       c.requires.quiet c.in-Ok.ensures.same (λ live. c.in_default.not-Live (c.standing.ensures ∙ live))
       c.ending-in_default.ensures;
-  waits = λ e. absurd (some_none _ e);
+  free = λ e. absurd (some_none _ e);
   empty = λ e. absurd (some_none _ e);
   grows = λ e. absurd (some_none _ e);
   source_later = search rules;

@@ -2,7 +2,7 @@ use Rattle.std.proofs.Common.{ap, ◌∙◌}
 use Rattle.std.specs.Map.{values_of}
 use Rattle.indexmap.specs.IndexMap.{values}
 use Rattle.kds_service.proofs.Deleting.{delete_done, delete_none}
-use Rattle.kds_service.proofs.Entries.{map_take_out, placed_remove}
+use Rattle.kds_service.proofs.Entries.{map_take_out, named_remove}
 use Rattle.kds_service.proofs.Lists.{there_is}
 use Rattle.kds_service.proofs.creation.delete.Goals as goal
 
@@ -18,6 +18,6 @@ returns-in-Some-clause-leads c =
     c.in-Some.ensures.value x.1
     (ap values_of c.shift_remove_index.ensures.entries ∙ map_take_out (λ e. e.1) a.streams.now.entries c.in-Some.i)
 
-pub returns-in-Some-clause-placed : goal.returns-in-Some-clause-placed
-returns-in-Some-clause-placed c =
-    placed_remove c.args.clock c.in-Some.i c.args.streams.now.entries _ c.requires c.shift_remove_index.ensures.entries
+pub returns-in-Some-clause-named : goal.returns-in-Some-clause-named
+returns-in-Some-clause-named c =
+    named_remove c.args.clock c.in-Some.i c.args.streams.now.entries _ c.requires c.shift_remove_index.ensures.entries

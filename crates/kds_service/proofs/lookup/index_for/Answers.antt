@@ -1,10 +1,10 @@
 -- For a command with a token, the index is that of the stream whose number is in the token.
 use Rattle.std.proofs.Common.{sym, ◌∙◌}
 use Rattle.indexmap.specs.IndexMap.{values}
-use Rattle.kds_service.proofs.Lookups.{token_place}
+use Rattle.kds_service.proofs.Lookups.{token_index}
 use Rattle.kds_service.proofs.lookup.index_for.Goals as goal
 
 pub returns-in-Some-clause-value : goal.returns-in-Some-clause-value
 returns-in-Some-clause-value c =
     c.index_by_number.ensures.value
-    ∙ sym (token_place (values c.args.streams.now) c.args.what.now c.in-Some.no (sym c.in-Some.ensures))
+    ∙ sym (token_index (values c.args.streams.now) c.args.what.now c.in-Some.no (sym c.in-Some.ensures))

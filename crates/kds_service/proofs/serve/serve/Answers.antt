@@ -11,7 +11,7 @@ pub returns-in-Delete-clause-leads : goal.returns-in-Delete-clause-leads
 returns-in-Delete-clause-leads c before =
     let a = c.args in
     let w = c.in-Delete in
-    serve_leads {E = Unit {0}} (Ok c.delete.result) a.clock before a.made.now (values a.streams.now)
+    serve_leads {E = Unit {0}} (Ok c.delete.result) a.clock before a.made_count.now (values a.streams.now)
     (values c.delete.new.streams) a.what
     (command.Delete w.name) c.delete.ensures.leads w.is
 
@@ -19,7 +19,7 @@ pub returns-in-Streams-clause-leads : goal.returns-in-Streams-clause-leads
 returns-in-Streams-clause-leads c before =
     let a = c.args in
     let w = c.in-Streams in
-    serve_leads c.streams.result a.clock before a.made.now (values a.streams.now) (values a.streams.now)
+    serve_leads c.streams.result a.clock before a.made_count.now (values a.streams.now) (values a.streams.now)
     a.what (command.Streams w.after w.limit) c.streams.ensures w.is
 
 pub serve_one-requires-clause-own : goal.serve_one-requires-clause-own
@@ -31,5 +31,5 @@ serve_one-requires-clause-own c =
 pub returns-in_default-clause-leads : goal.returns-in_default-clause-leads
 returns-in_default-clause-leads c before =
     let a = c.args in
-    serve_leads c.serve_one.result a.clock before a.made.now (values a.streams.now)
+    serve_leads c.serve_one.result a.clock before a.made_count.now (values a.streams.now)
     (values c.serve_one.new.streams) a.what a.what c.serve_one.ensures.leads refl

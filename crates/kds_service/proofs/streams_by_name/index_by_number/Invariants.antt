@@ -1,7 +1,7 @@
 use Rattle.std.proofs.Common.{◌≡◌, ◌==◌, drop}
 use Rattle.std.specs.List.{position_from}
 use Rattle.indexmap.specs.IndexMap.{values}
-use Rattle.kds_service.specs.Places.{index_by_number}
+use Rattle.kds_service.specs.Indexes.{index_by_number}
 use Rattle.kds_service.specs.Shown.{numbers_of}
 use Rattle.kds_service.proofs.streams_by_name.index_by_number.Given as goal
 

@@ -4,7 +4,7 @@ use Rattle.std.proofs.lemmas.Bool.Decides.{nat_tests}
 use Rattle.indexmap.specs.IndexMap.{values}
 use Rattle.kds_defs.specs.declared.limits.TheConstants.{OPEN_SHARDS}
 use Rattle.kds_service.proofs.Lists.{drop_get}
-use Rattle.kds_service.specs.Places.{open_total}
+use Rattle.kds_service.specs.Indexes.{open_total}
 use Rattle.kds_service.proofs.streams_by_name.may_open.Goals as goal
 
 over : (total more left rest opened later : ℕ) → left + total + more ≡ OPEN_SHARDS + rest → rest ≡ opened + later

@@ -1,7 +1,7 @@
 use Rattle.std.proofs.Common.{◌≡◌, ◌+◌, drop}
 use Rattle.kds_defs.specs.declared.limits.TheConstants.{OPEN_SHARDS}
 use Rattle.indexmap.specs.IndexMap.{values}
-use Rattle.kds_service.specs.Places.{open_total}
+use Rattle.kds_service.specs.Indexes.{open_total}
 use Rattle.kds_service.proofs.streams_by_name.may_open.Given as goal
 
 -- The number `left` is OPEN_SHARDS without `more` and without the open shards of the streams before the index `i`.

@@ -2,7 +2,7 @@
 use Rattle.std.proofs.Common.{ap, arith}
 use Rattle.indexmap.specs.IndexMap.{values}
 use Rattle.kds_service.proofs.Lists.{drop_get}
-use Rattle.kds_service.specs.Places.{open_beside}
+use Rattle.kds_service.specs.Indexes.{open_beside}
 use Rattle.kds_service.proofs.streams_by_name.open_limit.Goals as goal
 
 pub loop-i-preserved : goal.loop-i-preserved

@@ -2,7 +2,7 @@ use Rattle.std.proofs.Common.{◌≡◌, drop}
 use Rattle.std.specs.Prelude.{◌-◌}
 use Rattle.kds_defs.specs.declared.limits.TheConstants.{OPEN_SHARDS}
 use Rattle.indexmap.specs.IndexMap.{values}
-use Rattle.kds_service.specs.Places.{open_beside}
+use Rattle.kds_service.specs.Indexes.{open_beside}
 use Rattle.kds_service.proofs.streams_by_name.open_limit.Given as goal
 
 -- If the open shards of the streams still to come, except the stream `no` itself, are subtracted from `left`, the

@@ -19,7 +19,7 @@ reserve_all-requires c =
 pub append_all-requires : goal.append_all-requires
 append_all-requires c =
     can_take_all (map log_of c.args.logs.now) c.reserve_all.new.logs c.args.routed.items c.args.places.now
-    c.requires.places (c.in_ok-reserve_all.ensures.same ∙ c.release_all.ensures) c.requires.each c.requires.in_turn
+    c.requires.places (c.in_ok-reserve_all.ensures.same ∙ c.release_all.ensures) c.requires.each c.requires.in_order
     c.in_ok-reserve_all.ensures.reserved
 
 pub returns-clause-ok : goal.returns-clause-ok

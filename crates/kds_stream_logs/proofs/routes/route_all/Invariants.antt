@@ -2,7 +2,7 @@ use Rattle.std.proofs.Common.{◌≡◌, ℕ, List, length}
 use Rattle.std.specs.List.{AllByRecursion}
 use Rattle.kds_defs.specs.Rates.{SizedPut}
 use Rattle.kds_stream_logs.specs.Rating.{IsCounted, StandFor}
-use Rattle.kds_stream_logs.specs.Routes.{ArePlaced, GoesOn}
+use Rattle.kds_stream_logs.specs.Routes.{AreOfRecords, GoesOn}
 use Rattle.kds_stream_logs.specs.Saved.{restored}
 use Rattle.kds_stream_logs.proofs.routes.route_all.Given as goal
 
@@ -14,7 +14,7 @@ invariant-loop-item l =
     record {
       goes_on : (f : ℕ → List SizedPut) → StandFor f 0 l.initial.windows
           → GoesOn l.tree.shards l.clock l.enforced f l.first l.initial.items.items l.items.items l.routes l.windows;
-      placed : ArePlaced l.tree.shards l.clock l.first l.routes;
+      placed : AreOfRecords l.tree.shards l.clock l.first l.routes;
       counted : AllByRecursion (IsCounted l.clock) l.windows;
       many : length l.windows ≡ length l.tree.shards;
       saved : restored l.routes.saved.items l.windows ≡ l.initial.windows;

@@ -7,8 +7,8 @@ pub returns-then-holds_back_or_counts-clause-placed : goal.returns-then-holds_ba
 returns-then-holds_back_or_counts-clause-placed c _ first placed =
     let saved = placed_same c.args.tree.now.shards c.args.clock first c.args.routes.now c.save.new.self
     c.save.ensures.routed c.save.ensures.places c.save.ensures.next placed in
-    placed_same c.args.tree.now.shards c.args.clock first c.save.new.self c.hold_back.new.self
-    c.in_ok-hold_back.ensures.routed c.in_ok-hold_back.ensures.places c.in_ok-hold_back.ensures.next saved
+    placed_same c.args.tree.now.shards c.args.clock first c.save.new.self c.add_throttled.new.self
+    c.in_ok-add_throttled.ensures.routed c.in_ok-add_throttled.ensures.places c.in_ok-add_throttled.ensures.next saved
 
 pub returns-clause-placed : goal.returns-clause-placed
 returns-clause-placed c _ first placed =

@@ -3,8 +3,8 @@ use Rattle.kds_defs.specs.declared.limits.TheConstants.{BATCH_BYTES}
 use Rattle.kcl_audit_streams.proofs.BatchSteps.{batch_below}
 use Rattle.kcl_audit_streams.proofs.stream.ToldStream.read.Goals as goal
 
-pub place_after_numbers-place-requires : goal.place_after_numbers-place-requires
-place_after_numbers-place-requires c =
+pub position_after_numbers-reach-requires : goal.position_after_numbers-reach-requires
+position_after_numbers-reach-requires c =
     let a = c.args in
     rw (
       c.as_slice.ensures,

@@ -25,19 +25,20 @@ loop-alloc-preserved g c =
     way_goes g.K.Keep.wanted c.args.at c.args.by c.args.self.now c.loop-alloc.self c.hand_round.new.self c.args.hand
     c.loop-alloc.hand c.hand_round.new.hand
     c.loop-alloc.text c.hand_round.new.text c.loop-alloc.invariant
-    c.in_ok-hand_round.ensures.made c.in_ok-hand_round.ensures.over c.in_ok-hand_round.ensures.workers
-    c.in_ok-hand_round.ensures.told
+    c.in_ok-hand_round.ensures.made c.in_ok-hand_round.ensures.unfinished c.in_ok-hand_round.ensures.workers
+    c.in_ok-hand_round.ensures.since
     c.in_ok-hand_round.ensures.fewer
     c.in_ok-hand_round.ensures.none_due
 
-pub returns-in_err-hand_round-clause-over : goal.returns-in_err-hand_round-clause-over
-returns-in_err-hand_round-clause-over g c = c.in_err-hand_round.ensures.over ∙ c.loop-alloc.invariant.over
+pub returns-in_err-hand_round-clause-unfinished : goal.returns-in_err-hand_round-clause-unfinished
+returns-in_err-hand_round-clause-unfinished g c =
+    c.in_err-hand_round.ensures.unfinished ∙ c.loop-alloc.invariant.unfinished
 
 pub returns-in_err-hand_round-clause-workers : goal.returns-in_err-hand_round-clause-workers
 returns-in_err-hand_round-clause-workers g c = c.in_err-hand_round.ensures.workers ∙ c.loop-alloc.invariant.workers
 
-pub returns-in_err-hand_round-clause-told : goal.returns-in_err-hand_round-clause-told
-returns-in_err-hand_round-clause-told g c = c.in_err-hand_round.ensures.told ∙ c.loop-alloc.invariant.told
+pub returns-in_err-hand_round-clause-since : goal.returns-in_err-hand_round-clause-since
+returns-in_err-hand_round-clause-since g c = c.in_err-hand_round.ensures.since ∙ c.loop-alloc.invariant.since
 
 pub returns-in_err-hand_round-clause-breaks : goal.returns-in_err-hand_round-clause-breaks
 returns-in_err-hand_round-clause-breaks g c =
@@ -47,14 +48,14 @@ returns-in_err-hand_round-clause-breaks g c =
     c.loop-alloc.invariant
     (sym c.over.ensures ∙ no_some c.over.result (sym c.loop-alloc-test.ensures)) c.in_err-hand_round.ensures.breaks)
 
-pub returns-in_err-say_left-clause-over : goal.returns-in_err-say_left-clause-over
-returns-in_err-say_left-clause-over g c = c.loop-alloc.invariant.over
+pub returns-in_err-say_left-clause-unfinished : goal.returns-in_err-say_left-clause-unfinished
+returns-in_err-say_left-clause-unfinished g c = c.loop-alloc.invariant.unfinished
 
 pub returns-in_err-say_left-clause-workers : goal.returns-in_err-say_left-clause-workers
 returns-in_err-say_left-clause-workers g c = c.loop-alloc.invariant.workers
 
-pub returns-in_err-say_left-clause-told : goal.returns-in_err-say_left-clause-told
-returns-in_err-say_left-clause-told g c = c.loop-alloc.invariant.told
+pub returns-in_err-say_left-clause-since : goal.returns-in_err-say_left-clause-since
+returns-in_err-say_left-clause-since g c = c.loop-alloc.invariant.since
 
 pub returns-in_err-say_left-clause-breaks : goal.returns-in_err-say_left-clause-breaks
 returns-in_err-say_left-clause-breaks g c =
@@ -63,14 +64,14 @@ returns-in_err-say_left-clause-breaks g c =
     c.loop-alloc.hand c.loop-alloc.text
     c.loop-alloc.invariant refl)
 
-pub returns-clause-over : goal.returns-clause-over
-returns-clause-over g c = c.loop-alloc.invariant.over
+pub returns-clause-unfinished : goal.returns-clause-unfinished
+returns-clause-unfinished g c = c.loop-alloc.invariant.unfinished
 
 pub returns-clause-workers : goal.returns-clause-workers
 returns-clause-workers g c = c.loop-alloc.invariant.workers
 
-pub returns-clause-told : goal.returns-clause-told
-returns-clause-told g c = c.loop-alloc.invariant.told
+pub returns-clause-since : goal.returns-clause-since
+returns-clause-since g c = c.loop-alloc.invariant.since
 
 pub returns-clause-ran : goal.returns-clause-ran
 returns-clause-ran g c =

@@ -11,9 +11,9 @@ returns-clause-fewer g c =
 pub returns-clause-made : goal.returns-clause-made
 returns-clause-made g c =
     on_ok_so c.call_hand.result c.call_hand.ensures.called
-    (round_made g.K.Keep.wanted c.args.at c.args.by c.args.self.now c.hand_turn.new.self c.args.hand.now
+    (round_made g.K.Keep.wanted c.args.at c.args.by c.args.self.now c.make_hand_turn.new.self c.args.hand.now
     c.absorb.new.self c.call_hand.new.hand c.next-what.result
-    c.in_ok-answer.answer c.args.text.now c.hand_turn.new.text c.next-what.ensures.next c.in_ok-answer.ensures.ran
+    c.in_ok-answer.answer c.args.text.now c.make_hand_turn.new.text c.next-what.ensures.next c.in_ok-answer.ensures.ran
     c.in_ok-answer.ensures.answered
     c.absorb.ensures.held c.absorb.ensures.made c.absorb.ensures.adds
     c.in_ok-answer.ensures.output)

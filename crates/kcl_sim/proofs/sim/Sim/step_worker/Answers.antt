@@ -16,22 +16,22 @@ returns-in_default-clause-goes g c =
 
 pub step_at-requires-clause-free : goal.step_at-requires-clause-free
 step_at-requires-clause-free g c =
-    free_at c.self.inside.workers.items c.in-Some.place
-    (c.self.invariant.2 (ap (λ (v : SimValue). v.over) c.self.view_is ∙ c.requires.going))
+    free_at c.self.inside.workers.items c.in-Some.index
+    (c.self.invariant.2 (ap (λ (v : SimValue). v.unfinished) c.self.view_is ∙ c.requires.going))
 
 pub returns-in_err-step_at-clause-breaks : goal.returns-in_err-step_at-clause-breaks
 returns-in_err-step_at-clause-breaks g c = on_any_err c.from_residual.result (λ ran s.
-    step_may c.args.self.now c.step_at.new.self ran c.args.at c.args.by c.in-Some.place s c.requires.going
-    (sym c.index_of.ensures ∙ c.in-Some.is) c.in_err-step_at.ensures.over
-    (step_broke c.args.self.now _ c.step_at.new.self c.args.at c.args.by c.in-Some.place
-    (ap (λ (v : SimValue). record v { over = true }) c.self.view_is) c.in_err-step_at.ensures.breaks))
+    step_may c.args.self.now c.step_at.new.self ran c.args.at c.args.by c.in-Some.index s c.requires.going
+    (sym c.index_of.ensures ∙ c.in-Some.is) c.in_err-step_at.ensures.unfinished
+    (step_broke c.args.self.now _ c.step_at.new.self c.args.at c.args.by c.in-Some.index
+    (ap (λ (v : SimValue). record v { unfinished = true }) c.self.view_is) c.in_err-step_at.ensures.breaks))
 
 pub returns-clause-goes : goal.returns-clause-goes
 returns-clause-goes g c = λ ran s.
-    step_goes g.K.Keep.wanted c.args.self.now _ ran c.args.at c.args.by c.in-Some.place c.args.to.now c.step_at.new.to s
+    step_goes g.K.Keep.wanted c.args.self.now _ ran c.args.at c.args.by c.in-Some.index c.args.to.now c.step_at.new.to s
     c.requires.going (sym
     c.index_of.ensures ∙ c.in-Some.is)
-    (step_done g.K.Keep.wanted c.args.self.now _ c.step_at.new.self _ c.args.at c.args.by c.in-Some.place c.args.to.now
+    (step_done g.K.Keep.wanted c.args.self.now _ c.step_at.new.self _ c.args.at c.args.by c.in-Some.index c.args.to.now
     c.step_at.new.to
-    (ap (λ (v : SimValue). record v { over = true }) c.self.view_is)
-    (ap (λ (v : SimValue). record v { over = false }) c.self-2.view_is) c.in_ok-step_at.ensures.steps) refl
+    (ap (λ (v : SimValue). record v { unfinished = true }) c.self.view_is)
+    (ap (λ (v : SimValue). record v { unfinished = false }) c.self-2.view_is) c.in_ok-step_at.ensures.steps) refl

@@ -10,13 +10,13 @@ use Rattle.kcl_sim.proofs.sim.Sim.stop.Goals as goal
 pub returns-in_ok-say_word-in-Some-clause-goes : goal.returns-in_ok-say_word-in-Some-clause-goes
 returns-in_ok-say_word-in-Some-clause-goes g c = λ ran s.
     let there = sym c.index_of.ensures ∙ c.in-Some.is in
-    stop_goes g.K.Keep.wanted c.args.self.now _ ran c.args.at c.args.by c.in-Some.place c.index_mut.result.now
+    stop_goes g.K.Keep.wanted c.args.self.now _ ran c.args.at c.args.by c.in-Some.index c.index_mut.result.now
     c.stop.new.self c.args.to.now
     c.say_word.new.to s c.requires there
-    (shown_there _ c.args.self.now c.args.by c.in-Some.place _ c.index_mut.result.now c.self.view_is there
+    (shown_there _ c.args.self.now c.args.by c.in-Some.index _ c.index_mut.result.now c.self.view_is there
     c.index_mut.ensures.value)
-    (ap (λ (v : SimValue). record v { workers = slice_set v.workers c.in-Some.place c.stop.new.self }) c.self.view_is)
-    (λ e h. stop_on c.index_mut.result.now c.stop.new.self e c.stop.ensures.freed.made c.stop.ensures.freed.maker
+    (ap (λ (v : SimValue). record v { workers = slice_set v.workers c.in-Some.index c.stop.new.self }) c.self.view_is)
+    (λ e h. stop_on c.index_mut.result.now c.stop.new.self e c.stop.ensures.free.made c.stop.ensures.free.maker
     c.stop.ensures.stands h)
     (c.in_ok-say_word-in-Some.ensures.ok
     ∙ ap (λ w. c.args.to.now ++ if_wanted g.K.Keep.wanted (w ++ 10 ∷ [])) c.as_slice.ensures)

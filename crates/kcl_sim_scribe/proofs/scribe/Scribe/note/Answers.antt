@@ -7,8 +7,8 @@ use Rattle.kcl_sim_scribe.proofs.Noting.{accepted, refused, stands_at}
 use Rattle.kcl_sim_scribe.proofs.scribe.Scribe.note.Goals.{in-Ok+in_ok-lines-in-Ok, in-Err}
 use Rattle.kcl_sim_scribe.proofs.scribe.Scribe.note.Goals as goal
 
-pub accept-requires : goal.accept-requires
-accept-requires c =
+pub note_accepted-requires : goal.note_accepted-requires
+note_accepted-requires c =
     (accepted c.args.self.now c.requires.answered.0 c.args.turn.now c.in-Ok.reply c.requires.answered.1.0
     c.requires.lawful (sym c.in-Ok.is ∙ c.requires.answered.1.1)).can
 
@@ -25,8 +25,8 @@ returns-clause-lines c = λ h st e.
       | in-Err w ↦ w.lines-is ∙ w.new-lines.ensures ∙ (refused s h turn _ st (sym w.in-Err.is ∙ e)).0
     ]
 
-pub returns-clause-after : goal.returns-clause-after
-returns-clause-after c = λ h st e.
+pub returns-clause-stands : goal.returns-clause-stands
+returns-clause-stands c = λ h st e.
     let s = c.args.self.now in
     let turn = c.args.turn.now in
     let now = the_view c.self-2.inside in

@@ -13,11 +13,11 @@ invariant_of-self-2 c =
     ap (λ (rs : List Row). row_of rs c.args.key) (sym (c.deref.ensures.value ∙ c.self.view_is))
     ∙ sym c.in-None.ensures in
     let new = new_row c.args.key c.args.floor c.args.start c.args.parent c.args.adjacent in
-    let place = c.index_of-index.ensures.value ∙ ap (index_of c.args.key) (c.deref-2.ensures.value ∙ c.self.view_is) in
+    let index = c.index_of-index.ensures.value ∙ ap (index_of c.args.key) (c.deref-2.ensures.value ∙ c.self.view_is) in
     let same = c.in_ok-insert.ensures.items
     ∙ ap (insert c.self.inside.rows.items c.index_of-index.result) c.first.ensures
     ∙ ap (λ (rs : List Row). insert rs c.index_of-index.result new) c.self.view_is
-    ∙ ap (λ i. insert c.args.self.now i new) place ∙ insert_is new c.args.self.now none in
+    ∙ ap (λ i. insert c.args.self.now i new) index ∙ insert_is new c.args.self.now none in
     subst IsTable (sym same) (table_with new c.args.self.now none (omega arith) table)
 
 pub returns-clause-made : goal.returns-clause-made
@@ -27,9 +27,9 @@ returns-clause-made c =
     ap (λ (rs : List Row). row_of rs c.args.key) (sym (c.deref.ensures.value ∙ c.self.view_is))
     ∙ sym c.in-None.ensures in
     let new = new_row c.args.key c.args.floor c.args.start c.args.parent c.args.adjacent in
-    let place = c.index_of-index.ensures.value ∙ ap (index_of c.args.key) (c.deref-2.ensures.value ∙ c.self.view_is) in
+    let index = c.index_of-index.ensures.value ∙ ap (index_of c.args.key) (c.deref-2.ensures.value ∙ c.self.view_is) in
     let same = c.in_ok-insert.ensures.items
     ∙ ap (insert c.self.inside.rows.items c.index_of-index.result) c.first.ensures
     ∙ ap (λ (rs : List Row). insert rs c.index_of-index.result new) c.self.view_is
-    ∙ ap (λ i. insert c.args.self.now i new) place ∙ insert_is new c.args.self.now none in
+    ∙ ap (λ i. insert c.args.self.now i new) index ∙ insert_is new c.args.self.now none in
     same

@@ -10,19 +10,19 @@ remove-requires c =
     let table : IsTable c.args.self.now = subst IsTable c.self.view_is c.self.invariant in
     let row = ap (λ (rs : List Row). row_of rs c.args.key) (sym (c.deref.ensures.value ∙ c.self.view_is))
     ∙ sym c.in-Some.ensures in
-    let place = c.index_of-index.ensures.value ∙ ap (index_of c.args.key) (c.deref-2.ensures.value ∙ c.self.view_is) in
+    let index = c.index_of-index.ensures.value ∙ ap (index_of c.args.key) (c.deref-2.ensures.value ∙ c.self.view_is) in
     let gone = remove_is c.args.key c.in-Some.row.now c.args.self.now table.0 row in
-    omega (arith, place, gone.0, ap length c.self.view_is)
+    omega (arith, index, gone.0, ap length c.self.view_is)
 
 pub invariant_of-self : goal.invariant_of-self
 invariant_of-self c =
     let table : IsTable c.args.self.now = subst IsTable c.self.view_is c.self.invariant in
     let row = ap (λ (rs : List Row). row_of rs c.args.key) (sym (c.deref.ensures.value ∙ c.self.view_is))
     ∙ sym c.in-Some.ensures in
-    let place = c.index_of-index.ensures.value ∙ ap (index_of c.args.key) (c.deref-2.ensures.value ∙ c.self.view_is) in
+    let index = c.index_of-index.ensures.value ∙ ap (index_of c.args.key) (c.deref-2.ensures.value ∙ c.self.view_is) in
     let gone = remove_is c.args.key c.in-Some.row.now c.args.self.now table.0 row in
     let same = c.remove.ensures.items ∙ ap (λ (rs : List Row). remove rs c.index_of-index.result) c.self.view_is
-    ∙ ap (λ i. remove c.args.self.now i) place ∙ gone.1 in
+    ∙ ap (λ i. remove c.args.self.now i) index ∙ gone.1 in
     subst IsTable (sym same) (table_without c.args.key c.args.self.now table)
 
 pub returns-clause-cut : goal.returns-clause-cut
@@ -30,7 +30,7 @@ returns-clause-cut c =
     let table : IsTable c.args.self.now = subst IsTable c.self.view_is c.self.invariant in
     let row = ap (λ (rs : List Row). row_of rs c.args.key) (sym (c.deref.ensures.value ∙ c.self.view_is))
     ∙ sym c.in-Some.ensures in
-    let place = c.index_of-index.ensures.value ∙ ap (index_of c.args.key) (c.deref-2.ensures.value ∙ c.self.view_is) in
+    let index = c.index_of-index.ensures.value ∙ ap (index_of c.args.key) (c.deref-2.ensures.value ∙ c.self.view_is) in
     let gone = remove_is c.args.key c.in-Some.row.now c.args.self.now table.0 row in
     c.remove.ensures.items ∙ ap (λ (rs : List Row). remove rs c.index_of-index.result) c.self.view_is
-    ∙ ap (λ i. remove c.args.self.now i) place ∙ gone.1
+    ∙ ap (λ i. remove c.args.self.now i) index ∙ gone.1

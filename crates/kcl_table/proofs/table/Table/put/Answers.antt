@@ -7,26 +7,26 @@ use Rattle.kcl_table.proofs.table.Table.put.Goals as goal
 pub index_mut-requires : goal.index_mut-requires
 index_mut-requires c =
     let table : IsTable c.args.self.now = subst IsTable c.self.view_is c.self.invariant in
-    let place = c.index_of-index.ensures.value ∙ ap (λ (r : Row). index_of r.key c.deref.result.now) c.row.view_is
+    let index = c.index_of-index.ensures.value ∙ ap (λ (r : Row). index_of r.key c.deref.result.now) c.row.view_is
     ∙ ap (index_of c.args.row.key) (c.deref.ensures.value ∙ c.self.view_is) in
     let within = (set_is c.args.row c.args.self.now table.0 c.requires.there).0 in
-    omega (arith, place, within, ap length c.self.view_is)
+    omega (arith, index, within, ap length c.self.view_is)
 
 pub invariant_of-self : goal.invariant_of-self
 invariant_of-self c =
     let table : IsTable c.args.self.now = subst IsTable c.self.view_is c.self.invariant in
-    let place = c.index_of-index.ensures.value ∙ ap (λ (r : Row). index_of r.key c.deref.result.now) c.row.view_is
+    let index = c.index_of-index.ensures.value ∙ ap (λ (r : Row). index_of r.key c.deref.result.now) c.row.view_is
     ∙ ap (index_of c.args.row.key) (c.deref.ensures.value ∙ c.self.view_is) in
     let same = ap (λ (rs : List Row). slice_set rs c.index_of-index.result c.args.row) c.self.view_is
-    ∙ ap (λ i. slice_set c.args.self.now i c.args.row) place
+    ∙ ap (λ i. slice_set c.args.self.now i c.args.row) index
     ∙ (set_is c.args.row c.args.self.now table.0 c.requires.there).1 in
     subst IsTable (sym same) (table_changed c.args.row c.args.self.now c.requires.counted table)
 
 pub returns : goal.returns
 returns c =
     let table : IsTable c.args.self.now = subst IsTable c.self.view_is c.self.invariant in
-    let place = c.index_of-index.ensures.value ∙ ap (λ (r : Row). index_of r.key c.deref.result.now) c.row.view_is
+    let index = c.index_of-index.ensures.value ∙ ap (λ (r : Row). index_of r.key c.deref.result.now) c.row.view_is
     ∙ ap (index_of c.args.row.key) (c.deref.ensures.value ∙ c.self.view_is) in
     ap (λ (rs : List Row). slice_set rs c.index_of-index.result c.args.row) c.self.view_is
-    ∙ ap (λ i. slice_set c.args.self.now i c.args.row) place
+    ∙ ap (λ i. slice_set c.args.self.now i c.args.row) index
     ∙ (set_is c.args.row c.args.self.now table.0 c.requires.there).1

@@ -19,7 +19,7 @@ invariant_of-self g c =
 
 pub returns-clause-absorbed : goal.returns-clause-absorbed
 returns-clause-absorbed g c = λ now answer past st.
-    let k = syncing_so c.self.inside.asked c.self.inside.syncs c.self.inside.takes
+    let k = syncing_so c.self.inside.awaited c.self.inside.syncs c.self.inside.takes
     (subst (λ v. IsSyncing v.waiting) (sym c.self.view_is) c.requires) in
     sync_leaves g.P.Processor.stands_for _ _ c.self.view_is now answer k.0 c.advance.new.self
     (drop 1 c.self.inside.syncs) c.self.inside.takes

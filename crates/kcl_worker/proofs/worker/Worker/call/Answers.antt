@@ -18,7 +18,7 @@ use Rattle.kcl_worker.proofs.worker.Worker.call.Goals as goal
 pub invariant_of-self : goal.invariant_of-self
 invariant_of-self g c =
     let due = subst (λ v. IsSome (due_in v.consumers)) (sym c.self.view_is) c.requires in
-    let free = asks_nothing (chore_of c.self.inside.asked c.self.inside.syncs c.self.inside.takes)
+    let free = asks_nothing (chore_of c.self.inside.awaited c.self.inside.syncs c.self.inside.takes)
     c.self.inside.consumers.items due c.self.invariant.quiet in
     still_worker c.self.invariant
     (uncalled_on g.P.Processor.stands_for g.P.Processor.asks c.self.inside.consumers.items
@@ -39,7 +39,7 @@ returns-in_err-call_first-clause-err g c = on_err_so _ c.from_residual.result (�
 pub invariant_of-self-2 : goal.invariant_of-self-2
 invariant_of-self-2 g c =
     let due = subst (λ v. IsSome (due_in v.consumers)) (sym c.self.view_is) c.requires in
-    let free = asks_nothing (chore_of c.self.inside.asked c.self.inside.syncs c.self.inside.takes)
+    let free = asks_nothing (chore_of c.self.inside.awaited c.self.inside.syncs c.self.inside.takes)
     c.self.inside.consumers.items due c.self.invariant.quiet in
     still_worker c.self.invariant
     (subst NoneOver (sym c.retire_finished.ensures.live) (live_on c.call_first.new.consumers.items))
@@ -54,7 +54,7 @@ invariant_of-self-2 g c =
 pub returns-clause-ok : goal.returns-clause-ok
 returns-clause-ok g c = λ past st.
     let due = subst (λ v. IsSome (due_in v.consumers)) (sym c.self.view_is) c.requires in
-    let free = asks_nothing (chore_of c.self.inside.asked c.self.inside.syncs c.self.inside.takes)
+    let free = asks_nothing (chore_of c.self.inside.awaited c.self.inside.syncs c.self.inside.takes)
     c.self.inside.consumers.items due c.self.invariant.quiet in
     let f = c.in_ok-call_first.ensures.ok in
     let st0 = subst (λ v. StandsFor g.P.Processor.stands_for v past) (sym c.self.view_is) st in (

@@ -19,15 +19,15 @@ returns-in-Some-clause-next g c = λ past st.
     let made = c.self.inside.made in
     let part = c.self.inside.part in
     let stands = g.P.Processor.stands_for in
-    asked_leaves stands _ _ c.self.view_is c.args.now c.self.inside.syncs c.self.inside.takes c.in-Some.asked
+    asked_leaves stands _ _ c.self.view_is c.args.now c.self.inside.syncs c.self.inside.takes c.in-Some.awaited
     c.in-Some.what past c.requires.free
     (λ s stand same.
     subst (λ ts. IsGiven made s c.self.inside.syncs ts
     (chore_from made.settings.failover c.args.now s (round_of part c.self.inside.syncs ts))
-    c.in-Some.asked c.in-Some.what) c.rest-2.ensures
+    c.in-Some.awaited c.in-Some.what) c.rest-2.ensures
     (subst (λ ss. IsGiven made s ss c.rest-2.result.now
     (chore_from made.settings.failover c.args.now s (round_of part ss c.rest-2.result.now))
-    c.in-Some.asked c.in-Some.what) c.rest.ensures
+    c.in-Some.awaited c.in-Some.what) c.rest.ensures
     (c.in-Some.ensures.some s (subst (λ cs. ConsumersStand stands cs s.consumers) (sym c.as_slice.ensures.value) stand)
     (c.as_slice-2.ensures.value ∙ same)))) st
 

@@ -13,7 +13,7 @@ use Rattle.kcl_worker.proofs.worker.Worker.stop.Goals as goal
 
 pub invariant_of-self : goal.invariant_of-self
 invariant_of-self g c =
-    let free : chore_of c.self.inside.asked c.self.inside.syncs c.self.inside.takes ≡ None =
+    let free : chore_of c.self.inside.awaited c.self.inside.syncs c.self.inside.takes ≡ None =
     ap (λ v. v.waiting) c.self.view_is ∙ c.requires in
     still_worker c.self.invariant
     (subst NoneOver (sym c.retire_finished.ensures.live) (live_on c.lose_all.new.consumers.items))
@@ -27,7 +27,7 @@ invariant_of-self g c =
 
 pub returns-clause-stands : goal.returns-clause-stands
 returns-clause-stands g c = λ past st.
-    let free : chore_of c.self.inside.asked c.self.inside.syncs c.self.inside.takes ≡ None =
+    let free : chore_of c.self.inside.awaited c.self.inside.syncs c.self.inside.takes ≡ None =
     ap (λ v. v.waiting) c.self.view_is ∙ c.requires in
     stop_leaves g.P.Processor.stands_for _ c.retire_finished.new.consumers.items
     (map retirement c.retire_finished.new.retired.items) past free

@@ -16,4 +16,4 @@ pub returns-clause-added : goal.returns-clause-added
 returns-clause-added g c = λ since h stood kept.
     let a = c.in_ok-answer.ensures.answered h stood in
     let noted = c.note.ensures since h (rw c.take-text.ensures.value kept.1) (rw c.in_ok-copy.ensures a.0) in
-    ((c.has_bits.ensures, kept.0), rw (sym c.in_ok-copy.ensures) noted)
+    ((c.fits_types.ensures, kept.0), rw (sym c.in_ok-copy.ensures) noted)

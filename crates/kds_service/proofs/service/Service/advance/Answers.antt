@@ -1,7 +1,7 @@
 use Rattle.std.proofs.Common.{map, refl, sym, ap, subst, ◌∙◌}
 use Rattle.indexmap.specs.IndexMap.{values}
-use Rattle.kds_service.proofs.Clocked.{advanced_at, back_at, back_shown, kept_of, shows_along}
-use Rattle.kds_service.proofs.Entries.{placed_along}
+use Rattle.kds_service.proofs.Clocked.{advanced_at, retreated_at, retreated_shown, kept_of, shows_along}
+use Rattle.kds_service.proofs.Entries.{named_along}
 use Rattle.kds_service.specs.Clocks.{advanced, retreated}
 use Rattle.kds_service.specs.Shown.{AreAt, AreShown, ServiceValue, ShowsAll, names_of, numbers_of, service}
 use Rattle.kds_service.specs.contracts.service.Service.{the_view}
@@ -12,7 +12,7 @@ invariant_of-self c =
     let s = c.self.inside in
     let f = advanced c.args.clock in
     let are = c.advance_all.ensures.value in
-    placed_along c.args.clock s.streams.entries c.advance_all.new.streams.entries c.self.invariant.named
+    named_along c.args.clock s.streams.entries c.advance_all.new.streams.entries c.self.invariant.named
     c.advance_all.ensures.keys
     (ap names_of are ∙ kept_of (λ v. v.name) f (λ v. refl) (values s.streams))
     (subst (AreAt c.args.clock) (sym are) (advanced_at c.args.clock (values s.streams)))
@@ -23,28 +23,28 @@ returns-clause-shows c log all =
     let f = advanced c.args.clock in
     let are = c.advance_all.ensures.value in
     let before = subst (λ (w : ServiceValue). ShowsAll w log) (sym c.self.view_is) all in
-    shows_along (the_view s) (service c.args.clock s.clock s.made (values c.advance_all.new.streams)) log refl
+    shows_along (the_view s) (service c.args.clock s.clock s.made_count (values c.advance_all.new.streams)) log refl
     (ap numbers_of are ∙ kept_of (λ v. v.no) f (λ v. refl) (values s.streams))
     (subst (AreAt c.args.clock) (sym are) (advanced_at c.args.clock (values s.streams)))
     (c.advance_all.ensures.shows log before.shown) before
 
-pub returns-clause-back : goal.returns-clause-back
-returns-clause-back c =
+pub returns-clause-can_retreat : goal.returns-clause-can_retreat
+returns-clause-can_retreat c =
     let s = c.self.inside in
     subst (λ us. AreAt s.clock (map retreated us)) (sym c.advance_all.ensures.value)
-    (back_at s.clock c.args.clock (values s.streams) c.self.invariant.at)
+    (retreated_at s.clock c.args.clock (values s.streams) c.self.invariant.at)
 
-pub returns-clause-shows_back : goal.returns-clause-shows_back
-returns-clause-shows_back c log all =
+pub returns-clause-shows_retreated : goal.returns-clause-shows_retreated
+returns-clause-shows_retreated c log all =
     let s = c.self.inside in
     let f = advanced c.args.clock in
     let are = c.advance_all.ensures.value in
     let before = subst (λ (w : ServiceValue). ShowsAll w log) (sym c.self.view_is) all in
-    shows_along (the_view s) (service s.clock s.clock s.made (map retreated (values c.advance_all.new.streams)))
+    shows_along (the_view s) (service s.clock s.clock s.made_count (map retreated (values c.advance_all.new.streams)))
     log refl
     (ap (λ us. numbers_of (map retreated us)) are ∙ kept_of (λ v. v.no) retreated (λ v. refl) (map f (values s.streams))
     ∙ kept_of (λ v. v.no) f (λ v. refl) (values s.streams))
     (subst (λ us. AreAt s.clock (map retreated us)) (sym are)
-    (back_at s.clock c.args.clock (values s.streams) c.self.invariant.at))
+    (retreated_at s.clock c.args.clock (values s.streams) c.self.invariant.at))
     (subst (λ us. AreShown log (map retreated us)) (sym are)
-    (back_shown c.args.clock (values s.streams) log before.shown)) before
+    (retreated_shown c.args.clock (values s.streams) log before.shown)) before

@@ -9,4 +9,4 @@ returns c log all =
     let a = c.args in
     let all' = subst (λ (u : ServiceValue). ShowsAll u log) (sym c.self.view_is) all in
     subst (λ (u : ServiceValue). c.position.result ≡ origin_position log u.clock a.key a.from) c.self.view_is
-    (c.position.ensures s.clock s.clock_before s.made log all')
+    (c.position.ensures s.clock s.clock_before s.made_count log all')

@@ -1,7 +1,7 @@
 use Rattle.std.proofs.Common.{◌≡◌, map, sym, subst}
 use Rattle.std.specs.Prelude.{IfOk}
 use Rattle.kds_defs.specs.Listings.{ends_at}
-use Rattle.kds_defs.specs.Records.{batch, numbers_of, place_after, stored}
+use Rattle.kds_defs.specs.Records.{batch, numbers_of, position_after, stored}
 use Rattle.kds_service.specs.Shown.{ServiceValue, ShowsAll}
 use Rattle.kds_service.proofs.service.Service.read.Goals as goal
 
@@ -13,7 +13,7 @@ returns-clause-batch c log all =
     subst (λ (u : ServiceValue).
     IfOk c.read.result (λ r. r.0 ≡ map stored (batch log u.clock a.key.stream a.key.shard a.position a.limit)))
     c.self.view_is
-    (c.read.ensures.batch s.clock s.clock_before s.made log all')
+    (c.read.ensures.batch s.clock s.clock_before s.made_count log all')
 
 pub returns-clause-end : goal.returns-clause-end
 returns-clause-end c log all =
@@ -23,6 +23,6 @@ returns-clause-end c log all =
     subst (λ (u : ServiceValue).
     IfOk c.read.result (λ r. r.1
     ≡ ends_at log u.clock a.key.stream a.key.shard
-    (place_after a.position (numbers_of (batch log u.clock a.key.stream a.key.shard a.position a.limit)))))
+    (position_after a.position (numbers_of (batch log u.clock a.key.stream a.key.shard a.position a.limit)))))
     c.self.view_is
-    (c.read.ensures.end s.clock s.clock_before s.made log all')
+    (c.read.ensures.end s.clock s.clock_before s.made_count log all')

@@ -3,8 +3,8 @@ use Rattle.std.proofs.lemmas.Map.Entries.{length-values_of}
 use Rattle.indexmap.specs.IndexMap.{values}
 use Rattle.kds_base.specs.Circle.{next_of}
 use Rattle.kds_service.proofs.Clocked.{kept_in, same_service, settled_at, shows_along}
-use Rattle.kds_service.proofs.Entries.{placed_along}
-use Rattle.kds_service.specs.Clocks.{in_turn, settled_in, settled_in_turn}
+use Rattle.kds_service.proofs.Entries.{named_along}
+use Rattle.kds_service.specs.Clocks.{in_rotation, settled_in, settled_next}
 use Rattle.kds_service.specs.Shown.{AreAt, ServiceValue, ShowsAll, names_of, numbers_of, service}
 use Rattle.kds_service.specs.contracts.service.Service.{the_view}
 use Rattle.kds_service.proofs.service.Service.settle.Goals as goal
@@ -12,9 +12,9 @@ use Rattle.kds_service.proofs.service.Service.settle.Goals as goal
 pub invariant_of-self : goal.invariant_of-self
 invariant_of-self c =
     let s = c.self.inside in
-    let i = c.in_turn-place.result in
+    let i = c.in_rotation-index.result in
     let are = c.settle_stream.ensures.value in
-    placed_along s.clock s.streams.entries c.settle_stream.new.streams.entries c.self.invariant.named
+    named_along s.clock s.streams.entries c.settle_stream.new.streams.entries c.self.invariant.named
     c.settle_stream.ensures.keys
     (ap names_of are ∙ kept_in (λ v. v.name) (λ v. refl) i (values s.streams))
     (subst (AreAt s.clock) (sym are) (settled_at s.clock i (values s.streams) c.self.invariant.at))
@@ -24,20 +24,21 @@ returns-clause-dropped c =
     let s = c.self.inside in
     let vs = values s.streams in
     let n = length vs in
-    let place = c.in_turn-place.result in
+    let index = c.in_rotation-index.result in
     let count : c.len-count.result ≡ n = c.len-count.ensures.len ∙ sym (length-values_of s.streams.entries) in
-    let i : place ≡ in_turn n s.next_to_settle = c.in_turn-place.ensures ∙ ap (λ k. in_turn k s.next_to_settle) count in
-    let next = c.next_of-self-inside.ensures ∙ ap (λ k. next_of k place) count ∙ ap (next_of n) i in
-    same_service s.clock s.clock s.made _ _ _ _ (c.settle_stream.ensures.value ∙ ap (λ k. settled_in k vs) i) next
-    ∙ ap settled_in_turn c.self.view_is
+    let i : index ≡ in_rotation n s.next_to_settle =
+    c.in_rotation-index.ensures ∙ ap (λ k. in_rotation k s.next_to_settle) count in
+    let next = c.next_of-self-inside.ensures ∙ ap (λ k. next_of k index) count ∙ ap (next_of n) i in
+    same_service s.clock s.clock s.made_count _ _ _ _ (c.settle_stream.ensures.value ∙ ap (λ k. settled_in k vs) i) next
+    ∙ ap settled_next c.self.view_is
 
 pub returns-clause-shows : goal.returns-clause-shows
 returns-clause-shows c log all =
     let s = c.self.inside in
-    let i = c.in_turn-place.result in
+    let i = c.in_rotation-index.result in
     let are = c.settle_stream.ensures.value in
     let before = subst (λ (w : ServiceValue). ShowsAll w log) (sym c.self.view_is) all in
-    shows_along (the_view s) (service s.clock s.clock s.made (values c.settle_stream.new.streams)) log refl
+    shows_along (the_view s) (service s.clock s.clock s.made_count (values c.settle_stream.new.streams)) log refl
     (ap numbers_of are ∙ kept_in (λ v. v.no) (λ v. refl) i (values s.streams))
     (subst (AreAt s.clock) (sym are) (settled_at s.clock i (values s.streams) c.self.invariant.at))
     (c.settle_stream.ensures.shows log before.shown) before

@@ -41,7 +41,7 @@ invariant_of-self-2 c =
     let few = open_so c.take_steps.new.tree.shards c.args.target
     (c.take_steps.ensures.starts (uniform_starts c.args.target) leads) c.requires.target.1 in
     let fits : c.first-2.inside.0 + length steps < 2 ^ 64 =
-    omega (arith, drawn, numbers_fit v.next (length v.tree) steps plan.free) in
+    omega (arith, drawn, numbers_fit v.next (length v.tree) steps plan.unspent) in
     stream_scaled v steps c.take_steps.new.tree.shards _ _ more.more (c.first-2.inside.0 + length steps)
     tree few drawn fits logs windows more.unused many c.self.invariant
 
@@ -79,7 +79,7 @@ returns-clause-answered c log by shown =
     ∙ ap (λ (xs : List ShardState). entries_in v.no steps v.next v.clock xs) own.tree in
     let done = scale_done v log by c.args.target show false steps more.more c.take_steps.new.tree.shards _ _
     (c.first-2.inside.0 + length steps) c.open_count-before.result c.in_ok-name.name c.from_vec.result
-    refl plan.are plan.free tree logs windows more.unused many drawn counted c.in_ok-name.ensures told
+    refl plan.are plan.unspent tree logs windows more.unused many drawn counted c.in_ok-name.ensures told
     c.self.invariant.as_many c.self.invariant.rated.as_many in
     led_along (λ (u : StreamValue). scale_where false log u.clock by u.name u.no c.args.target) v c.args.self.now _ log
     _ c.self.view_is done

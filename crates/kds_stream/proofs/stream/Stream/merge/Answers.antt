@@ -20,7 +20,7 @@ pub invariant_of-self-2 : goal.invariant_of-self-2
 invariant_of-self-2 c =
     let v : StreamValue = the_view c.self.inside in
     let free : v.next ≢ last_number =
-    subst (λ (u : StreamValue). u.next ≢ last_number) (sym c.self.view_is) c.in_default.ensures.free in
+    subst (λ (u : StreamValue). u.next ≢ last_number) (sym c.self.view_is) c.in_default.ensures.unspent in
     let passes = subst (λ (u : StreamValue). merge_refusal u.tree c.args.shard c.args.other ≡ None) (sym c.self.view_is)
     c.in_default.ensures.merges in
     let tree = c.in_ok-_child.ensures.value
@@ -42,7 +42,7 @@ pub returns-clause-answered : goal.returns-clause-answered
 returns-clause-answered c log by show =
     let v : StreamValue = the_view c.self.inside in
     let free : v.next ≢ last_number =
-    subst (λ (u : StreamValue). u.next ≢ last_number) (sym c.self.view_is) c.in_default.ensures.free in
+    subst (λ (u : StreamValue). u.next ≢ last_number) (sym c.self.view_is) c.in_default.ensures.unspent in
     let passes = subst (λ (u : StreamValue). merge_refusal u.tree c.args.shard c.args.other ≡ None) (sym c.self.view_is)
     c.in_default.ensures.merges in
     let tree = c.in_ok-_child.ensures.value

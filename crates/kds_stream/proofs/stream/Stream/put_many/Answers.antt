@@ -12,13 +12,13 @@ use Rattle.kds_rate.specs.Windows.{WindowValue}
 use Rattle.kds_stream.proofs.Insides.{shown_inside}
 use Rattle.kds_stream.proofs.LogLemmas.{written_back}
 use Rattle.kds_stream.proofs.Puts.{led_along}
-use Rattle.kds_stream.proofs.Routings.{can_take, in_turn, puts_done, puts_spent, shows_each, stream_each, stream_puts}
+use Rattle.kds_stream.proofs.Routings.{can_take, in_order, puts_done, puts_spent, shows_each, stream_each, stream_puts}
 use Rattle.kds_stream.proofs.Routings.{stream_same, with_logs}
 use Rattle.kds_stream_logs.specs.declared.routes.Routed.{Routed}
 use Rattle.kds_stream_logs.specs.declared.routes.Routes.{Routes}
 use Rattle.kds_stream_logs.specs.Rating.{StandFor}
 use Rattle.kds_stream.specs.Rating.{AreRated}
-use Rattle.kds_stream_logs.specs.Routes.{ArePlaced, AreRouted, CanTake, routed_items, settled_each, taken, with_each}
+use Rattle.kds_stream_logs.specs.Routes.{AreOfRecords, AreRouted, CanTake, routed_items, settled_each, taken, with_each}
 use Rattle.kds_stream.specs.Showing.{Shows}
 use Rattle.kds_stream.specs.Value.{IsStream, StreamValue}
 use Rattle.kds_stream.specs.contracts.stream.Stream.{the_view}
@@ -53,20 +53,20 @@ returns-in_default-clause-answered c log by shown =
 pub put_all-requires-clause-each : goal.put_all-requires-clause-each
 put_all-requires-clause-each c =
     let v : StreamValue = the_view c.self.inside in
-    let placed = subst (λ o. IfSome o (λ (r : Routes). ArePlaced v.tree v.clock c.seq.inside.0 r))
+    let placed = subst (λ o. IfSome o (λ (r : Routes). AreOfRecords v.tree v.clock c.seq.inside.0 r))
     c.in-Some.is c.in_ok-made.ensures.placed in
     let are = placed.are ∙ ap (λ n. routed_items v.tree v.clock n placed.items) c.seq.view_is in
     subst (λ (ls : List LogWithReserve). AllByRecursion (CanTake (map log_of ls)) c.in-Some.field-0.routed.items)
     (sym c.deref_mut-2.ensures.value)
     (can_take v placed.items c.in-Some.field-0.routed.items c.self.invariant are placed.within)
 
-pub put_all-requires-clause-in_turn : goal.put_all-requires-clause-in_turn
-put_all-requires-clause-in_turn c =
+pub put_all-requires-clause-in_order : goal.put_all-requires-clause-in_order
+put_all-requires-clause-in_order c =
     let v : StreamValue = the_view c.self.inside in
-    let placed = subst (λ o. IfSome o (λ (r : Routes). ArePlaced v.tree v.clock c.seq.inside.0 r))
+    let placed = subst (λ o. IfSome o (λ (r : Routes). AreOfRecords v.tree v.clock c.seq.inside.0 r))
     c.in-Some.is c.in_ok-made.ensures.placed in
     let are = placed.are ∙ ap (λ n. routed_items v.tree v.clock n placed.items) c.seq.view_is in
-    in_turn v placed.items c.in-Some.field-0.routed.items are
+    in_order v placed.items c.in-Some.field-0.routed.items are
 
 pub invariant_of-self-2 : goal.invariant_of-self-2
 invariant_of-self-2 c =
@@ -79,7 +79,7 @@ invariant_of-self-2 c =
     let kept : List LogValue =
     map log_of (take c.self.inside.logs.len (c.put_all.new.logs
     ++ drop (length c.put_all.new.logs) c.self.inside.logs.items)) in
-    let placed = subst (λ o. IfSome o (λ (r : Routes). ArePlaced v.tree v.clock c.seq.inside.0 r))
+    let placed = subst (λ o. IfSome o (λ (r : Routes). AreOfRecords v.tree v.clock c.seq.inside.0 r))
     c.in-Some.is c.in_ok-made.ensures.placed in
     let are = placed.are ∙ ap (λ n. routed_items v.tree v.clock n placed.items) c.seq.view_is in
     let drawn : next ≡ v.next + length placed.items =
@@ -113,7 +113,7 @@ returns-clause-answered c log by shown =
     map log_of (take c.self.inside.logs.len (c.put_all.new.logs
     ++ drop (length c.put_all.new.logs) c.self.inside.logs.items)) in
     let shown' : Shows v log = shown_inside log c.self.view_is shown in
-    let placed = subst (λ o. IfSome o (λ (q : Routes). ArePlaced v.tree v.clock c.seq.inside.0 q))
+    let placed = subst (λ o. IfSome o (λ (q : Routes). AreOfRecords v.tree v.clock c.seq.inside.0 q))
     c.in-Some.is c.in_ok-made.ensures.placed in
     let same = c.from_vec-items.ensures.items ∙ c.into_vec.ensures in
     let lent = c.deref_mut.ensures.value in

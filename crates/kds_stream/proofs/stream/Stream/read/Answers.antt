@@ -1,7 +1,7 @@
 use Rattle.std.proofs.Common.{◌≡◌, ◌<◌, map, true, get_or, length, sym, subst, ap, ◌∙◌}
 use Rattle.std.specs.Prelude.{is_some, slice_get, ◌&&◌}
 use Rattle.kds_defs.specs.Listings.{ends_at}
-use Rattle.kds_defs.specs.Records.{batch, numbers_of, place_after, stored}
+use Rattle.kds_defs.specs.Records.{batch, numbers_of, position_after, stored}
 use Rattle.kds_defs.specs.Streams.{floor_of}
 use Rattle.kds_stream.proofs.Insides.{shown_inside}
 use Rattle.kds_stream.proofs.Listed.{made_within, none_of, read_end, read_no_end}
@@ -50,18 +50,18 @@ returns-clause-end c log show =
     let left = c.first_left-left.result in
     let along : _ = ap (λ (u : StreamValue).
     ends_at log u.clock u.no c.args.shard
-    (place_after c.args.position (numbers_of (batch log u.clock u.no c.args.shard c.args.position c.args.limit))))
+    (position_after c.args.position (numbers_of (batch log u.clock u.no c.args.shard c.args.position c.args.limit))))
     c.self.view_is in
     elim c.match-shard.branch [
       | in-Some w ↦
-          read_end v log show' c.args.shard c.args.position c.args.limit c.in_ok-batch.place
-          (log_of c.index-log.result.now) left inside at c.in_ok-batch.ensures.place c.first_left-left.ensures.value
+          read_end v log show' c.args.shard c.args.position c.args.limit c.in_ok-batch.reach
+          (log_of c.index-log.result.now) left inside at c.in_ok-batch.ensures.reach c.first_left-left.ensures.value
           w.in-Some.state.now c.match-shard.end
           w.in-Some.ensures.value (w.end-is ∙ w.is_end-end.ensures
           ∙ ap (λ b. is_some w.in-Some.state.now.end && b) (none_of left w.is_none.result w.is_none.ensures))
           ∙ along
       | in-None w ↦
-          read_no_end v log show' c.args.shard c.args.position c.args.limit c.in_ok-batch.place
-          (log_of c.index-log.result.now) left inside at c.in_ok-batch.ensures.place c.first_left-left.ensures.value
+          read_no_end v log show' c.args.shard c.args.position c.args.limit c.in_ok-batch.reach
+          (log_of c.index-log.result.now) left inside at c.in_ok-batch.ensures.reach c.first_left-left.ensures.value
           c.match-shard.end w.in-None.ensures.value w.end-is ∙ along
     ]

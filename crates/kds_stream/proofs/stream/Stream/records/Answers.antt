@@ -75,11 +75,11 @@ returns-then-end c log show =
     (none_of c.first_left-left.result c.is_none.result c.is_none.ensures) in
     answer_along (λ (u : StreamValue). get_records log u.clock c.args.iter.now c.args.limit) v c.args.self.now _
     c.self.view_is
-    (records_end v log show' c.args.iter.now c.args.limit c.in_ok-batch.place c.in-Some.shard
+    (records_end v log show' c.args.iter.now c.args.limit c.in_ok-batch.reach c.in-Some.shard
     (log_of c.index-log.result.now) c.first_left-left.result c.in_ok-batch.batch c.millis_behind-behind.result own
     c.if-iter_expired.ensures listed
     (listed_within v c.args.iter.now.shard c.in-Some.shard c.self.invariant listed) at c.in_ok-batch.ensures.batch
-    c.in_ok-batch.ensures.place c.first_left-left.ensures.value c.millis_behind-behind.ensures
+    c.in_ok-batch.ensures.reach c.first_left-left.ensures.value c.millis_behind-behind.ensures
     c.in_ok-children.children end c.in_ok-children.ensures)
 
 pub returns : goal.returns
@@ -97,9 +97,9 @@ returns c log show =
     (none_of c.first_left-left.result c.is_none.result c.is_none.ensures) in
     answer_along (λ (u : StreamValue). get_records log u.clock c.args.iter.now c.args.limit) v c.args.self.now _
     c.self.view_is
-    (records_more v log show' c.args.iter.now c.args.limit c.in_ok-batch.place c.in-Some.shard
+    (records_more v log show' c.args.iter.now c.args.limit c.in_ok-batch.reach c.in-Some.shard
     (log_of c.index-log.result.now) c.first_left-left.result c.in_ok-batch.batch c.millis_behind-behind.result own
     c.if-iter_expired.ensures listed
     (listed_within v c.args.iter.now.shard c.in-Some.shard c.self.invariant listed) at c.in_ok-batch.ensures.batch
-    c.in_ok-batch.ensures.place c.first_left-left.ensures.value c.millis_behind-behind.ensures c.new.result end
+    c.in_ok-batch.ensures.reach c.first_left-left.ensures.value c.millis_behind-behind.ensures c.new.result end
     c.new.ensures)

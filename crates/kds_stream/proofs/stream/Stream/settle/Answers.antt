@@ -26,7 +26,7 @@ invariant_of-self c =
     let after : List ShardState → List LogValue → StreamValue =
     λ xs ls. record v { tree = xs; logs = ls; clock_before = v.clock; cut_before = v.cut; next_to_settle = next } in
     subst (λ (xs : List ShardState). IsStream (after xs kept))
-    (sym (ap (λ (t : TreeValue). t.shards) c.pass_expired.ensures))
+    (sym (ap (λ (t : TreeValue). t.shards) c.note_expired.ensures))
     (subst (λ (ls : List LogValue). IsStream (after v.tree ls)) (sym back)
     (settled_stream v v.next_to_settle next c.self.invariant))
 
@@ -46,6 +46,6 @@ returns-clause-shows c log shown =
     λ xs ls. record v { tree = xs; logs = ls; clock_before = v.clock; cut_before = v.cut; next_to_settle = next } in
     let shown' : Shows v log = subst (λ (w : StreamValue). Shows w log) (sym c.self.view_is) shown in
     subst (λ (xs : List ShardState). Shows (after xs kept) log)
-    (sym (ap (λ (t : TreeValue). t.shards) c.pass_expired.ensures))
+    (sym (ap (λ (t : TreeValue). t.shards) c.note_expired.ensures))
     (subst (λ (ls : List LogValue). Shows (after v.tree ls) log) (sym back)
     (shows_settled v v.next_to_settle v.clock v.cut next log shown'))

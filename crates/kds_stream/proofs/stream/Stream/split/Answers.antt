@@ -21,7 +21,7 @@ pub invariant_of-self-2 : goal.invariant_of-self-2
 invariant_of-self-2 c =
     let v : StreamValue = the_view c.self.inside in
     let free : v.next ≢ last_number =
-    subst (λ (u : StreamValue). u.next ≢ last_number) (sym c.self.view_is) c.in_default.ensures.free in
+    subst (λ (u : StreamValue). u.next ≢ last_number) (sym c.self.view_is) c.in_default.ensures.unspent in
     let passes = subst (λ (u : StreamValue). split_refusal u.tree c.args.shard c.args.at ≡ None) (sym c.self.view_is)
     c.in_default.ensures.splits in
     let few : length (filter is_open v.tree) < OPEN_SHARDS =
@@ -49,7 +49,7 @@ pub returns-clause-answered : goal.returns-clause-answered
 returns-clause-answered c log by show =
     let v : StreamValue = the_view c.self.inside in
     let free : v.next ≢ last_number =
-    subst (λ (u : StreamValue). u.next ≢ last_number) (sym c.self.view_is) c.in_default.ensures.free in
+    subst (λ (u : StreamValue). u.next ≢ last_number) (sym c.self.view_is) c.in_default.ensures.unspent in
     let passes = subst (λ (u : StreamValue). split_refusal u.tree c.args.shard c.args.at ≡ None) (sym c.self.view_is)
     c.in_default.ensures.splits in
     let tree = c.in_ok-_children.ensures.value

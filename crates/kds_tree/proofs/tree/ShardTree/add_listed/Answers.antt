@@ -10,10 +10,10 @@ use Rattle.kds_tree.proofs.tree.ShardTree.add_listed.Goals as goal
 
 pub split_at-requires : goal.split_at-requires
 split_at-requires c =
-    let front = c.passed_at-passed.ensures
+    let front = c.skipped_at-skipped.ensures
     (subst (AreLeft (floor_of c.self.inside.front.cut) 0 c.self.inside.front.count c.self.inside.front.left.items)
     (sym c.deref.ensures.value) c.self.invariant.front) in
-    let within = left_within (floor_of c.args.cut) 0 c.passed_at-passed.result.0 c.passed_at-passed.result.1.now
+    let within = left_within (floor_of c.args.cut) 0 c.skipped_at-skipped.result.0 c.skipped_at-skipped.result.1.now
     c.deref.result.now front in
     omega (
       arith,
@@ -28,10 +28,10 @@ returns c =
     let f = floor_of c.args.cut in
     let xs = c.args.self.now.shards in
     let is = ap (λ (t : TreeValue). t.shards) c.self.view_is in
-    let count = c.passed_at-passed.result.0 in
-    let left = c.passed_at-passed.result.1.now in
+    let count = c.skipped_at-skipped.result.0 in
+    let left = c.skipped_at-skipped.result.1.now in
     let front : AreLeft f 0 count left xs = subst (AreLeft f 0 count left) (c.deref.ensures.value ∙ is)
-    (c.passed_at-passed.ensures
+    (c.skipped_at-skipped.ensures
     (subst (AreLeft (floor_of c.self.inside.front.cut) 0 c.self.inside.front.count c.self.inside.front.left.items)
     (sym c.deref.ensures.value) c.self.invariant.front)) in
     let named = c.in_ok-add_numbers.ensures

@@ -13,10 +13,10 @@ use Rattle.kds_tree.proofs.tree.ShardTree.listed.Goals as goal
 pub split_at-requires : goal.split_at-requires
 split_at-requires c =
     let names = c.self.inside.front.left.items in
-    let front = c.passed_at-passed.ensures
+    let front = c.skipped_at-skipped.ensures
     (subst (AreLeft (floor_of c.self.inside.front.cut) 0 c.self.inside.front.count names) (sym c.deref.ensures.value)
     c.self.invariant.front) in
-    let within = left_within (floor_of c.args.cut) 0 c.passed_at-passed.result.0 c.passed_at-passed.result.1.now
+    let within = left_within (floor_of c.args.cut) 0 c.skipped_at-skipped.result.0 c.skipped_at-skipped.result.1.now
     c.deref.result.now front in
     omega (
       arith,
@@ -33,11 +33,11 @@ returns-clause-shards c =
     let xs = c.args.self.now.shards in
     let is = ap (λ (t : TreeValue). t.shards) c.self.view_is in
     let tree : IsTree xs = subst IsTree is c.self.invariant.tree in
-    let count = c.passed_at-passed.result.0 in
-    let left = c.passed_at-passed.result.1.now in
+    let count = c.skipped_at-skipped.result.0 in
+    let left = c.skipped_at-skipped.result.1.now in
     let start = c.start_behind-start.result in
     let names = c.numbers_from-numbers.result.now in
-    let front = c.passed_at-passed.ensures
+    let front = c.skipped_at-skipped.ensures
     (subst (AreLeft (floor_of c.self.inside.front.cut) 0 c.self.inside.front.count c.self.inside.front.left.items)
     (sym c.deref.ensures.value) c.self.invariant.front) in
     let front' : AreLeft (floor_of c.args.cut) 0 count left xs =
@@ -60,11 +60,11 @@ returns-clause-more c =
     let xs = c.args.self.now.shards in
     let is = ap (λ (t : TreeValue). t.shards) c.self.view_is in
     let tree : IsTree xs = subst IsTree is c.self.invariant.tree in
-    let count = c.passed_at-passed.result.0 in
-    let left = c.passed_at-passed.result.1.now in
+    let count = c.skipped_at-skipped.result.0 in
+    let left = c.skipped_at-skipped.result.1.now in
     let start = c.start_behind-start.result in
     let names = c.numbers_from-numbers.result.now in
-    let front = c.passed_at-passed.ensures
+    let front = c.skipped_at-skipped.ensures
     (subst (AreLeft (floor_of c.self.inside.front.cut) 0 c.self.inside.front.count c.self.inside.front.left.items)
     (sym c.deref.ensures.value) c.self.invariant.front) in
     let front' : AreLeft (floor_of c.args.cut) 0 count left xs =

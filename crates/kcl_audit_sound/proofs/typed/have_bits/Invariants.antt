@@ -1,8 +1,0 @@
-use Rattle.std.proofs.Common.{take}
-use Rattle.std.specs.List.{AllByRecursion}
-use Rattle.kcl_audit_sound.specs.Bits.{HasBits}
-use Rattle.kcl_audit_sound.proofs.typed.have_bits.Given as goal
-
--- The numbers of the turns so far have the bits of their types.
-abbrev pub invariant-loop-turn : goal.invariant-loop-turn
-invariant-loop-turn l = AllByRecursion HasBits (take l.turn-index l.turns)

@@ -1,5 +1,0 @@
-use Rattle.std.proofs.Common.{rules}
-use Rattle.kcl_leases.proofs.origins.counting.Goals as goal
-
-pub returns-then-parent_reaches : goal.returns-then-parent_reaches
-returns-then-parent_reaches c = search rules

@@ -1,6 +1,0 @@
-use Rattle.std.proofs.Common.{[], refl, sym}
-use Rattle.std.proofs.lemmas.List.{append-nil}
-use Rattle.kcl_sim.proofs.keep.AllTurnsKeep.tell.Goals as goal
-
-pub returns-clause-ok : goal.returns-clause-ok
-returns-clause-ok c = λ since h kept. ([], refl, sym (append-nil c.args.to.now))

@@ -1,9 +1,0 @@
-use Rattle.std.proofs.Common.{◌≡◌, map, drop}
-use Rattle.kcl_journal.specs.declared.line.EntryLine.{EntryLine}
-use Rattle.kcl_sim_scribe.specs.Known.{changed_by}
-use Rattle.kcl_sim_scribe.proofs.scribe.keep_all.Given as goal
-
--- The lines that are left make the same of the streams so far as all lines make of the first ones.
-abbrev pub invariant-loop-line : goal.invariant-loop-line
-invariant-loop-line l = changed_by (map (λ (x : EntryLine). x.what) (drop l.line-index l.lines)) l.streams.items
-    ≡ changed_by (map (λ (x : EntryLine). x.what) l.lines) l.initial.streams.items

@@ -1,8 +1,0 @@
-use Rattle.std.proofs.Common.{rules}
-use Rattle.kcl_table.proofs.writes.check_owner.Goals as goal
-
-pub returns-then-row-counter-clause-refused : goal.returns-then-row-counter-clause-refused
-returns-then-row-counter-clause-refused c = search rules
-
-pub returns-clause-held : goal.returns-clause-held
-returns-clause-held c = search rules

@@ -1,5 +1,0 @@
-use Rattle.std.proofs.Common.{rules}
-use Rattle.kds_lines.proofs.feed.over.Goals as goal
-
-pub returns-then-len-gt-LINE_BYTES : goal.returns-then-len-gt-LINE_BYTES
-returns-then-len-gt-LINE_BYTES c = search rules
