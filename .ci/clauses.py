@@ -87,7 +87,7 @@ THROUGH = {
     ],
     ('kcl_consumer', 'Consumer::absorb.stage'): [
         'after_give.stage', 'after_mark.stage', 'after_open.stage', 'after_end.stage', 'after_read.stage',
-        'stage_after_give.stage', 'Ahead::front_stage.stage', 'Ahead::pop_first.ensures', 'Ahead::is_filled.ensures',
+        'stage_after_give.stage', 'Ahead::front_stage.stage', 'Ahead::pop_first.ensures', 'Ahead::stops_filling.ensures',
     ],
     ('kcl_consumer', 'Consumer::absorb.given'): ['last_after.ensures'],
     ('kcl_world', 'WorldMachine::apply.answered'): [

@@ -1,5 +1,5 @@
--- A Read of a consumer is never refused with TooManyPending. A Read is refused so only if `PENDING_READS` reads of its
--- tenure wait to be given, and a consumer reads only while fewer of its batches wait.
+-- A Read of a consumer is never refused with TooManyPending. This refusal comes only if at least `PENDING_READS` reads
+-- of the consumer's tenure wait to be given. A consumer reads only while fewer batches wait.
 use Rattle.std.proofs.Common.{◌≡◌, ℕ, suc, ◌+◌, ◌-◌, ◌<◌, ◌≤◌, Bool, true, false, List, [], ◌∷◌, ◌++◌, length, Option}
 use Rattle.std.proofs.Common.{Some, None, Ok, Err, refl, sym, ap}
 use Rattle.std.proofs.Common.{subst, ◌∙◌, arith, length-append}
@@ -29,7 +29,8 @@ use Rattle.kcl_defs.specs.Consumers.{Answered, Called, Ending, Event, Filling, G
 use Rattle.kcl_defs.specs.Consumers.{Marking, MarkingEnd, Opening, Over, Past}
 use Rattle.kcl_defs.specs.Consumers.{Stage, Starting, after_answer, after_call, after_event, after_loss, after_open}
 use Rattle.kcl_defs.specs.Consumers.{after_read, calls_after, front}
-use Rattle.kcl_defs.specs.Consumers.{given, is_empty, is_filled, is_loss, next_command, onward, stage_after, was_handed}
+use Rattle.kcl_defs.specs.Consumers.{given, is_empty, stops_filling, is_loss, next_command, onward, stage_after}
+use Rattle.kcl_defs.specs.Consumers.{first_has_records}
 use Rattle.kcl_defs.specs.Lives.{Deal, deals_of, gives_after, gives_in, reads_after, reads_in}
 use Rattle.kcl_defs.specs.WorkerLives.{read_done}
 use Rattle.kcl_defs.proofs.DealLemmas.{AgreeWith, AllAgree, agree}
@@ -62,7 +63,7 @@ first_false false y z e = refl
 below : (most n : ℕ) → nat_le most n ≡ false → n < most
 below most n e = grind (arith, nat_tests)
 
-fetched_few : (limit reach : ℕ) (ws : List Fetched) (f : Fetched) (b : Bool) → is_filled limit (length ws + 1) f ≡ b
+fetched_few : (limit reach : ℕ) (ws : List Fetched) (f : Fetched) (b : Bool) → stops_filling limit (length ws + 1) f ≡ b
     → HasFewWaiting (if b then front reach (ws ++ f ∷ []) else Filling reach (ws ++ f ∷ []))
 fetched_few limit reach ws f true e = front_few reach (ws ++ f ∷ [])
 fetched_few limit reach ws f false e =
@@ -138,7 +139,7 @@ loss_few Opening = tt
 loss_few Starting = tt
 loss_few (Filling reach ws) = tt
 loss_few (Holding reach ws) = tt
-loss_few (Giving reach ws asked lost) = handed_few (was_handed ws) reach ws asked
+loss_few (Giving reach ws asked lost) = handed_few (first_has_records ws) reach ws asked
 loss_few (Marking reach ws target) = tt
 loss_few Ending = tt
 loss_few MarkingEnd = tt
@@ -215,8 +216,8 @@ read_told by c t position limit deals log all =
 too_many : (most n g r : ℕ) → n < most → r ≡ g + n → most + g ≤ r → ⊥
 too_many most n g r few all many = omega arith
 
--- If a consumer's record has the reads and gives of its tenure in a history, its next Read isn't refused with
--- TooManyPending (`IsNeverFull`).
+-- If a consumer's record has the accepted reads of the consumer's tenure in a history, and as many accepted Gives, then
+-- the consumer's next Read isn't refused with TooManyPending (`IsNeverFull`).
 pub never_full : IsNeverFull
 never_full by at counter t position limit h made past step next told =
     let r = reads_filling made (stage_after made past) counter t position limit next in

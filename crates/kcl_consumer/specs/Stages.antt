@@ -5,7 +5,7 @@ use Rattle.kds_defs.specs.declared.command.Target.{Target}
 use Rattle.kcl_defs.specs.declared.consumer.Fetched.{Fetched}
 use Rattle.kds_defs.specs.declared.limits.TheConstants.{PENDING_READS}
 use Rattle.kcl_defs.specs.Consumers.{Stage, Opening, Starting, Filling, Holding, Giving, Marking, Ending, MarkingEnd}
-use Rattle.kcl_defs.specs.Consumers.{Leaving, Over, was_handed}
+use Rattle.kcl_defs.specs.Consumers.{Leaving, Over, first_has_records}
 use Rattle.kcl_consumer.specs.declared.stage.ConsumerStage.{ConsumerStage}
 use Rattle.kcl_consumer.specs.declared.stage.ConsumerStage.TheVariants as stage
 
@@ -24,11 +24,12 @@ stage_of stage.MarkingEnd reach waiting asked lost = MarkingEnd
 stage_of (stage.Leaving why) reach waiting asked lost = Leaving why
 stage_of (stage.Over why) reach waiting asked lost = Over why
 
--- How many batches wait in the stored stage. In `Opening` and `Starting` none waits. In `Filling` there is room for one
--- more. In `Holding` a batch waits, and the first one isn't empty. In any other stage nothing is claimed.
+-- What holds for the waiting batches in a stored stage. In `Opening` and `Starting`, no batch waits. In `Filling`,
+-- fewer than `PENDING_READS` batches wait. In `Holding`, a batch waits, and the first one isn't empty. In any other
+-- stage nothing is claimed.
 abbrev pub IsKept : ConsumerStage → List Fetched → Type 0
 IsKept stage.Opening waiting = waiting ≡ []
 IsKept stage.Starting waiting = waiting ≡ []
 IsKept stage.Filling waiting = length waiting < PENDING_READS
-IsKept stage.Holding waiting = was_handed waiting ≡ true
+IsKept stage.Holding waiting = first_has_records waiting ≡ true
 IsKept _ waiting = Unit {0}

@@ -2,7 +2,7 @@
 //! the batch as processed, with the command Give.
 ghost use Rattle.std.specs.Prelude.{ℕ, ◌≡◌, ◌+◌, ◌<◌, [], ◌∷◌, ◌++◌, length, IfOk, None, false};
 ghost use Rattle.kds_defs.specs.declared.limits.TheConstants.{PENDING_READS};
-ghost use Rattle.kcl_defs.specs.Consumers.{first_batch, front, is_filled, over_at, was_handed};
+ghost use Rattle.kcl_defs.specs.Consumers.{first_batch, front, stops_filling, over_at, first_has_records};
 ghost use Rattle.kcl_consumer.specs.Aheads.{IsTaken};
 ghost use Rattle.kcl_consumer.specs.Stages.{IsKept, stage_of};
 
@@ -57,8 +57,8 @@ impl Ahead {
 
     /// Whether the ring has a first batch and this batch has records. Such a batch is handed to the processor before it
     /// is reported as processed. An empty batch is never handed to the processor.
-    pub(crate) fn was_handed(&self) -> bool
-        ensures { result ≡ was_handed self.now }
+    pub(crate) fn first_has_records(&self) -> bool
+        ensures { result ≡ first_has_records self.now }
     {
         match self.ring.front() {
             Some(f) => !f.batch.as_slice().is_empty(),
@@ -69,8 +69,8 @@ impl Ahead {
     /// Whether the consumer stops reading and handles the first batch after the batch `f` has been added to the ring.
     /// The consumer does so if the ring is then full, if the read of `f` reached the shard's end, or if `f` has fewer
     /// records than a Read may return (`limit`).
-    pub(crate) fn is_filled(&self, f: &Fetched, limit: u32) -> bool
-        ensures { result ≡ is_filled limit (length self.now + 1) f.now }
+    pub(crate) fn stops_filling(&self, f: &Fetched, limit: u32) -> bool
+        ensures { result ≡ stops_filling limit (length self.now + 1) f.now }
     {
         PENDING_READS <= self.ring.len() as u64 + 1
             || f.ended

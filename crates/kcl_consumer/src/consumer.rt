@@ -10,7 +10,7 @@ ghost use Rattle.kcl_defs.specs.Consumers.{over_at, next_command, stage_after, a
 ghost use Rattle.kcl_defs.specs.Consumers.{progress_of, after_loss, first_position, last_number_in, target_of, given};
 ghost use Rattle.kcl_defs.specs.Consumers.{given_after, after_give, after_mark, after_read, progress_over};
 ghost use Rattle.kcl_defs.specs.Consumers.{progress_refused};
-ghost use Rattle.kcl_defs.specs.Workers.{is_giving_stage, is_writing};
+ghost use Rattle.kcl_defs.specs.Workers.{is_giving_stage, opens_or_marks};
 ghost use Rattle.kds_defs.specs.Kinds.{is_service};
 ghost use Rattle.kds_defs.specs.Lawful.{IsLawfulCommand, IsLimit};
 ghost use Rattle.kcl_consumer.specs.Stages.{stage_of, IsKept};
@@ -215,7 +215,7 @@ fn after_read(ahead: &mut Ahead, limit: u32, reach: u64, answer: Answer) -> (Con
 {
     match fetched_of(answer) {
         Fetching::Read(f, next) => {
-            let filled = ahead.is_filled(&f, limit);
+            let filled = ahead.stops_filling(&f, limit);
             ahead.add(f);
             if filled {
                 (ahead.front_stage(), next)
@@ -239,7 +239,7 @@ pub struct Consumer<P> {
     reach: u64,
     ahead: Ahead,
     asked: Option<Target>,
-    lost: bool,
+    lost_in_giving: bool,
     given: Option<Seq>,
     processor: P,
 }
@@ -254,7 +254,7 @@ impl<P> Model for Consumer<P> {
 
     ghost view = { λ c. record {
       made = c.made;
-      stage = stage_of c.stage c.reach c.ahead c.asked c.lost;
+      stage = stage_of c.stage c.reach c.ahead c.asked c.lost_in_giving;
       given = c.given;
       processor = c.processor;
     } };
@@ -292,7 +292,7 @@ impl<P: Processor> Consumer<P> {
             reach: 0,
             ahead,
             asked: None,
-            lost: false,
+            lost_in_giving: false,
             given: None,
             processor,
         }
@@ -355,8 +355,8 @@ impl<P: Processor> Consumer<P> {
 
     /// Whether the consumer's next command is an OpenShard, which opens its shard, or a Mark, which sets the
     /// checkpoint.
-    pub fn is_writing(&self) -> bool
-        ensures { result ≡ is_writing self.now.stage }
+    pub fn opens_or_marks(&self) -> bool
+        ensures { result ≡ opens_or_marks self.now.stage }
     {
         match self.stage {
             ConsumerStage::Opening => true,
@@ -420,7 +420,7 @@ impl<P: Processor> Consumer<P> {
                 let batch = self.ahead.first_batch();
                 let asked = self.processor.process_records(batch)?;
                 self.asked = target_after(asked, batch);
-                self.lost = false;
+                self.lost_in_giving = false;
                 self.stage = ConsumerStage::Giving;
             }
             ConsumerStage::Ending => {
@@ -458,21 +458,21 @@ impl<P: Processor> Consumer<P> {
                 let limit = self.made.limit;
                 let (stage, reach) = after_read(&mut self.ahead, limit, self.reach, answer);
                 self.stage = stage;
-                forget(&mut self.asked, &mut self.lost);
+                forget(&mut self.asked, &mut self.lost_in_giving);
                 self.reach = reach;
                 Progress::Going
             }
             ConsumerStage::Giving => {
                 self.given = last_after(&self.ahead, self.given, &answer);
-                self.stage = after_give(&mut self.ahead, self.asked, self.lost, &answer);
-                forget(&mut self.asked, &mut self.lost);
+                self.stage = after_give(&mut self.ahead, self.asked, self.lost_in_giving, &answer);
+                forget(&mut self.asked, &mut self.lost_in_giving);
                 let_go(answer);
                 Progress::Going
             }
             ConsumerStage::Marking(_) => {
                 let (stage, progress) = after_mark(&self.ahead, &answer);
                 self.stage = stage;
-                forget(&mut self.asked, &mut self.lost);
+                forget(&mut self.asked, &mut self.lost_in_giving);
                 let_go(answer);
                 progress
             }
@@ -499,8 +499,8 @@ impl<P: Processor> Consumer<P> {
             ConsumerStage::Opening => self.stage = ConsumerStage::Over(Why::NeverOpened),
             ConsumerStage::Starting => self.stage = ConsumerStage::Over(Why::NeverOpened),
             ConsumerStage::Giving => {
-                if self.ahead.was_handed() {
-                    self.lost = true;
+                if self.ahead.first_has_records() {
+                    self.lost_in_giving = true;
                 } else {
                     self.stage = ConsumerStage::Leaving(Why::Lost);
                 }

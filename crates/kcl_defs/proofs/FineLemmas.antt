@@ -1,5 +1,5 @@
--- Each tenure has at most one consumer of a worker, and the consumers' records agree with the worker's commands: each
--- record has the accepted reads and Gives of its tenure among them (`AreGood`). Each kind of event keeps this so.
+-- Each tenure has at most one consumer of a worker, and the record of each consumer has the accepted reads and Gives of
+-- its tenure among the worker's commands (`AreGood`). Each kind of event keeps this so.
 use Rattle.std.proofs.Common.{◌≡◌, ℕ, ◌+◌, ◌≤◌, Bool, true, false, List, [], ◌∷◌, ◌++◌, Option, Some, None, Ok, Err}
 use Rattle.std.proofs.Common.{refl, sym, ap, subst, ◌∙◌, arith}
 use Rattle.std.specs.Prelude.{◌==◌, ◌&&◌, ◌||◌, not, cond, if◌then◌else◌, Result}
@@ -12,7 +12,7 @@ use Rattle.kds_defs.specs.declared.command.Command.TheVariants as command
 use Rattle.kcl_defs.specs.declared.consumer.Tenancy.{Tenancy}
 use Rattle.kcl_defs.specs.declared.consumer.WorkerMade.{WorkerMade}
 use Rattle.kcl_defs.specs.declared.plans.Held.{Held}
-use Rattle.kcl_defs.specs.declared.plans.LeaseId.{LeaseId}
+use Rattle.kcl_defs.specs.declared.plans.TenancyId.{TenancyId}
 use Rattle.kcl_defs.specs.declared.plans.SyncStep.{SyncStep}
 use Rattle.kcl_defs.specs.declared.plans.SyncStep.TheVariants.{Make, Cut}
 use Rattle.kcl_defs.specs.declared.plans.TakeStep.{TakeStep}
@@ -70,8 +70,8 @@ pub record AreGood (deals : List Deal) (consumers retired : List Known) : Type 0
   pub live : AllByRecursion (InStep deals) consumers
   pub over : AllByRecursion (InStep deals) retired
 
--- If each tenure has at most one consumer and the consumers' records agree with the commands (`AreGood`), this is still
--- so after the consumers that are over were retired.
+-- If each tenure has at most one consumer and the records agree with the commands (`AreGood`), this is still so after
+-- the consumers that are over were retired.
 pub settle_good : (deals : List Deal) (consumers retired : List Known) → AreGood deals consumers retired
     → AreGood deals (filter (λ k. not (is_over k)) consumers) (retired ++ filter is_over consumers)
 settle_good deals consumers retired g = record {
@@ -100,9 +100,8 @@ settle_good deals consumers retired g = record {
         (times t consumers) (times t retired) (times t (retired ++ filter is_over consumers))
         (times-parted t is_over consumers) (times-append t retired (filter is_over consumers)) o
 
--- If each tenure has at most one consumer and the consumers' records agree with the commands (`AreGood`), this is still
--- so after the event `e` happened to the consumers for which `test` is true. The event must keep each record in
--- agreement (`InStep`).
+-- `AreGood` stays true after the event `e` happened to the consumers for which `test` is true. The event must keep each
+-- record in agreement with the commands (`InStep`).
 event_good : (deals : List Deal) (test : Known → Bool) (e : Event) (consumers retired : List Known)
     → ((k : Known) → InStep deals k → InStep deals (with_event e k)) → AreGood deals consumers retired
     → AreGood deals (happens_to test e consumers) retired
@@ -113,9 +112,8 @@ event_good deals test e consumers retired f g = record {
   over = g.over;
 }
 
--- If each tenure has at most one consumer and the consumers' records agree with the commands (`AreGood`), this is still
--- so after the event `e` happened to the first consumer for which `test` is true. The event must keep its record in
--- agreement (`InStep`).
+-- `AreGood` stays true after the event `e` happened to the first consumer for which `test` is true. The event must keep
+-- each record in agreement with the commands (`InStep`).
 pub first_good : (deals : List Deal) (test : Known → Bool) (e : Event) (consumers retired : List Known)
     → ((k : Known) → InStep deals k → InStep deals (with_event e k)) → AreGood deals consumers retired
     → AreGood deals (happens_to_first test e consumers) retired
@@ -126,16 +124,14 @@ first_good deals test e consumers retired f g = record {
   over = g.over;
 }
 
--- If each tenure has at most one consumer and the consumers' records agree with the commands (`AreGood`), this is still
--- so after the consumers for which `test` is true have learnt that their leases are lost.
+-- `AreGood` stays true after the consumers for which `test` is true have learnt that their leases are lost.
 pub lost_good : (deals : List Deal) (test : Known → Bool) (consumers retired : List Known)
     → AreGood deals consumers retired
     → AreGood deals (happens_to test Losing consumers) retired
 lost_good deals test consumers retired g =
     event_good deals test Losing consumers retired (λ k s. lost_keeps deals k.made k.past s) g
 
--- If each tenure has at most one consumer and the consumers' records agree with the commands (`AreGood`), this is still
--- so with the command `deal` added, which is no accepted Read or Give.
+-- `AreGood` stays true with the command `deal` added, if `deal` has no read and no give of any tenure (`IsQuiet`).
 pub quiet_good : (deal : Deal) (deals : List Deal) (consumers retired : List Known) → IsQuiet deal.what
     → AreGood deals consumers retired → AreGood (deal ∷ deals) consumers retired
 quiet_good deal deals consumers retired is g = record {
@@ -145,8 +141,8 @@ quiet_good deal deals consumers retired is g = record {
   over = quiet deal deals retired is g.over;
 }
 
--- If each tenure has at most one consumer and the consumers' records agree with the commands (`AreGood`), this is still
--- so with the command `deal` added, which began a new tenure, and with the new consumer `k` of this tenure.
+-- `AreGood` stays true with the command `deal` added, which began a new tenure, and with the new consumer `k` of this
+-- tenure. None of the earlier commands may have begun, read or given this tenure.
 pub taken_good : (deal : Deal) (deals : List Deal) (k : Known) (consumers retired : List Known) → IsQuiet deal.what
     → k.past ≡ [] → ((t : ℕ) → begins t deal.answer ≡ (k.made.tenure == t)) → was_taken k.made.tenure deals ≡ false
     → reads_in k.made.tenure deals ≡ [] → gives_in k.made.tenure deals ≡ 0 → AreGood deals consumers retired
@@ -189,10 +185,9 @@ taken_good deal deals k consumers retired is no_past begun_by new no_read no_giv
         (times-with_known t k consumers ∙ ap (λ b. (if b then 1 else 0) + times t consumers) (sym (begun_by t) ∙ n.0))
         (g.begun t n.1)
 
--- If each tenure has at most one consumer and the consumers' records agree with the commands (`AreGood`), this is still
--- so after the next command of the consumer of the lease `id`. Then `deal` is added to the commands, and its answer to
--- the consumer's record.
-pub own_good : (id : LeaseId) (deal : Deal) (deals : List Deal) (k : Known) (counter : ℕ)
+-- `AreGood` stays true after the next command of the consumer of the lease `id`: `deal` is added to the commands, and
+-- the answer in `deal` to the consumer's record.
+pub own_good : (id : TenancyId) (deal : Deal) (deals : List Deal) (k : Known) (counter : ℕ)
     (consumers retired : List Known)
     → next_command k.made (stage_of_known k) counter ≡ Some deal.what → IsAbout id.tenure deal.what
     → known_of id consumers ≡ Some k → AreGood deals consumers retired
@@ -243,8 +238,9 @@ own_id a b t = grind (arith, nat_tests)
 same_own_id : (k : Known) → same_id (id_of k) (id_of k) ≡ true
 same_own_id k = own_id k.made.key.stream k.made.key.shard k.made.tenure
 
--- If `k` is the first consumer for which `p` is true, and no other consumer has its tenure, then `k` is also the
--- consumer that is found by its lease.
+-- Let `k` be the first consumer in `xs` for which `p` is true, and let no other consumer have the tenure of `k`. Then
+-- `p` is true of `k`, and `k` is also the first consumer that belongs to the lease of `k` (`known_of`). At least one
+-- consumer in `xs` has the tenure of `k`.
 finds : (p : Known → Bool) (k : Known) (xs : List Known) → times k.made.tenure xs ≤ 1 → find p xs ≡ Some k
     → (known_of (id_of k) xs ≡ Some k) × (p k ≡ true) × (1 ≤ times k.made.tenure xs)
 finds p k [] once h = absurd cc
@@ -292,8 +288,8 @@ gives_next : (made : Tenancy) (stage : Stage) (counter : ℕ) → is_giving_stag
 gives_next made (Giving reach waiting asked lost) counter h = refl
 gives_next made _ counter h = absurd cc
 
--- If `k` is the consumer that is found by the lease `id`, its tenure is that of `id`.
-pub found_tenure : (id : LeaseId) (k : Known) (xs : List Known) → known_of id xs ≡ Some k → k.made.tenure ≡ id.tenure
+-- If `k` is the consumer that is found by the lease `id`, the tenure of `k` is that of `id`.
+pub found_tenure : (id : TenancyId) (k : Known) (xs : List Known) → known_of id xs ≡ Some k → k.made.tenure ≡ id.tenure
 found_tenure id k [] h = absurd cc
 found_tenure id k (x ∷ xs) h = head (same_id (id_of x) id) refl h (λ g. found_tenure id k xs g)
   where
@@ -366,13 +362,14 @@ finish_chore deals failover now w (AtConsumers last) g =
     finish_consumers w (find (λ k. is_past last (id_of k)) w.consumers)
 finish_chore deals failover now w AtStopping g = finish_stopping deals w (find is_giving w.consumers) refl g
 
-pending_consumer : (w : WorkerState) (id : LeaseId) (o : Option Command)
+pending_consumer : (w : WorkerState) (id : TenancyId) (o : Option Command)
     → consumer_command w (known_of id w.consumers) ≡ o → IsWaitingOk (pending_of (Consuming id) o) w
 pending_consumer w id None e = tt
 pending_consumer w id (Some what) e = e
 
 -- The command of the next chore may wait: it is the next one of the chore's consumer, or it is no read and no give
--- (`IsWaitingOk`). If it is the Give of a stopped worker, it must be the next command of the consumer (`IsFinishOk`).
+-- (`IsWaitingOk`). If the chore is a Give after a stop, this Give must be the next command of the chore's consumer
+-- (`IsFinishOk`).
 pub pending_ok : (made : WorkerMade) (w : WorkerState) (o : Option Chore) → IsFinishOk o w
     → IsWaitingOk (pending_chore made w o) w
 pending_ok made w None f = tt

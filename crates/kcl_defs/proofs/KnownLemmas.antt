@@ -1,6 +1,6 @@
 -- Lemmas on lists of a worker's consumers: how many of them have a tenure after a change of the list, and which facts
--- about all of them stay true. Also, their records still agree with the commands (`InStep`) after a command of one of
--- them.
+-- about all of them stay true. Also, the consumers' records still agree with the commands (`InStep`) after a command of
+-- one of the consumers.
 use Rattle.std.proofs.Common.{◌≡◌, ℕ, ◌+◌, ◌≤◌, Bool, true, false, List, [], ◌∷◌, ◌++◌, Some}
 use Rattle.std.proofs.Common.{refl, ap, subst, arith}
 use Rattle.std.specs.Prelude.{◌==◌, not, cond, if◌then◌else◌, Result}
@@ -10,7 +10,7 @@ use Rattle.kds_base.proofs.Facts.{both_right}
 use Rattle.kds_defs.specs.declared.command.Command.{Command}
 use Rattle.kds_defs.specs.declared.command.Command.TheVariants as command
 use Rattle.kcl_defs.specs.declared.consumer.Tenancy.{Tenancy}
-use Rattle.kcl_defs.specs.declared.plans.LeaseId.{LeaseId}
+use Rattle.kcl_defs.specs.declared.plans.TenancyId.{TenancyId}
 use Rattle.kds_defs.specs.declared.reply.Refusal.{Refusal}
 use Rattle.kds_defs.specs.declared.reply.Reply.{Reply}
 use Rattle.kds_defs.specs.declared.reply.Reply.TheVariants as reply
@@ -48,8 +48,8 @@ times-append t (k ∷ xs) ys =
     plus : (a b c d : ℕ) → d ≡ b + c → a + d ≡ (a + b) + c
     plus a b c d h = omega arith
 
--- The consumers of the tenure `t` in `xs` for which `p` is true, and those for which it isn't, are together as many as
--- all consumers of this tenure in `xs`.
+-- The number of consumers of the tenure `t` in `xs` is the number of those for which `p` is false plus the number of
+-- those for which `p` is true.
 pub times-parted : (t : ℕ) (p : Known → Bool) (xs : List Known)
     → times t (filter (λ k. not (p k)) xs) + times t (filter p xs) ≡ times t xs
 times-parted t p [] = refl
@@ -203,8 +203,8 @@ no_more m n = omega arith
 rest_none : (m : ℕ) → 0 + m ≡ 0 → m ≡ 0
 rest_none m n = omega arith
 
--- If no consumer in `xs` has the tenure `t`, their records still agree with the commands (`InStep`) after the command
--- `deal`, which has no read and no give of another tenure than `t`.
+-- Suppose that no consumer in `xs` has the tenure `t`, and that the command `deal` has no read and no give of another
+-- tenure. Then the records of the consumers in `xs` still agree with the commands (`InStep`) after `deal`.
 pub others : (t : ℕ) (deal : Deal) (deals : List Deal) (xs : List Known) → IsAbout t deal.what → times t xs ≡ 0
     → AllByRecursion (InStep deals) xs → AllByRecursion (InStep (deal ∷ deals)) xs
 others t deal deals [] is none h = tt
@@ -226,7 +226,7 @@ quiet deal deals xs is h =
     others_keep deal deals k.made k.past q.0 q.1 s) h
 
 -- If a consumer of the lease `id` is found in `xs`, at least one consumer in `xs` has the tenure of `id`.
-pub found_times : (id : LeaseId) (k : Known) (xs : List Known) → known_of id xs ≡ Some k → 1 ≤ times id.tenure xs
+pub found_times : (id : TenancyId) (k : Known) (xs : List Known) → known_of id xs ≡ Some k → 1 ≤ times id.tenure xs
 found_times id k [] h = absurd cc
 found_times id k (x ∷ xs) h = head (same_id (id_of x) id) refl h (λ g. found_times id k xs g)
   where
@@ -244,8 +244,9 @@ found_times id k (x ∷ xs) h = head (same_id (id_of x) id) refl h (λ g. found_
     head false e g rest = at_least (if x.made.tenure == id.tenure then 1 else 0) (times id.tenure xs) 0 (rest g)
 
 -- The records of all consumers in `xs` still agree with the commands (`InStep`) after the next command `deal` of the
--- consumer of the lease `id`, and after this consumer took the answer. At most one of them has the tenure of `id`.
-pub own : (id : LeaseId) (deal : Deal) (deals : List Deal) (k : Known) (counter : ℕ) (xs : List Known)
+-- consumer of the lease `id`, and after this consumer took the answer. At most one consumer in `xs` may have the tenure
+-- of `id`.
+pub own : (id : TenancyId) (deal : Deal) (deals : List Deal) (k : Known) (counter : ℕ) (xs : List Known)
     → next_command k.made (stage_of_known k) counter ≡ Some deal.what → IsAbout id.tenure deal.what
     → times id.tenure xs ≤ 1 → known_of id xs ≡ Some k → AllByRecursion (InStep deals) xs
     → AllByRecursion (InStep (deal ∷ deals)) (consumed id deal.answer xs)

@@ -1,6 +1,6 @@
 -- The calls of a consumer's processor fit the reads and gives in the consumer's record (`IsLife`). This is proved along
--- the record: at each event, the reads are the given ones followed by the waiting ones, and the calls are those for the
--- given ones and the few that came since (`Stands`).
+-- the record: at each event, the reads are the given ones followed by the waiting ones. The calls are those for the
+-- given reads, followed by the few that came since (`Stands`).
 use Rattle.std.proofs.Common.{◌≡◌, ℕ, ◌+◌, Bool, true, false, List, [], ◌∷◌, ◌++◌, length, take, drop, Option, Some}
 use Rattle.std.proofs.Common.{None, Ok, Err, refl, sym, ap, subst, ◌∙◌, arith, inl, inr, append_assoc, length-append}
 use Rattle.std.specs.Prelude.{cond, if◌then◌else◌, not, reverse, Result}
@@ -19,8 +19,8 @@ use Rattle.kds_defs.specs.declared.reply.Refusal.TheVariants as refusal
 use Rattle.kds_defs.specs.declared.reply.Reply.{Reply}
 use Rattle.kds_defs.specs.declared.reply.Reply.TheVariants as reply
 use Rattle.kcl_defs.specs.Consumers.{Past, Event, Called, Answered, Losing, Stage, Opening, Starting, Filling, Holding}
-use Rattle.kcl_defs.specs.Consumers.{Giving, Marking, Ending, MarkingEnd, Leaving, Over, is_empty, is_filled, front}
-use Rattle.kcl_defs.specs.Consumers.{fetched, onward, given, was_handed, first_batch, is_loss, after_event}
+use Rattle.kcl_defs.specs.Consumers.{Giving, Marking, Ending, MarkingEnd, Leaving, Over, is_empty, stops_filling, front}
+use Rattle.kcl_defs.specs.Consumers.{fetched, onward, given, first_has_records, first_batch, is_loss, after_event}
 use Rattle.kcl_defs.specs.Consumers.{after_answer, after_read, after_give, after_mark, after_loss, stage_after}
 use Rattle.kcl_defs.specs.Consumers.{calls_with, calls_after}
 use Rattle.kcl_defs.specs.Lives.{reads_at, reads_after, gives_at, gives_after, read_in, give_in, processed, IsWaiting}
@@ -88,12 +88,13 @@ pub record StandsGiving (made : Tenancy) (waiting : List Fetched) (reads : List 
 -- handed over.
 pub record StandsHolding (made : Tenancy) (waiting : List Fetched) (reads : List Fetched) (gives : ℕ)
     (calls : List Call) : Type 0 where
-  pub some : was_handed waiting ≡ true
+  pub some : first_has_records waiting ≡ true
   pub stands : Stands made waiting [] [] reads gives calls
 
--- The reads of a consumer, the number of its gives and the calls of its processor fit the stage. Before the first call
--- there are none of them. From then on, the reads are the given ones and the waiting ones. The calls are those for the
--- given batches, in `Giving` also the one for the first waiting batch, and the ending that the stage allows.
+-- The reads of a consumer, the number of its gives and the calls of its processor fit the stage. In `Opening` and
+-- `Starting` there are none of these yet. In the stages `Filling` to `Leaving`, the reads are the given ones followed
+-- by the waiting ones, and the calls are those for the given ones, followed by what the stage allows (`Stands`). In
+-- `Over` the calls fit the reads and gives (`IsLife`).
 abbrev pub Holds : Tenancy → Stage → List Fetched → ℕ → List Call → Type 0
 Holds made Opening reads gives calls = IsNew reads gives calls
 Holds made Starting reads gives calls = IsNew reads gives calls
@@ -126,8 +127,8 @@ more_order c first calls given handed ending h =
     ∙ ap (λ xs. first ∷ xs) (append_assoc given (handed ++ ending) (c ∷ [])
     ∙ ap (λ xs. given ++ xs) (append_assoc handed ending (c ∷ [])))
 
--- If the calls are those for the given reads, `handed` and `ending` (`Stands`), then with the call `c` made they are
--- those with `c` at the end of the ending.
+-- If the calls are those for the given reads, `handed` and `ending` (`Stands`), then after the call `c` they are those
+-- with `c` added at the end of `ending`.
 pub with_end : (made : Tenancy) (c : Call) (waiting : List Fetched) (handed ending : List Call) (reads : List Fetched)
     (gives : ℕ) (calls : List Call) → Stands made waiting handed ending reads gives calls
     → Stands made waiting handed (ending ++ (c ∷ [])) reads gives (c ∷ calls)
@@ -138,8 +139,8 @@ with_end made c waiting handed ending reads gives calls h = record {
   in_order = more_order c (call.Initialize made.key made.start) calls (processed h.done) handed ending h.in_order;
 }
 
--- If the calls are those for the given reads, `handed` and `ending` (`Stands`), they fit the reads (`HasBegun`).
--- `handed` hands over at most the first waiting batch, and `ending` is an allowed ending.
+-- Suppose that the calls are those for the given reads, `handed` and `ending` (`Stands`). If `handed` hands over at
+-- most the first waiting batch, and `ending` is an allowed ending, the calls fit the reads (`HasBegun`).
 form : (made : Tenancy) (waiting : List Fetched) (handed ending : List Call) (reads : List Fetched) (gives : ℕ)
     (calls : List Call) → Stands made waiting handed ending reads gives calls → IsWaiting handed waiting
     → IsEnding ending → HasBegun made reads gives calls
@@ -176,7 +177,7 @@ open_ending _ Open_ended = Ended
 
 -- ---- Calls
 
--- If nothing was read, given or called before, then after Initialize, the first call, the calls are those for no given
+-- If nothing was read, given or called yet (`IsNew`), then after the call Initialize the calls are those for no given
 -- read, and no batch waits (`Stands`).
 begins : (made : Tenancy) (asked : Ask) (reads : List Fetched) (gives : ℕ) (calls : List Call) → IsNew reads gives calls
     → Stands made [] [] [] reads gives (call.Initialize made.key made.start ∷ calls)
@@ -187,8 +188,8 @@ begins made asked reads gives calls h = record {
   in_order = ap (λ cs. reverse (call.Initialize made.key made.start ∷ cs)) h.none_called;
 }
 
--- If the call `c` alone follows the calls for the given reads, it may count as the ending or as the call for a waiting
--- batch.
+-- If the call `c` follows the calls for the given reads as their only ending, it may also count as the call for a
+-- waiting batch (`Stands`).
 as_handed : (made : Tenancy) (c : Call) (waiting : List Fetched) (reads : List Fetched) (gives : ℕ) (calls : List Call)
     → Stands made waiting [] (c ∷ []) reads gives calls → Stands made waiting (c ∷ []) [] reads gives calls
 as_handed made c waiting reads gives calls h =
@@ -280,7 +281,7 @@ lost : (made : Tenancy) (stage : Stage) (reads : List Fetched) (gives : ℕ) (ca
 lost made Opening reads gives calls h = none_yet made reads gives calls h
 lost made Starting reads gives calls h = none_yet made reads gives calls h
 lost made (Giving reach waiting to known) reads gives calls h =
-    lost_giving made reach waiting to reads gives calls (was_handed waiting) h
+    lost_giving made reach waiting to reads gives calls (first_has_records waiting) h
 lost made (Over why) reads gives calls h = h
 lost made (Filling reach waiting) reads gives calls h = leaving made waiting [] [] reads gives calls h tt Open
 lost made (Holding reach waiting) reads gives calls h = leaving made waiting [] [] reads gives calls h.stands tt Open
@@ -334,7 +335,7 @@ fetches made reach waiting f reads gives calls h =
     let e : gives ≡ gives + 0 = omega arith in
     let R : ℕ → Type 0 = λ n. Stands made (waiting ++ (f ∷ [])) [] [] (reads ++ (f ∷ [])) n calls in
     fetches_if made reach (waiting ++ (f ∷ [])) (reads ++ (f ∷ [])) (gives + 0) calls
-    (is_filled made.limit (length waiting + 1) f)
+    (stops_filling made.limit (length waiting + 1) f)
     (subst R e (more_waiting made waiting f reads gives calls h))
 
 no_room : (made : Tenancy) (waiting : List Fetched) (reads : List Fetched) (gives : ℕ) (calls : List Call)
@@ -355,8 +356,8 @@ read_answered made reach waiting (Ok _) reads gives calls h = stays made waiting
 read_answered made reach waiting (Err refusal.ShardGone) reads gives calls h = no_room made waiting reads gives calls h
 read_answered made reach waiting (Err _) reads gives calls h = no_room made waiting reads gives calls h
 
--- If the batch of `f` waits first, and was handed over unless it is empty, then after a Give the read `f` is one of the
--- given ones, and the calls are those for the given ones (`Stands`).
+-- Suppose that the batch of `f` waits first, and was handed over unless it is empty. After a Give, the read `f` is one
+-- of the given ones, and the calls are those for the given ones (`Stands`).
 pub given_on : (made : Tenancy) (f : Fetched) (waiting : List Fetched) (reads : List Fetched) (gives : ℕ)
     (calls : List Call) → Stands made (f ∷ waiting) (processed (f ∷ [])) [] reads gives calls
     → Stands made waiting [] [] (reads ++ []) (gives + 1) calls

@@ -13,7 +13,7 @@ use Rattle.kcl_defs.specs.declared.consumer.Fetched.{Fetched}
 use Rattle.kcl_defs.specs.declared.consumer.Tenancy.{Tenancy}
 use Rattle.kcl_defs.specs.declared.consumer.WorkerMade.{WorkerMade}
 use Rattle.kcl_defs.specs.declared.plans.Held.{Held}
-use Rattle.kcl_defs.specs.declared.plans.LeaseId.{LeaseId}
+use Rattle.kcl_defs.specs.declared.plans.TenancyId.{TenancyId}
 use Rattle.kcl_defs.specs.declared.plans.TakeStep.{TakeStep}
 use Rattle.kds_defs.specs.declared.reply.Refusal.{Refusal}
 use Rattle.kds_defs.specs.declared.reply.Reply.{Reply}
@@ -129,8 +129,8 @@ losing_unrefused test consumers retired u = record {
   ended = u.ended;
 }
 
--- If the record of the consumer `k` has the reads and gives of its tenure among `deals` (`InStep`), these reads and
--- gives and the calls of its processor fit its stage (`Holds`).
+-- Let the record of the consumer `k` have the reads and gives of its tenure among `deals` (`InStep`). Then these reads
+-- and gives and the calls of the consumer's processor fit the consumer's stage (`Holds`).
 step_kept : (deals : List Deal) (k : Known) → InStep deals k
     → Holds k.made (stage_of_known k) (reads_in k.made.tenure deals) (gives_in k.made.tenure deals)
     (calls_after k.made k.past)
@@ -141,9 +141,9 @@ step_kept deals k s =
     Holds k.made (stage_of_known k) (reads_after k.made k.past) n (calls_after k.made k.past) in
     subst P (sym s.reads) (subst Q (sym s.gives) (holds k.made k.past))
 
--- If no Give of the consumer `k` was refused, this is still so after the answer to its next command `what`. The record
--- of `k` has the reads and gives of its tenure among `deals`. A Give is refused only if each of these reads is given
--- already.
+-- Suppose that the record of the consumer `k` has the reads and gives of its tenure among `deals` (`InStep`), and that
+-- a Give is refused only if each of these reads is given already (`IsGiveTaken`). If no Give of `k` was refused, this
+-- is still so after the answer to the next command `what` of `k`.
 pub answered_unrefused : (deals : List Deal) (k : Known) (counter : ℕ) (what : Command) (answer : Result Reply Refusal)
     → next_command k.made (stage_of_known k) counter ≡ Some what → IsGiveTaken what answer deals → InStep deals k
     → IsUnrefused k → IsUnrefused (with_event (Answered answer) k)
@@ -155,7 +155,7 @@ answered_unrefused deals k counter what answer next taken s h =
 same_known : (x k : Known) → Some x ≡ Some k → k ≡ x
 same_known x k e = cc
 
-consumed_unrefused : (id : LeaseId) (deals : List Deal) (k : Known) (counter : ℕ) (what : Command)
+consumed_unrefused : (id : TenancyId) (deals : List Deal) (k : Known) (counter : ℕ) (what : Command)
     (answer : Result Reply Refusal) (xs : List Known) → next_command k.made (stage_of_known k) counter ≡ Some what
     → IsGiveTaken what answer deals → known_of id xs ≡ Some k → AllByRecursion (InStep deals) xs
     → AllByRecursion IsUnrefused xs → AllByRecursion IsUnrefused (consumed id answer xs)
@@ -172,7 +172,7 @@ consumed_unrefused id deals k counter what answer (x ∷ xs) next taken found st
         (answered_unrefused deals x counter what answer (subst P (same_known x k g) next) taken steps.0 h.0, h.1)
     head false g rest = (h.0, rest g)
 
-own_unrefused : (id : LeaseId) (deals : List Deal) (what : Command) (answer : Result Reply Refusal) (w : WorkerState)
+own_unrefused : (id : TenancyId) (deals : List Deal) (what : Command) (answer : Result Reply Refusal) (w : WorkerState)
     (o : Option Known) → known_of id w.consumers ≡ o → consumer_command w o ≡ Some what → IsGiveTaken what answer deals
     → AllByRecursion (InStep deals) w.consumers → AreUnrefused w.consumers w.retired
     → AreUnrefused (consumed id answer w.consumers) w.retired
@@ -263,9 +263,10 @@ release_unrefused (Some r) w u = record {
   ended = u.ended;
 }
 
--- If no Give of a consumer was refused before an event of the worker, none is after it. Each refused Give among the
--- commands came when each earlier read of its tenure was given (`AreGivesTaken`), and the consumers' records agree with
--- the commands (`IsFine`).
+-- Suppose that each refused Give among the commands came when each earlier read of its tenure was given
+-- (`AreGivesTaken`), and that the consumers' records agree with the commands (`IsFine`). If no Give of a consumer was
+-- refused and each retired consumer was over before an event of the worker, this is still so after the event
+-- (`AreUnrefused`).
 pub state_unrefused : (made : WorkerMade) (event : WorkerEvent) (w : WorkerState) (deals : List Deal)
     → AreGivesTaken (deals_with event w deals) → IsFine deals w → AreUnrefused w.consumers w.retired
     → AreUnrefused (after_worker_event made event w).consumers (after_worker_event made event w).retired
@@ -337,9 +338,9 @@ whole_among deals k s unrefused over =
     (over_life k.made (stage_of_known k) (reads_after k.made k.past) (gives_after k.made k.past)
     (calls_after k.made k.past) over (settles k.made k.past unrefused)))
 
--- Let the record of each consumer in `xs` have the reads and gives of its tenure among `deals`. If each is over and no
--- Give was refused, the calls of each processor fit these reads and gives, and each batch that was handed over is given
--- (`IsWholeLife`).
+-- Let the record of each consumer in `xs` have the reads and gives of its tenure among `deals`. If each consumer is
+-- over and no Give of it was refused, the calls of each processor fit these reads and gives, and each batch that was
+-- handed over is given (`IsWholeLife`).
 pub all_whole : (deals : List Deal) (xs : List Known) → AllByRecursion (InStep deals) xs → AllByRecursion IsUnrefused xs
     → AllByRecursion HasEnded xs
     → AllByRecursion (λ k. IsWholeLife k.made (reads_in k.made.tenure deals) (gives_in k.made.tenure deals)
@@ -357,9 +358,10 @@ retired_whole made past orderly new taken =
     all_whole (deals_after made past) (worker_after made past).retired (fine made past orderly new).good.over u.over
     u.ended
 
--- If the turns of the actor `by` in the history `h` are the commands of the worker's record with their answers, each
--- consumer's processor is called for the given reads of its tenure. Each batch that a retired consumer's processor was
--- handed is given (`AreServed`).
+-- Suppose that the record results from calls that meet their preconditions, and that the turns of the actor `by` in the
+-- history `h` are the commands of the record with their answers. Then each consumer belongs to a tenure, and its
+-- processor was called for the given reads of this tenure. Each batch that a retired consumer's processor was handed is
+-- given (`AreServed`).
 pub are_served : (by : ℕ) (h : List Turn) (made : WorkerMade) (past : WorkerPast) → IsOrderly made past
     → IsToldIn by h made past → AreServed by h made past
 are_served by h made past orderly told =

@@ -17,8 +17,9 @@ use Rattle.kds_defs.specs.declared.reply.Refusal.TheVariants as refusal
 use Rattle.kds_defs.specs.declared.reply.Reply.{Reply}
 use Rattle.kds_defs.specs.declared.reply.Reply.TheVariants as reply
 use Rattle.kcl_defs.specs.Consumers.{Past, Event, Called, Answered, Losing, Stage, Opening, Starting, Filling, Holding}
-use Rattle.kcl_defs.specs.Consumers.{Giving, Marking, Ending, MarkingEnd, Leaving, Over, is_empty, is_filled, front}
-use Rattle.kcl_defs.specs.Consumers.{onward, was_handed, is_loss, after_event, after_answer, after_read, after_give}
+use Rattle.kcl_defs.specs.Consumers.{Giving, Marking, Ending, MarkingEnd, Leaving, Over, is_empty, stops_filling, front}
+use Rattle.kcl_defs.specs.Consumers.{onward, first_has_records, is_loss, after_event, after_answer, after_read}
+use Rattle.kcl_defs.specs.Consumers.{after_give}
 use Rattle.kcl_defs.specs.Consumers.{after_mark, after_loss, stage_after, calls_with, calls_after}
 use Rattle.kcl_defs.specs.Lives.{reads_at, reads_after, gives_at, gives_after, read_in, give_in, IsEnding, Ended}
 use Rattle.kcl_defs.proofs.LifeLemmas.{Holds, Stands, StandsGiving, StandsSomehow, IsOpenEnding, Open, Open_ended}
@@ -71,8 +72,8 @@ fronts made reach (f ∷ waiting) reads gives calls = choice (is_empty f.batch)
     choice true = tt
     choice false = tt
 
--- If each batch that was handed over is given, should the consumer leave or be over (`Settles`), this is still so after
--- the processor call that is due in the stage has returned.
+-- If `Settles` holds in a stage, it still holds after the processor call that is due in the stage has returned. So if
+-- the consumer then leaves or is over, each batch that was handed over is given.
 called : (made : Tenancy) (asked : Ask) (stage : Stage) (reads : List Fetched) (gives : ℕ) (calls : List Call)
     → Settles made stage reads gives calls
     → Settles made (after_event made (Called asked) stage) reads gives (calls_with made (Called asked) stage calls)
@@ -92,11 +93,12 @@ called made asked (Marking reach waiting to) reads gives calls s = tt
 called made asked Ending reads gives calls s = tt
 called made asked MarkingEnd reads gives calls s = tt
 
--- After the lease was lost in the stage `Giving`, either the batch that was handed over is still to be given, or no
--- waiting batch was handed over and the consumer leaves (`Settles`).
+-- After a loss of the lease in the stage `Giving`, `Settles` holds: either the batch that was handed over is still to
+-- be given, or no waiting batch was handed over and the consumer leaves.
 not_handed : (made : Tenancy) (reach : ℕ) (waiting : List Fetched) (to : Option Target) (reads : List Fetched)
     (gives : ℕ) (calls : List Call) → StandsGiving made waiting reads gives calls
-    → Settles made (if was_handed waiting then Giving reach waiting to true else Leaving why.Lost) reads gives calls
+    → Settles made (if first_has_records waiting then Giving reach waiting to true else Leaving why.Lost)
+    reads gives calls
 not_handed made reach [] to reads gives calls h = absurd h.some
 not_handed made reach (f ∷ waiting) to reads gives calls h = choice (is_empty f.batch) refl
   where
@@ -135,7 +137,7 @@ read_answered : (made : Tenancy) (reach : ℕ) (waiting : List Fetched) (answer 
     (reads : List Fetched) (gives : ℕ) (calls : List Call) → Stands made waiting [] [] reads gives calls
     → Settles made (after_read made.limit reach waiting answer) (reads ++ read_in answer) (gives + 0) calls
 read_answered made reach waiting (Ok (reply.Read batch position ended)) reads gives calls h =
-    choice (is_filled made.limit (length waiting + 1) (record { batch = batch; ended = ended }))
+    choice (stops_filling made.limit (length waiting + 1) (record { batch = batch; ended = ended }))
   where
     choice : (b : Bool) → Settles made
         (if b then front position (waiting ++ (record { batch = batch; ended = ended } ∷ [])) else Filling position
@@ -219,7 +221,7 @@ answered made answer (Leaving why) reads gives calls r h s =
 answered made answer (Over why) reads gives calls r h s =
     still (λ rs n. Settles made (Over why) rs n calls) reads gives s
 
--- After the record `past` of a consumer that leaves or is over, each batch that was handed over is given (`Settles`).
+-- If a consumer leaves or is over after its record `past`, each batch that was handed over is given (`Settles`).
 abbrev SettlesAfter : Tenancy → Past → Type 0
 SettlesAfter made past =
     Settles made (stage_after made past) (reads_after made past) (gives_after made past) (calls_after made past)

@@ -1,6 +1,6 @@
 -- The processors of a worker's consumers are called for the given reads of their tenures. This follows since each event
--- keeps two facts true: each tenure has at most one consumer, and the consumers' records agree with the worker's
--- commands on the reads and gives of their tenures (`AreGood`, `IsFine`).
+-- keeps two facts true (`AreGood`, `IsFine`). Each tenure has at most one consumer, and the consumers' records agree
+-- with the worker's commands on the reads and gives of their tenures.
 use Rattle.std.proofs.Common.{◌≡◌, ℕ, ◌+◌, ◌≤◌, Bool, true, false, List, [], ◌∷◌, Option, Some, None, Ok, Err}
 use Rattle.std.proofs.Common.{refl, sym, subst, arith}
 use Rattle.std.specs.Prelude.{◌==◌, not, if◌then◌else◌, Result}
@@ -10,7 +10,7 @@ use Rattle.kds_defs.specs.declared.command.Command.TheVariants as command
 use Rattle.kcl_defs.specs.declared.consumer.Ask.{Ask}
 use Rattle.kcl_defs.specs.declared.consumer.WorkerMade.{WorkerMade}
 use Rattle.kcl_defs.specs.declared.plans.Held.{Held}
-use Rattle.kcl_defs.specs.declared.plans.LeaseId.{LeaseId}
+use Rattle.kcl_defs.specs.declared.plans.TenancyId.{TenancyId}
 use Rattle.kcl_defs.specs.declared.plans.TakeStep.{TakeStep}
 use Rattle.kds_defs.specs.declared.reply.Refusal.{Refusal}
 use Rattle.kds_defs.specs.declared.reply.Reply.{Reply}
@@ -64,7 +64,7 @@ stop_fine deals w none f =
 
 -- If `P` holds of all consumers in `xs`, it still holds of all after the consumer of the lease `id` was taken out of
 -- the list.
-pub all_without : (P : Known → Type 0) (id : LeaseId) (xs : List Known) → AllByRecursion P xs
+pub all_without : (P : Known → Type 0) (id : TenancyId) (xs : List Known) → AllByRecursion P xs
     → AllByRecursion P (without_known id xs)
 all_without P id [] h = tt
 all_without P id (x ∷ xs) h = head (same_id (id_of x) id) (all_without P id xs h.1)
@@ -74,7 +74,7 @@ all_without P id (x ∷ xs) h = head (same_id (id_of x) id) (all_without P id xs
     head true rest = h.1
     head false rest = (h.0, rest)
 
-times-without : (t : ℕ) (id : LeaseId) (xs : List Known) → times t (without_known id xs) ≤ times t xs
+times-without : (t : ℕ) (id : TenancyId) (xs : List Known) → times t (without_known id xs) ≤ times t xs
 times-without t id [] = omega arith
 times-without t id (x ∷ xs) = head (same_id (id_of x) id) (times-without t id xs)
   where
@@ -89,7 +89,7 @@ times-without t id (x ∷ xs) = head (same_id (id_of x) id) (times-without t id 
     head true rest = fewer (if x.made.tenure == t then 1 else 0) (times t xs)
     head false rest = as_many (if x.made.tenure == t then 1 else 0) (times t (without_known id xs)) (times t xs) rest
 
-without_good : (id : LeaseId) (deals : List Deal) (consumers retired : List Known) → AreGood deals consumers retired
+without_good : (id : TenancyId) (deals : List Deal) (consumers retired : List Known) → AreGood deals consumers retired
     → AreGood deals (without_known id consumers) retired
 without_good id deals consumers retired g = record {
   apart = λ t. less (times t (without_known id consumers)) (times t consumers) (times t retired)
@@ -114,9 +114,9 @@ release_fine deals (Some r) w none f = record {
   waits = subst (λ o. IsWaitingOk o (without_release (Some r) w)) (sym none) tt;
 }
 
--- If each tenure has at most one consumer and the consumers' records agree with the commands (`AreGood`), this is still
--- so after the answer to the next command of the consumer of the lease `id`.
-consumer_good : (id : LeaseId) (deal : Deal) (deals : List Deal) (w : WorkerState) (o : Option Known)
+-- If each tenure has at most one consumer and the records agree with the commands (`AreGood`), this is still so after
+-- the answer to the next command of the consumer of the lease `id`.
+consumer_good : (id : TenancyId) (deal : Deal) (deals : List Deal) (w : WorkerState) (o : Option Known)
     → known_of id w.consumers ≡ o → consumer_command w o ≡ Some deal.what → AreGood deals w.consumers w.retired
     → AreGood (deal ∷ deals) (consumed id deal.answer w.consumers) w.retired
 consumer_good id deal deals w None e next g = absurd cc
@@ -175,7 +175,7 @@ take_none made now step (Ok (reply.Taken tenure counter start)) w none = none
 take_none made now step (Ok _) w none = none
 take_none made now step (Err r) w none = none
 
--- If each tenure has at most one consumer and the consumers' records agree with the commands, this is still so after
+-- If each tenure has at most one consumer and the records agree with the commands (`AreGood`), this is still so after
 -- the answer to the command `what` of the chore (`IsFine`). If the answer begins a tenure, this tenure must be new.
 chore_fine : (made : WorkerMade) (now : ℕ) (answer : Result Reply Refusal) (deals : List Deal) (chore : Chore)
     (what : Command) (w : WorkerState) → w.waiting ≡ None → IsOwnCommand chore what w → IsNewTenure answer deals
@@ -249,8 +249,8 @@ asked_fine made now deals w f = record {
       (pending_ok made w (chore_at made now w) (finish_chore deals made.settings.failover now w w.round f.good));
 }
 
--- If each tenure that an answer begins is new among the commands after an event, each is among the commands `deals`
--- before the event.
+-- If each tenure that an answer begins is new among the commands after an event (`AreNewTenures`), this is also so
+-- among the commands `deals` before the event.
 pub new_before : (event : WorkerEvent) (w : WorkerState) (deals : List Deal) → AreNewTenures (deals_with event w deals)
     → AreNewTenures deals
 new_before (Got_answer now answer) w deals h = before w.waiting h
@@ -281,8 +281,8 @@ event_fine : (made : WorkerMade) (event : WorkerEvent) (past : WorkerPast)
     → IsFine (deals_after made (event ∷ past)) (worker_after made (event ∷ past))
 event_fine made event past may new f = state_fine made event (worker_after made past) (deals_after made past) may new f
 
--- Along a record of calls that meet their preconditions, each tenure has at most one consumer and the consumers'
--- records agree with the commands (`IsFine`), if each tenure that an answer begins is new.
+-- Suppose that a record results from calls that meet their preconditions, and that each tenure that an answer begins is
+-- new. Then each tenure has at most one consumer, and the consumers' records agree with the commands (`IsFine`).
 pub fine : (made : WorkerMade) (past : WorkerPast) → IsOrderly made past → AreNewTenures (deals_after made past)
     → IsFine (deals_after made past) (worker_after made past)
 fine made [] orderly new = record {
@@ -293,8 +293,9 @@ fine made (event ∷ past) orderly new =
     event_fine made event past orderly.0 new
     (fine made past orderly.1 (new_before event (worker_after made past) (deals_after made past) new))
 
--- The calls of the processors of a worker's consumers fit the reads and gives of the consumers' tenures among the
--- worker's commands (`IsLifeAmong`).
+-- Suppose that a worker's record results from calls that meet their preconditions, and that each tenure that an answer
+-- begins is new. Then the calls of the processors of the worker's consumers fit the reads and gives of the consumers'
+-- tenures among the worker's commands (`IsLifeAmong`).
 live_among : (made : WorkerMade) (past : WorkerPast) → IsOrderly made past → AreNewTenures (deals_after made past)
     → AllByRecursion (λ k. IsLifeAmong (deals_after made past) k.made (calls_after k.made k.past))
     (worker_after made past).consumers
@@ -302,8 +303,9 @@ live_among made past orderly new =
     all_map (InStep (deals_after made past)) _ (worker_after made past).consumers
     (λ k s. life_among (deals_after made past) k.made k.past s) (fine made past orderly new).good.live
 
--- Let the turns of the actor `by` in the history `h` be the commands of the worker's record with their answers. Then
--- the calls of the processors of the worker's consumers fit the accepted reads and Gives of their tenures in `h`
+-- Let the turns of the actor `by` in the history `h` be the commands of the worker's record with their answers. Let the
+-- record result from calls that meet their preconditions, and let each tenure that an answer begins be new. Then the
+-- calls of the processors of the worker's consumers fit the accepted reads and Gives of the consumers' tenures in `h`
 -- (`IsLifeIn`).
 pub live_served : (by : ℕ) (h : List Turn) (made : WorkerMade) (past : WorkerPast) → IsOrderly made past
     → IsToldIn by h made past → AreNewTenures (deals_of by h)

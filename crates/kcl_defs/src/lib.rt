@@ -8,4 +8,4 @@ pub mod plans;
 
 pub use consumer::{Ask, Call, Due, Fetched, Progress, Settings, Tenancy, Why, WorkerMade};
 pub use limits::usual_numbers;
-pub use plans::{Held, LeaseId, Seen, SyncStep, TakeStep};
+pub use plans::{Held, Seen, SyncStep, TakeStep, TenancyId};

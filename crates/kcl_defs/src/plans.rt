@@ -19,7 +19,7 @@ pub struct Held {
 
 /// Identifies a lease by its key and its tenure.
 #[derive(Clone, Copy, Debug, PartialEq, Eq)]
-pub struct LeaseId {
+pub struct TenancyId {
     pub key: ShardRef,
     pub tenure: TenureNo,
 }

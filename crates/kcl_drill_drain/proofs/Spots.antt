@@ -1,5 +1,5 @@
--- Facts about one of the listed keys (a spot) and the other listed keys: how they are ordered, and that the parents of
--- its shard were read to their ends before it.
+-- Facts about one of the listed keys (a spot) and the other listed keys: how the keys are ordered, and that the parents
+-- of a key's shard were read to their ends before this key's row is drained.
 use Rattle.std.proofs.Common.{◌≡◌, ℕ, zero, suc, ◌+◌, ◌*◌, ◌<◌, ◌≤◌, ◌^◌, max, Bool, true, false, List, [], ◌∷◌, length}
 use Rattle.std.proofs.Common.{get_or, Option, Some, None, refl, sym, ap, subst, ◌∙◌, arith, inl, inr}
 use Rattle.std.specs.Prelude.{◌⊎◌, ◌&&◌, not, slice_get, if◌then◌else◌, nat_lt}
@@ -18,7 +18,7 @@ use Rattle.kds_defs.specs.Histories.{clock, journal}
 use Rattle.kds_defs.specs.Journal.{Journal}
 use Rattle.kds_defs.specs.Keys.{is_listed_key, ref, same_key}
 use Rattle.kds_defs.specs.LeaseCommands.{is_unread, past_parent, past_parents}
-use Rattle.kds_defs.specs.Leases.{reads_end, row, taken_count}
+use Rattle.kds_defs.specs.Leases.{is_marked_to_end, row, taken_count}
 use Rattle.kds_defs.specs.Shards.{ShardState, is_closed_below, shard_at, shards}
 use Rattle.kds_defs.specs.Streams.{is_live, live_streams, made_count, numbers_from, trim_floor}
 use Rattle.kds_defs.specs.Tiled.{AreNumbered}
@@ -58,7 +58,7 @@ number_at n (suc i) (y ∷ xs) x numbers is = let e = number_at (n + 1) i xs x n
 abbrev pub spot_of : List Turn → List ShardRef → List Row → ℕ → ShardRef → Spot
 spot_of h keys among i key = record { history = h; keys = keys; among = among; index = i; key = key }
 
--- Each of the listed keys of a history that can be drained is a spot (`IsSpot`).
+-- Each of the listed keys of a history that can be drained is a spot (`IsSpot`), if there are fewer than 2^59 keys.
 pub is_spot : (h : List Turn) (at : ℕ) (keys : List ShardRef) (among : List Row) (i : ℕ) (key : ShardRef)
     → CanDrain h at → keys ≡ listed_keys h at → i < length keys → key ≡ get_or keys i key → length keys * 16 < 2 ^ 63
     → IsSpot (spot_of h keys among i key) at
@@ -68,7 +68,7 @@ is_spot h at keys among i key can listed below is few =
 
 -- ---- The listed keys of a history
 
--- If no shard of a live stream is expired, the listed keys are those of all shards of the live streams.
+-- If `IsWhole` holds for each live stream, the listed keys are those of all shards of the live streams.
 pub keys_are : (h : List Turn) (at : ℕ)
     → ((s : ℕ) → is_live (journal h) s ≡ true → IsWhole (journal h) (max (clock h) at) s)
     → listed_keys h at ≡ keys_in (journal h) (live_streams (journal h))
@@ -76,7 +76,7 @@ keys_are h at whole =
     keys_same (journal h) (max (clock h) at) (live_streams (journal h)) whole
     (filtered (is_live (journal h)) (numbers_from 1 (made_count (journal h))))
 
--- If no shard of a live stream is expired, the key of each shard of a live stream is among the listed keys.
+-- If `IsWhole` holds for each live stream, the key of each shard of a live stream is among the listed keys.
 pub key_there : (h : List Turn) (at : ℕ) (s sh : ℕ) (x : ShardState)
     → ((s : ℕ) → is_live (journal h) s ≡ true → IsWhole (journal h) (max (clock h) at) s) → HasLaws h (max (clock h) at)
     → is_live (journal h) s ≡ true → shard_at (journal h) s sh ≡ Some x
@@ -151,11 +151,11 @@ module _ (w : Spot) (at : ℕ) (spot : IsSpot w at) (laws : HasLaws w.history (c
   -- ---- The parents of the key's shard were read to their ends
 
   -- A row with the checkpoint SHARD_END says that its shard was read to its end.
-  ended_row : (o : Option Row) → option_map (λ (r : Row). r.checkpoint) o ≡ Some ShardEnd → reads_end o ≡ true
+  ended_row : (o : Option Row) → option_map (λ (r : Row). r.checkpoint) o ≡ Some ShardEnd → is_marked_to_end o ≡ true
   ended_row None is = absurd cc
   ended_row (Some r) is = end_at r.checkpoint (cc)
     where
-      end_at : (at : Checkpoint) → at ≡ ShardEnd → reads_end (Some (record r { checkpoint = at })) ≡ true
+      end_at : (at : Checkpoint) → at ≡ ShardEnd → is_marked_to_end (Some (record r { checkpoint = at })) ≡ true
       end_at TrimHorizon e = absurd cc
       end_at (At q) e = absurd cc
       end_at ShardEnd e = refl
@@ -164,8 +164,8 @@ module _ (w : Spot) (at : ℕ) (spot : IsSpot w at) (laws : HasLaws w.history (c
   none_unread true b e = ap not e
   none_unread false b e = refl
 
-  -- The rows of the keys before this one are drained. If a parent of the shard is closed and has a smaller number, then
-  -- this parent stands in the way of no opening.
+  -- Suppose that the rows of the keys before this one are drained, and that a parent of the shard is closed and has a
+  -- smaller number than the shard. Then this parent doesn't prevent the shard from being opened.
   past_one : (now : Journal) (o : Option ℕ) (next : Decision)
       → ((j : ℕ) (key : ShardRef) → j < w.index → slice_get w.keys j ≡ Some key → IsDone w.history key (row now key))
       → IsParentClosed (shards (journal w.history) w.key.stream) w.key.shard o
@@ -177,14 +177,14 @@ module _ (w : Spot) (at : ℕ) (spot : IsSpot w at) (laws : HasLaws w.history (c
       let is = done b.0 k b.1 b.2 in
       let final : final_of (journal w.history) k ≡ ShardEnd = ap (λ d. if d then ShardEnd else last_of k) closed.1 in
       passed_if (refusal.ParentsOpen k) (is_unread now (clock_at w at) k) next
-      (none_unread (is_listed_key now (clock_at w at) k) (reads_end (row now k))
+      (none_unread (is_listed_key now (clock_at w at) k) (is_marked_to_end (row now k))
       (ended_row (row now k) (is ∙ ap Some final)))
     where
       last_of : ShardRef → Checkpoint
       last_of k = last_checkpoint (records_of (journal w.history) k)
 
-  -- If the rows of the keys before this one are drained, the parents of its shard stand in the way of no opening
-  -- (`ArePast`): each of them was read to its end, or isn't listed.
+  -- If the rows of the keys before this one are drained, the parents of this key's shard don't prevent the shard from
+  -- being opened (`ArePast`): each parent was read to its end, or isn't listed.
   pub past : (now : Journal) → IsOver w.history (clock_at w at) now
       → ((j : ℕ) (key : ShardRef) → j < w.index → slice_get w.keys j ≡ Some key → IsDone w.history key (row now key))
       → ArePast now (clock_at w at) w.key
@@ -236,8 +236,8 @@ module _ (w : Spot) (at : ℕ) (spot : IsSpot w at) (laws : HasLaws w.history (c
   done_by now before here j key is (inr same) =
       subst (λ k. IsDone w.history k (row now k)) (sym (same_here j key same is)) here
 
-  -- The other keys are as they should be (`OthersWait`). If the row of this key is drained, then the rows of the keys
-  -- up to this one are drained, and the others wait.
+  -- Suppose that the other keys are as they should be (`OthersWait`) and that the row of this key is drained. Then the
+  -- rows of the keys up to this one are drained, and the others wait.
   pub one_more : (now : Journal) → OthersWait w now → IsDone w.history w.key (row now w.key)
       → AreDrainedTo w.history w.keys w.among (w.index + 1) now
   one_more now others here = record {

@@ -1,4 +1,4 @@
--- The answers to the commands of a tenure, if the row of its key names it and it has come as far as `x` says (`Holds`).
+-- The answers to the commands of a tenure that has come as far as `x` says and that the row of its key names (`Holds`).
 use Rattle.std.proofs.Common.{◌≡◌, ℕ, ◌+◌, ◌-◌, ◌<◌, true, false, List, [], ◌∷◌, length, suc, Some, refl, sym, ap, ◌∙◌}
 use Rattle.std.proofs.Common.{arith}
 use Rattle.std.specs.Prelude.{◌==◌, ◌||◌, not, nat_le, nat_lt}
@@ -18,7 +18,8 @@ use Rattle.kds_defs.specs.Keys.{is_listed_key}
 use Rattle.kds_defs.specs.LeaseCommands.{with_tenure, with_held, take_lease, open_shard, read, read_reply, give, mark}
 use Rattle.kds_defs.specs.RowWrites.{least}
 use Rattle.kds_defs.specs.Leases.{TenureState, ReadDone, row, tenure, tenure_in, counter_in, checkpoint_in, floor_in}
-use Rattle.kds_defs.specs.Leases.{reads_end, reach, delivered, pending, given_reads, last_ended, is_end, taken_count}
+use Rattle.kds_defs.specs.Leases.{is_marked_to_end, reach, delivered, pending, given_reads, last_ended, is_end}
+use Rattle.kds_defs.specs.Leases.{taken_count}
 use Rattle.kds_defs.specs.Records.{batch, numbers_of, position_after}
 use Rattle.kds_defs.specs.StreamCommands.{last_number}
 use Rattle.kds_defs.proofs.Decisions.{passed_if, with_some}
@@ -43,7 +44,7 @@ waiting_is log x has = sym (length-drop has.state.given has.state.reads) ∙ ap 
 
 -- ---- The tests whether the tenure is the actor's, and whether the row names it
 
--- If the tenure is the actor's, the decision on its command is `next` for this tenure.
+-- If the tenure is the actor's, `with_tenure` gives the decision `next` for the state of this tenure.
 own_tenure : (log : Journal) (x : Holding) (next : TenureState → Decision) → (has : HasCome log x)
     → with_tenure log x.by x.tenure next ≡ next has.state
 own_tenure log x next has = with_some (tenure log x.tenure) refusal.NoTenure _ has.state has.begun
@@ -53,7 +54,8 @@ row_of : (log : Journal) (x : Holding) → (held : HasRow log x) (T : TenureStat
     → row log T.key ≡ Some held.now
 row_of log x held T is = ap (row log) is ∙ held.there
 
--- If the tenure is the actor's and the row names it, the decision on its command is `next` for this tenure.
+-- If the tenure is the actor's and the row names this tenure, `with_held` gives the decision `next` for the state of
+-- this tenure.
 own_held : (log : Journal) (x : Holding) (next : TenureState → Decision) → (has : HasCome log x) → HasRow log x
     → with_held log x.by x.tenure next ≡ next has.state
 own_held log x next has held =
@@ -64,8 +66,8 @@ own_held log x next has held =
 
 -- ---- A Read, a Give and a Mark
 
--- If the shard is listed, and fewer reads wait to be given than may, a Read at the tenure's position is accepted with
--- the batch there (`read_here`).
+-- If the shard is listed, and fewer than `PENDING_READS` reads wait to be given, a Read at the tenure's position is
+-- accepted with the batch at this position (`read_here`).
 pub read_answered : (log : Journal) (c limit : ℕ) (x : Holding) → Holds log x → length x.waiting < PENDING_READS
     → is_listed_key log c x.key ≡ true → read log c x.by x.tenure x.position limit ≡ read_here log c x limit
 read_answered log c limit x holds few listed =
@@ -111,7 +113,8 @@ mark_answered log c x (target.At q) holds may rest =
     own_held log x _ has held
     ∙ passed_if (refusal.Moved (counter_in (row log T.key))) (not (counter_in (row log T.key) == x.counter)) _
     (same_not (counter_in (row log T.key)) x.counter n)
-    ∙ passed_if refusal.Ended (reads_end (row log T.key)) _ (ap reads_end at ∙ ap is_end held.checkpoint ∙ may.0)
+    ∙ passed_if refusal.Ended (is_marked_to_end (row log T.key)) _ (ap is_marked_to_end at ∙ ap is_end held.checkpoint
+    ∙ may.0)
     ∙ passed_if (refusal.Beyond (delivered T)) (nat_le (delivered T) q) _ (ap (λ p. nat_le p q) has.given_to ∙ may.1)
     ∙ passed_if (refusal.Below (least (checkpoint_in (row log T.key)) (floor_in (row log T.key))))
     (nat_lt q (least (checkpoint_in (row log T.key)) (floor_in (row log T.key)))) _
@@ -142,8 +145,8 @@ take_answered log c by owner key r there may =
     ∙ passed_if refusal.Spent (r.counter == last_number || taken_count log == last_number) _
     (or_from (r.counter == last_number) (taken_count log == last_number) may.1 may.2)
 
--- Right after the take, OpenShard is accepted, if the shard is listed and its parents stand in the way of no opening
--- (`ArePast`).
+-- Right after the take, OpenShard is accepted, if the shard is listed and its parents don't prevent it from being
+-- opened (`ArePast`).
 pub open_answered : (log : Journal) (c d by owner : ℕ) (key : ShardRef) (r : Row) → row log key ≡ Some r
     → is_listed_key (taken_line log d by key r owner ∷ log) c key ≡ true
     → ArePast (taken_line log d by key r owner ∷ log) c key

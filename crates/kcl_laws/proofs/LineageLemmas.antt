@@ -11,7 +11,7 @@ use Rattle.kds_defs.specs.declared.entry.Entry.TheVariants as entry
 use Rattle.kds_defs.specs.declared.reply.Reply.{Reply}
 use Rattle.kds_defs.specs.Decision.{Accepted}
 use Rattle.kds_defs.specs.Journal.{Line, Journal}
-use Rattle.kds_defs.specs.Leases.{row, reads_end, tenure, TenureState}
+use Rattle.kds_defs.specs.Leases.{row, is_marked_to_end, tenure, TenureState}
 use Rattle.kds_defs.specs.Legal.{told, IsLegal}
 use Rattle.kds_defs.specs.Records.{next_number}
 use Rattle.kds_defs.specs.Safe.{IsPast, IsExpiredState, ArePastState, AreParentsPast, IsOpening, WasOpened, IsInLine}
@@ -35,11 +35,11 @@ abbrev pub IsBelow : Option ℕ → ℕ → Type 0
 IsBelow None n = Unit {0}
 IsBelow (Some p) n = p < n
 
--- The parents of the shard `x`, if it has them, have numbers below `n`.
+-- The number of each parent of the shard `x` is below `n`.
 abbrev pub HasParents : ℕ → ShardState → Type 0
 HasParents n x = IsBelow x.parent n × IsBelow x.adjacent n
 
--- The parents of all shards in `xs`, if they have them, have numbers below `n`.
+-- The number of each parent of each shard in `xs` is below `n`.
 abbrev pub HaveParents : ℕ → List ShardState → Type 0
 HaveParents n xs = AllByRecursion (HasParents n) xs
 
@@ -157,9 +157,9 @@ parents_at (y ∷ ys) n (suc sh) x h is = parents_at ys n sh x h.1 is
 
 -- ---- A parent that passes the test of OpenShard is expired or was read to its end
 
-past_by : (log : Journal) (c s : ℕ) (p : ℕ) (x : ShardState) (b : Bool) → reads_end (row log (ref s p)) ≡ b
+past_by : (log : Journal) (c s : ℕ) (p : ℕ) (x : ShardState) (b : Bool) → is_marked_to_end (row log (ref s p)) ≡ b
     → shard_at log s p ≡ Some x → (is_listed_state log c s (shard_at log s p) && not b) ≡ false
-    → (reads_end (row log (ref s p)) ≡ true) ⊎ IsExpiredState log c s (shard_at log s p)
+    → (is_marked_to_end (row log (ref s p)) ≡ true) ⊎ IsExpiredState log c s (shard_at log s p)
 past_by log c s p x true is at h = inl is
 past_by log c s p x false is at h =
     let g : not (is_expired log c s x) ≡ false = ap (λ o. is_listed_state log c s o) (sym at) ∙ and_true _ h in
@@ -174,7 +174,7 @@ past : (log : Journal) (c s n : ℕ) (o : Option ℕ) → n ≡ length (shards l
 past log c s n None len below read = tt
 past log c s n (Some p) len below read =
     let x = there_is (shards log s) p (omega arith) in
-    past_by log c s p x.0 (reads_end (row log (ref s p))) refl x.1 read
+    past_by log c s p x.0 (is_marked_to_end (row log (ref s p))) refl x.1 read
 
 past_state : (log : Journal) → IsLegal log → (c s sh : ℕ) (o : Option ShardState) → shard_at log s sh ≡ o
     → is_listed_state log c s o ≡ true → AreParentsRead log c s o → ArePastState log c s o
@@ -222,8 +222,8 @@ in_line log line (entry.Read t limit ended numbers) reply legal h =
     was_opened log t f.state f.begun (holds_so _ a.0)
 in_line log line _ reply legal h = tt
 
--- In a legal journal, each opening of a tenure comes when the parents of its shard are expired or were read to their
--- ends, and each read comes after an opening of its tenure (`AreInLine`).
+-- In a legal journal, a tenure is opened only when the parents of its shard are expired or were read to their ends.
+-- Each read comes after an opening of its tenure (`AreInLine`).
 pub all_in_line : (log : Journal) → IsLegal log → AreInLine log
 all_in_line [] legal = tt
 all_in_line (line ∷ log) legal =

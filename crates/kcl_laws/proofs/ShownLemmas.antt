@@ -18,7 +18,8 @@ use Rattle.kds_defs.specs.Journal.{Line, Journal, plain_line}
 use Rattle.kds_defs.specs.Keys.{ref}
 use Rattle.kds_defs.specs.LeaseCommands.{is_unread, past_parent, past_parents, past_target, with_held, with_tenure}
 use Rattle.kds_defs.specs.RowWrites.{least}
-use Rattle.kds_defs.specs.Leases.{TenureState, checkpoint_in, counter_in, floor_in, reach, reads_end, row, tenure_in}
+use Rattle.kds_defs.specs.Leases.{TenureState, checkpoint_in, counter_in, floor_in, reach, is_marked_to_end, row}
+use Rattle.kds_defs.specs.Leases.{tenure_in}
 use Rattle.kds_defs.specs.Legal.{IsGood, IsLegal, IsReached, in_stream, reach_in, told}
 use Rattle.kds_defs.specs.Records.{position_after}
 use Rattle.kds_defs.specs.Shards.{ShardState, range_of, shard_at}
@@ -65,8 +66,8 @@ held_past : (log : Journal) (by t : ℕ) (f f' : TenureState → Decision) → (
 held_past log by t f f' h =
     tenure_past log by t _ _ (λ T. past _ _ _ _ _ _ (λ i. not (tenure_in (row_is log T.key i) == t)) (h T))
 
--- If `Shows` holds of the decisions `d` and `d'`, it still holds if both begin with the test of the row's counter. This
--- test has the same outcome in a journal and in what its text shows.
+-- If `Shows` holds of the decisions `d` and `d'`, it also holds of the two decisions that first test the row's counter.
+-- This test has the same outcome in a journal and in the journal that its text shows.
 counter_past : (log : Journal) (key : ShardRef) (counter : ℕ) (r r' : Refusal) (d d' : Decision) → Shows d d'
     → Shows (refuse r if not (counter_in (row log key) == counter) else d)
     (refuse r' if not (counter_in (row (shown_journal log) key) == counter) else d')
@@ -78,7 +79,7 @@ spent_past : (log : Journal) (key : ShardRef) (r r' : Refusal) (d d' : Decision)
 spent_past log key r r' d d' h = past _ _ _ _ _ _ (λ i. counter_in (row_is log key i) == last_number) h
 
 unread_is : (log : Journal) (c : ℕ) (key : ShardRef) → is_unread (shown_journal log) c key ≡ is_unread log c key
-unread_is log c key = λ i. listed_is log c key.stream key.shard i && not (reads_end (row_is log key i))
+unread_is log c key = λ i. listed_is log c key.stream key.shard i && not (is_marked_to_end (row_is log key i))
 
 parent_past : (log : Journal) (c s : ℕ) (o : Option ℕ) (d d' : Decision) → Shows d d'
     → Shows (past_parent log c s o d) (past_parent (shown_journal log) c s o d')
@@ -102,7 +103,7 @@ parents_past log c key d d' h =
 target_past : (log : Journal) (T : TenureState) (to : Target) (d d' : Decision) → Shows d d'
     → Shows (past_target log T to d) (past_target (shown_journal log) T to d')
 target_past log T (target.At q) d d' h =
-    past _ _ _ _ _ _ (λ i. reads_end (row_is log T.key i))
+    past _ _ _ _ _ _ (λ i. is_marked_to_end (row_is log T.key i))
     (past _ _ _ _ _ _ refl
     (past _ _ _ _ _ _ (λ i. nat_lt q (least (checkpoint_in (row_is log T.key i)) (floor_in (row_is log T.key i))))
     h))
@@ -205,7 +206,7 @@ shows_told log line (entry.LeaseCut key counter) is sized =
 
 -- ---- A good line
 
--- If two puts are the same entry, they have the same byte counts of the payload and the same byte counts of the key.
+-- If two puts are the same entry, they have the same byte count of the payload and the same byte count of the key.
 same_bytes : (s s' h sh n n' hash hash' bytes bytes' k k' : ℕ)
     → entry.Put s h n hash bytes k ≡ entry.Put s' sh n' hash' bytes' k' → (bytes ≡ bytes') × (k ≡ k')
 same_bytes s s' h sh n n' hash hash' bytes bytes' k k' e = (cc, cc)
@@ -237,12 +238,14 @@ shown_good log line g =
       allowed = so.1;
     }
 
--- If a journal is legal, the journal that its text shows is legal.
+-- If a journal is legal, it is still legal with zero bytes in place of the keys and payloads of puts
+-- (`shown_journal`).
 pub shown_legal : (log : Journal) → IsLegal log → IsLegal (shown_journal log)
 shown_legal [] h = tt
 shown_legal (line ∷ log) h = (shown_good log line h.0, shown_legal log h.1)
 
--- If a journal is legal and none of its lines is later than `c`, the same is true of the journal that its text shows.
+-- If a journal is legal and none of its lines is later than `c`, the same is true of it with zero bytes in place of the
+-- keys and payloads of puts (`shown_journal`).
 pub shown_reached : (log : Journal) (c : ℕ) → IsReached log c → IsReached (shown_journal log) c
 shown_reached log c h =
     record { legal = shown_legal log h.legal; order = subst (λ n. n ≤ c) (sym (clock_is log)) h.order }

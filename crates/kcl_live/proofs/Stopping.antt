@@ -1,5 +1,5 @@
--- After a worker is stopped, it gives each batch that a processor was handed once, and frees each lease once. So each
--- turn leaves it fewer turns to make (`turns_left`), until it is idle.
+-- A stopped worker gives each batch that a processor was handed once, and frees each lease once. So the worker has
+-- fewer turns left after each turn (`turns_left`), until it is idle.
 use Rattle.std.proofs.Common.{◌≡◌, ℕ, suc, ◌+◌, ◌≤◌, Bool, true, false, List, [], ◌∷◌, length, Option, Some, None}
 use Rattle.std.proofs.Common.{Result, Ok, Err, refl, sym, ap, ap₂, subst, ◌∙◌, arith}
 use Rattle.std.specs.Prelude.{◌&&◌, cond, if◌then◌else◌, is_some, not}
@@ -16,9 +16,9 @@ use Rattle.kcl_defs.specs.declared.consumer.Tenancy.{Tenancy}
 use Rattle.kcl_defs.specs.declared.consumer.Why.TheVariants as why
 use Rattle.kcl_defs.specs.declared.consumer.WorkerMade.{WorkerMade}
 use Rattle.kcl_defs.specs.declared.plans.Held.{Held}
-use Rattle.kcl_defs.specs.declared.plans.LeaseId.{LeaseId}
+use Rattle.kcl_defs.specs.declared.plans.TenancyId.{TenancyId}
 use Rattle.kcl_defs.specs.Consumers.{Answered, Called, Giving, Leaving, Losing, Opening, Over, Stage, Starting}
-use Rattle.kcl_defs.specs.Consumers.{after_answer, after_call, after_loss, due_call, over_at, was_handed}
+use Rattle.kcl_defs.specs.Consumers.{after_answer, after_call, after_loss, due_call, over_at, first_has_records}
 use Rattle.kcl_defs.specs.Workers.{Finishing, Freeing, Gave_command, Got_answer, Known, Pending, Stopped, WorkerPast}
 use Rattle.kcl_defs.specs.Workers.{WorkerState, absorbed, chore_from, consumed, freeing_chore, happens_to}
 use Rattle.kcl_defs.specs.Workers.{happens_to_first, id_of, id_of_held, is_due_known, is_giving, is_giving_stage}
@@ -36,7 +36,7 @@ AreLost ks = AllByRecursion (λ k. IsLost (stage_of_known k)) ks
 abbrev AreLostOrOver : List Known → Type 0
 AreLostOrOver ks = AllByRecursion (λ k. is_over k ≡ false → IsLost (stage_of_known k)) ks
 
--- The number of consumers with a batch that waits to be given.
+-- The number of consumers whose next command is a Give (`is_giving`).
 abbrev givings : List Known → ℕ
 givings ks = length (filter is_giving ks)
 
@@ -54,34 +54,33 @@ lost_or_over : (ks : List Known) → AreLost ks → AreLostOrOver ks
 lost_or_over [] all = tt
 lost_or_over (k ∷ ks) all = ((λ e. all.0), lost_or_over ks all.1)
 
--- A consumer with a batch to give counts once.
+-- A consumer whose next command is a Give counts once in `givings`.
 count_giving : (k : Known) (ks : List Known) → is_giving k ≡ true → givings (k ∷ ks) ≡ suc (givings ks)
 count_giving k ks e = ap (λ b. length (cond b (k ∷ filter is_giving ks) (filter is_giving ks))) e
 
--- A consumer without a batch to give doesn't count.
+-- A consumer whose next command isn't a Give doesn't count in `givings`.
 count_quiet : (k : Known) (ks : List Known) → is_giving k ≡ false → givings (k ∷ ks) ≡ givings ks
 count_quiet k ks e = ap (λ b. length (cond b (k ∷ filter is_giving ks) (filter is_giving ks))) e
 
--- A list of consumers has at least as many batches to give as the same list without its first consumer.
+-- The number `givings` of a list of consumers is at least that of the same list without its first consumer.
 no_less : (b : Bool) (k : Known) (ks : List Known) → is_giving k ≡ b → givings ks ≤ givings (k ∷ ks)
 no_less true k ks e = omega (arith, count_giving k ks e)
 no_less false k ks e = omega (arith, count_quiet k ks e)
 
--- If the consumers `js` have at least as many batches to give as `ks`, this still holds with the consumer `k` before
--- both.
+-- If `givings ks` is at most `givings js`, then `givings` of `k` before `ks` is at most `givings` of `k` before `js`.
 one_more : (b : Bool) (k : Known) (ks js : List Known) → is_giving k ≡ b → givings ks ≤ givings js
     → givings (k ∷ ks) ≤ givings (k ∷ js)
 one_more true k ks js e h = omega (arith, h, count_giving k ks e, count_giving k js e)
 one_more false k ks js e h = omega (arith, h, count_quiet k ks e, count_quiet k js e)
 
--- If `js` have at least as many batches to give as `ks`, then `js` with `k` before them have at least as many as `ks`
--- with or without `k`.
+-- If `givings ks` is at most `givings js`, then `givings` of `ks`, with or without `k` before it, is at most `givings`
+-- of `k` before `js`.
 fewer_by : (c : Bool) (k : Known) (ks js : List Known) → givings ks ≤ givings js
     → givings (cond c (k ∷ ks) ks) ≤ givings (k ∷ js)
 fewer_by true k ks js h = one_more (is_giving k) k ks js refl h
 fewer_by false k ks js h = omega (arith, h, no_less (is_giving k) k js refl)
 
--- Some of the consumers `ks`, chosen by the test `t`, have at most as many batches to give as all of them.
+-- The number `givings` of those of the consumers `ks` for which the test `t` is true is at most `givings ks`.
 part_fewer : (t : Known → Bool) (ks : List Known) → givings (filter t ks) ≤ givings ks
 part_fewer t [] = omega arith
 part_fewer t (k ∷ ks) = fewer_by (t k) k (filter t ks) ks (part_fewer t ks)
@@ -94,7 +93,7 @@ after_loss_lost Opening h = absurd cc
 after_loss_lost Starting h = absurd cc
 after_loss_lost (Over why) h = absurd cc
 after_loss_lost (Giving reach waiting asked lost) h =
-    cond_both (was_handed waiting) (Giving reach waiting asked true) (Leaving why.Lost) IsLost (λ handed. refl)
+    cond_both (first_has_records waiting) (Giving reach waiting asked true) (Leaving why.Lost) IsLost (λ handed. refl)
     (λ none. tt)
 after_loss_lost _ h = tt
 
@@ -114,14 +113,15 @@ stop_stops made past =
 
 -- ---- A call
 
--- If a consumer that has lost its lease has a due call, it is over after this call, and then it has no batch to give.
+-- If a consumer has lost its lease and a processor call is due, the consumer is over after this call, and no Give comes
+-- next.
 called_lost : (made : Tenancy) (a : Ask) (p : Stage) → IsLost p → is_some (due_call p) ≡ true
     → (is_some (over_at (after_call made a p)) ≡ true) × (is_giving_stage (after_call made a p) ≡ false)
 called_lost made a (Leaving why) l d = (refl, refl)
 called_lost made a (Giving reach waiting asked lost) l d = absurd cc
 called_lost made a _ l d = absurd l
 
--- After one due call, each consumer has lost its lease or is over, if each had lost its lease before.
+-- If each consumer has lost its lease, then after the first due call each consumer has lost its lease or is over.
 calling_lost : (a : Ask) (ks : List Known) → AreLost ks → AreLostOrOver (happens_to_first is_due_known (Called a) ks)
 calling_lost a [] all = tt
 calling_lost a (k ∷ ks) all =
@@ -132,7 +132,7 @@ calling_lost a (k ∷ ks) all =
     (λ due. ((λ over. absurd (apart (is_over called) (leaves due) over)), lost_or_over ks all.1))
     (λ quiet. ((λ over. all.0), calling_lost a ks all.1))
 
--- After one due call, the consumers have at most as many batches to give as before, if each has lost its lease.
+-- If each consumer has lost its lease, `givings` isn't greater after the first due call than before.
 calling_fewer : (a : Ask) (ks : List Known) → AreLost ks
     → givings (happens_to_first is_due_known (Called a) ks) ≤ givings ks
 calling_fewer a [] all = omega arith
@@ -163,8 +163,8 @@ calls_stopped made (a ∷ asked) past s =
 
 -- ---- A turn
 
--- If a consumer that has lost its lease has no due call, it has a batch to give. After the answer to this Give, it has
--- none, and it is still in a stage of a lost lease.
+-- If a consumer has lost its lease and no processor call is due, its next command is a Give. After the answer to this
+-- Give, no further Give comes next, and the consumer is still in a stage of a lost lease (`IsLost`).
 answered_lost : (made : Tenancy) (a : Result Reply Refusal) (p : Stage) → IsLost p → is_some (due_call p) ≡ false
     → IsLost (after_answer made a p) × (is_giving_stage (after_answer made a p) ≡ false) × (is_giving_stage p ≡ true)
 answered_lost made (Ok reply) (Giving reach [] asked true) l d = (tt, refl, refl)
@@ -174,23 +174,23 @@ answered_lost made a (Giving reach waiting asked false) l d = absurd cc
 answered_lost made a (Leaving why) l d = absurd cc
 answered_lost made a _ l d = absurd l
 
--- If a test has chosen nothing, it didn't choose the first item.
+-- If a search by a test found nothing, the test isn't true for the first item.
 first_quiet : (b : Bool) (k : Known) (rest : Option Known) → cond b (Some k) rest ≡ None → b ≡ false
 first_quiet true k rest e = absurd cc
 first_quiet false k rest e = refl
 
--- If a test has chosen the first item, the item found is this one.
+-- If a test is true for the first item, a search by this test finds the first item.
 first_of : (k j : Known) (rest : Option Known) (b : Bool) → b ≡ true → cond b (Some j) rest ≡ Some k → j ≡ k
 first_of k j rest true e h = cc
 first_of k j rest false e h = absurd cc
 
 -- A lease's identity is the same as itself.
-same_id_self : (id : LeaseId) → same_id id id ≡ true
+same_id_self : (id : TenancyId) → same_id id id ≡ true
 same_id_self id = ap₂ (λ a b. a && b) (ap₂ (λ a b. a && b) (is_itself id.key.stream) (is_itself id.key.shard))
     (is_itself id.tenure)
 
--- No call is due, and `k` is the first consumer that has a batch to give. After it takes the answer to its Give, one
--- batch less is left to give, and each consumer has lost its lease or is over.
+-- Each consumer has lost its lease, no call is due, and `k` is the first consumer whose next command is a Give. After
+-- `k` takes the answer to this Give, `givings` is one less, and each consumer has lost its lease or is over.
 giving_first : (a : Result Reply Refusal) (ks : List Known) (k : Known) → AreLost ks → find is_due_known ks ≡ None
     → find is_giving ks ≡ Some k
     → AreLostOrOver (consumed (id_of k) a ks) × (givings (consumed (id_of k) a ks) + 1 ≡ givings ks)
@@ -208,14 +208,14 @@ giving_first a (j ∷ js) k all none found =
       omega (arith, ap givings now, count_quiet (with_event (Answered a) j) js l.1, count_giving j js l.2),
     )
 
--- From the state `s` to the state `t`, a command and its answer happened: the worker is still stopped, and has at least
--- one turn less left.
+-- The state `s` leads to the state `t` by a command and its answer. In `t` the worker is stopped, and has at least one
+-- turn less left than in `s`.
 record Leaves (s t : WorkerState) : Type 0 where
   stopped : IsStopped t
   fewer : turns_left t + 1 ≤ turns_left s
 
--- If the next command gives a batch, its answer leaves a stopped worker stopped, with at least one turn less left
--- (`Leaves`).
+-- If the next command of a stopped worker is a Give, the worker is still stopped after the answer, and has at least one
+-- turn less left (`Leaves`).
 finished : (made : WorkerMade) (at : ℕ) (a : Result Reply Refusal) (s : WorkerState) (k : Known) → IsStopped s
     → find is_due_known s.consumers ≡ None → find is_giving s.consumers ≡ Some k → (o : Option Pending)
     → o ≡ next_pending made at s
@@ -230,8 +230,8 @@ finished made at a s k stopped none found o is =
       fewer = omega (arith, g.1, part_fewer (λ j. not (is_over j)) (consumed (id_of k) a s.consumers));
     })
 
--- If the next command frees a lease, its answer leaves a stopped worker stopped, with at least one turn less left
--- (`Leaves`).
+-- If the next command of a stopped worker frees a lease, the worker is still stopped after the answer, and has at least
+-- one turn less left (`Leaves`).
 freed : (made : WorkerMade) (at : ℕ) (a : Result Reply Refusal) (s : WorkerState) (h : Held) (hs : List Held)
     → IsStopped s → s.held ≡ h ∷ hs → find is_giving s.consumers ≡ None → (o : Option Pending)
     → o ≡ next_pending made at s
@@ -259,7 +259,7 @@ freed made at a s h hs stopped held none o is =
       );
     })
 
--- A stopped worker is idle if no call is due, no batch waits to be given, and it holds no lease.
+-- A stopped worker is idle if no call is due, no consumer's next command is a Give, and the worker holds no lease.
 idle_then : (s : WorkerState) → IsStopped s → find is_due_known s.consumers ≡ None → find is_giving s.consumers ≡ None
     → s.held ≡ [] → is_idle s ≡ true
 idle_then s stopped due giving held =
@@ -270,8 +270,8 @@ idle_then s stopped due giving held =
     ∙ ap (λ b. not b && is_nothing_held s.held) (none_found_any is_giving s.consumers giving)
     ∙ ap is_nothing_held held
 
--- If a stopped worker isn't idle and has no due call, its next command and the answer leave it at least one turn less
--- (`Leaves`). Here the first consumer with a batch to give and the leases are named.
+-- If a stopped worker isn't idle and has no due call, then it has at least one turn less left after its next command
+-- and the answer (`Leaves`). `f` is the first consumer whose next command is a Give, and `held` are the leases.
 turned_by : (made : WorkerMade) (at : ℕ) (a : Result Reply Refusal) (s : WorkerState) (f : Option Known)
     (held : List Held) → IsStopped s → find is_due_known s.consumers ≡ None → find is_giving s.consumers ≡ f
     → s.held ≡ held → is_idle s ≡ false
@@ -283,8 +283,8 @@ turned_by made at a s None [] stopped due giving is busy =
 turned_by made at a s None (h ∷ hs) stopped due giving is busy =
     freed made at a s h hs stopped is giving (next_pending made at s) refl
 
--- A stopped worker isn't idle and has no due call. After its next command and the answer, it is still stopped, and has
--- at least one turn less left.
+-- If a stopped worker isn't idle and has no due call, then after its next command and the answer it is still stopped,
+-- and has at least one turn less left.
 pub turn_stopped : (made : WorkerMade) (at : ℕ) (a : Result Reply Refusal) (past : WorkerPast)
     → IsStopped (worker_after made past) → find is_due_known (worker_after made past).consumers ≡ None
     → is_idle (worker_after made past) ≡ false
@@ -303,6 +303,6 @@ pub some_left : (made : WorkerMade) (past : WorkerPast) → IsStopped (worker_af
 some_left made past stopped due busy =
     omega (arith, (turn_stopped made 0 (Err refusal.ShardGone) past stopped due busy).1)
 
--- At most as many consumers have a batch to give as there are consumers.
+-- The number of consumers whose next command is a Give is at most the number of all consumers.
 pub filter_fewer : (ks : List Known) → length (filter is_giving ks) ≤ length ks
 filter_fewer ks = filter_less is_giving ks

@@ -14,7 +14,7 @@ use Rattle.kds_defs.specs.declared.reply.Reply.TheVariants as reply
 use Rattle.kds_defs.specs.Lawful.{IsHistory, IsLawfulCommand, IsLimit}
 use Rattle.kcl_defs.specs.declared.consumer.Tenancy.{Tenancy}
 use Rattle.kcl_defs.specs.declared.consumer.WorkerMade.{WorkerMade}
-use Rattle.kcl_defs.specs.declared.plans.LeaseId.{LeaseId}
+use Rattle.kcl_defs.specs.declared.plans.TenancyId.{TenancyId}
 use Rattle.kcl_defs.specs.declared.plans.SyncStep.{SyncStep}
 use Rattle.kcl_defs.specs.declared.plans.SyncStep.TheVariants.{Make, Cut}
 use Rattle.kcl_defs.specs.declared.plans.TakeStep.{TakeStep}
@@ -40,7 +40,7 @@ use Rattle.kcl_sim.specs.Workers.{Employed, all_called, command_at, employed_by,
 unfoldable pub HasLimit : Known → Type 0
 HasLimit k = IsLimit k.made.limit
 
--- Each of these consumers does so (`HasLimit`).
+-- `HasLimit` holds for each of these consumers.
 unfoldable pub AllLimits : List Known → Type 0
 AllLimits ks = AllByRecursion HasLimit ks
 
@@ -130,7 +130,7 @@ unfolding HasLimit AllLimits
 less_by true k ks less h rest others = rest
 less_by false k ks less h rest others = (h, others)
 
-all_without : (id : LeaseId) (ks : List Known) → AllLimits ks → AllLimits (without_known id ks)
+all_without : (id : TenancyId) (ks : List Known) → AllLimits ks → AllLimits (without_known id ks)
 unfolding AllLimits
 all_without id [] h = tt
 all_without id (k ∷ ks) h = less_by (same_id (id_of k) id) k ks (without_known id ks) h.0 h.1 (all_without id ks h.1)
@@ -166,7 +166,7 @@ found_by : (b : Bool) (k j : Known) (o : Option Known) → cond b (Some k) o ≡
 found_by true k j o is h rest = let e : k ≡ j = cc in subst HasLimit e h
 found_by false k j o is h rest = rest is
 
--- If all consumers have a limit in range, the consumer that is found has one.
+-- If all consumers have a limit in range, the consumer that is found has a limit in range.
 pub found_limit : (p : Known → Bool) (ks : List Known) (k : Known) → find p ks ≡ Some k → AllLimits ks → HasLimit k
 unfolding AllLimits
 found_limit p [] k is h = absurd cc
@@ -187,7 +187,8 @@ stage_command made (Marking reach waiting to) counter what is limit = so_lawful 
 stage_command made MarkingEnd counter what is limit = so_lawful _ _ is tt
 stage_command made _ counter what is limit = absurd cc
 
--- If a consumer's limit is in range, the command that comes next for the worker on its behalf is lawful.
+-- If the limit of the consumer in the second argument is in range, the command that comes next for this consumer is
+-- lawful.
 consumer_lawful : (w : WorkerState) (o : Option Known) (what : Command) → consumer_command w o ≡ Some what
     → ((k : Known) → o ≡ Some k → HasLimit k) → IsLawfulCommand what
 unfolding HasLimit
@@ -300,7 +301,7 @@ hand_bounded ran at by key None is h = h
 hand_bounded ran at by key (Some e) is h =
     release_bounded ran at by key e (release_by key (Some e)) (bounded_by by ran.workers e is h) h
 
--- If all workers of a run are bounded, they still are after a line with values in their ranges (`IsLine`).
+-- If all workers of a run are bounded, they are still bounded after a line with values in their ranges (`IsLine`).
 pub line_bounded : (ran : Ran) (l : Line) → IsLine l → AreBounded ran.workers → AreBounded (with_line ran l).workers
 line_bounded ran (Api at operation body) is h = h
 line_bounded ran (Raw at by what long) is h = h
@@ -326,8 +327,8 @@ step_lawful_by ran at by (Some e) is early h past =
     turn_lawful ran at by (all_called e) (command_at at (all_called e)) early
     (λ what next. next_lawful _ at (all_called e) what next (record { name = g.name; limit = g.limit })) past
 
--- If the turns of a run are lawful, they still are after a step of the worker of the actor `by`, made at a moment below
--- 2^62.
+-- If the turns of a run are lawful, they are still lawful after a step of the worker of the actor `by`, made at a
+-- moment below 2^62.
 pub step_lawful : (ran : Ran) (at by : ℕ) → at < 2 ^ 62 → AreBounded ran.workers → IsHistory ran.history
     → IsHistory (with_step ran at by (employed_by by ran.workers)).history
 step_lawful ran at by early h past = step_lawful_by ran at by (employed_by by ran.workers) refl early h past

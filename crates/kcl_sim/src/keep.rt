@@ -59,7 +59,7 @@ pub trait Keep {
         ensures leased { is_service turn.what ≡ false → IfOk result (λ a. is_lease_answer a ≡ true) };
 
     /// Empties the text that was gathered from the turns.
-    fn clear(&mut self)
+    fn clear_text(&mut self)
         ensures { (since h : List Turn) → keeps self.old since h → keeps self.new h h };
 
     /// Appends to `to` the text that was gathered from the turns since the text was last emptied. If memory runs out,
@@ -120,7 +120,7 @@ impl Keep for AllTurns {
         Ok(answer)
     }
 
-    fn clear(&mut self) {}
+    fn clear_text(&mut self) {}
 
     fn append_text(&self, to: &mut Octets) -> Result<(), Memory> {
         let _ = to;
@@ -157,7 +157,7 @@ impl Keep for NoTurns {
         machine.apply(turn)
     }
 
-    fn clear(&mut self) {}
+    fn clear_text(&mut self) {}
 
     fn append_text(&self, to: &mut Octets) -> Result<(), Memory> {
         let _ = to;

@@ -12,7 +12,8 @@ use Rattle.kds_defs.specs.Leases.{is_other, taken_row}
 use Rattle.kds_defs.proofs.Keys.{after_else, before_else, not_before_after, not_same, same_ref}
 use Rattle.kcl_table.specs.declared.writes.Change.{Change}
 use Rattle.kcl_table.specs.declared.writes.Change.TheVariants.{Renewed, Freed}
-use Rattle.kcl_table.specs.Rows.{AreCounted, AreInOrder, IsBeforeAll, IsTable, changed, index_of, row_of, with_row}
+use Rattle.kcl_table.specs.Rows.{AreCounted, AreInOrder, IsBeforeAll, IsTable, changed, insertion_index, row_of}
+use Rattle.kcl_table.specs.Rows.{with_row}
 use Rattle.kcl_table.specs.Rows.{without_row}
 use Rattle.kcl_table.specs.Writes.{written_row}
 use Rattle.kcl_table.proofs.Places.{absent, before_all}
@@ -28,7 +29,8 @@ found_here key x r rs true same h counted rest =
     subst (λ (y : Row). (y.key ≡ key) × (y.switches ≤ y.counter)) e (same_ref x.key key same, counted.0)
 found_here key x r rs false same h counted rest = rest h counted.1
 
--- The row that is found for the key `key` has this key, and its switches are at most its counter.
+-- The row that is found for the key `key` has this key. If the switches of each row are at most its counter
+-- (`AreCounted`), this is so for the found row too.
 pub found : (key : ShardRef) (r : Row) (rs : List Row) → AreCounted rs → row_of rs key ≡ Some r
     → (r.key ≡ key) × (r.switches ≤ r.counter)
 found key r [] counted h = absurd cc
@@ -70,8 +72,8 @@ changed_by : (f : Row → Row) (key : ShardRef) (r : Row) (rs : List Row) → ro
 changed_by f key r [] h = absurd cc
 changed_by f key r (x ∷ rs) h = changed_here f key x r rs (same_key x.key key) refl h (changed_by f key r rs)
 
--- The row `row` is the row of the key `key` after the change `f`. So writing `row` over that row gives the same rows as
--- changing that row by `f`.
+-- The key of `row` has a row in `rs`, and writing `row` over this row gives the same rows as changing the row of the
+-- key `key` by `f`.
 pub record Puts (f : Row → Row) (key : ShardRef) (row : Row) (rs : List Row) : Type 0 where
   pub there : row_of rs row.key ≡ None → ⊥
   pub rows : changed (λ _. row) row.key rs ≡ changed f key rs
@@ -92,10 +94,10 @@ puts f key r row rs counted h is keeps =
 
 set_here : (row x : Row) (rs : List Row) (b d : Bool) → is_before x.key row.key ≡ b → same_key x.key row.key ≡ d
     → AreInOrder (x ∷ rs) → ((if d then Some x else row_of rs row.key) ≡ None → ⊥)
-    → ((row_of rs row.key ≡ None → ⊥) → (index_of row.key rs < length rs)
-    × (slice_set rs (index_of row.key rs) row ≡ changed (λ _. row) row.key rs))
-    → ((if b then suc (index_of row.key rs) else 0) < suc (length rs))
-    × (slice_set (x ∷ rs) (if b then suc (index_of row.key rs) else 0) row
+    → ((row_of rs row.key ≡ None → ⊥) → (insertion_index row.key rs < length rs)
+    × (slice_set rs (insertion_index row.key rs) row ≡ changed (λ _. row) row.key rs))
+    → ((if b then suc (insertion_index row.key rs) else 0) < suc (length rs))
+    × (slice_set (x ∷ rs) (if b then suc (insertion_index row.key rs) else 0) row
     ≡ (if d then row ∷ rs else x ∷ changed (λ _. row) row.key rs))
 set_here row x rs true true before same order there rest =
     absurd (apart (same_key x.key row.key) same (not_same x.key row.key before))
@@ -108,7 +110,8 @@ set_here row x rs false false before same order there rest =
 -- If the key of `row` has a row, the index of this key is within the list, and writing `row` at this index replaces the
 -- key's row.
 pub set_is : (row : Row) (rs : List Row) → AreInOrder rs → (row_of rs row.key ≡ None → ⊥)
-    → (index_of row.key rs < length rs) × (slice_set rs (index_of row.key rs) row ≡ changed (λ _. row) row.key rs)
+    → (insertion_index row.key rs < length rs)
+    × (slice_set rs (insertion_index row.key rs) row ≡ changed (λ _. row) row.key rs)
 set_is row [] order there = absurd (there refl)
 set_is row (x ∷ rs) order there =
     set_here row x rs (is_before x.key row.key) (same_key x.key row.key) refl refl order there (set_is row rs order.1)
@@ -134,8 +137,8 @@ table_here row x rs true same counted table rest =
 table_here row x rs false same counted table rest =
     ((before_changed x.key row rs table.0.0, rest.0), (table.1.0, rest.1))
 
--- If the rows can be those of a lease table (`IsTable`), they still can after `row` has replaced the row of its key.
--- The switches of `row` are at most its counter.
+-- The rows can still be those of a lease table (`IsTable`) after `row` has replaced the row of its key, if the switches
+-- of `row` are at most its counter.
 pub table_changed : (row : Row) (rs : List Row) → row.switches ≤ row.counter → IsTable rs
     → IsTable (changed (λ _. row) row.key rs)
 table_changed row [] counted table = table
@@ -154,8 +157,8 @@ none_of key x rs true same h = absurd (no x h)
 none_of key x rs false same h = (refl, h)
 
 insert_here : (new x : Row) (rs : List Row) (b : Bool) → is_before x.key new.key ≡ b → same_key x.key new.key ≡ false
-    → insert rs (index_of new.key rs) new ≡ with_row new rs
-    → insert (x ∷ rs) (if b then suc (index_of new.key rs) else 0) new
+    → insert rs (insertion_index new.key rs) new ≡ with_row new rs
+    → insert (x ∷ rs) (if b then suc (insertion_index new.key rs) else 0) new
     ≡ (if is_before new.key x.key then new ∷ x ∷ rs else x ∷ with_row new rs)
 insert_here new x rs true before same rest =
     ap (λ ys. x ∷ ys) rest
@@ -166,7 +169,7 @@ insert_here new x rs false before same rest =
 -- If the key of `new` has no row, inserting `new` at the index of its key gives the rows with `new` in the order of the
 -- keys.
 pub insert_is : (new : Row) (rs : List Row) → row_of rs new.key ≡ None
-    → insert rs (index_of new.key rs) new ≡ with_row new rs
+    → insert rs (insertion_index new.key rs) new ≡ with_row new rs
 insert_is new [] h = refl
 insert_is new (x ∷ rs) h =
     let n = none_of new.key x rs (same_key x.key new.key) refl h in
@@ -192,8 +195,8 @@ with_here new x rs true before same counted table rest =
 with_here new x rs false before same counted table rest =
     ((before_with x.key new rs (before_else x.key new.key before same) table.0.0, rest.0), (table.1.0, rest.1))
 
--- If the rows can be those of a lease table (`IsTable`), they still can with the row `new`, whose key has no row yet.
--- The switches of `new` are at most its counter.
+-- The rows can still be those of a lease table (`IsTable`) with the row `new` inserted, if the key of `new` has no row
+-- yet and the switches of `new` are at most its counter.
 pub table_with : (new : Row) (rs : List Row) → row_of rs new.key ≡ None → new.switches ≤ new.counter → IsTable rs
     → IsTable (with_row new rs)
 table_with new [] h counted table = ((tt, tt), (counted, tt))
@@ -206,9 +209,10 @@ table_with new (x ∷ rs) h counted table =
 
 remove_here : (key : ShardRef) (x r : Row) (rs : List Row) (b d : Bool) → is_before x.key key ≡ b
     → same_key x.key key ≡ d → AreInOrder (x ∷ rs) → (if d then Some x else row_of rs key) ≡ Some r
-    → (row_of rs key ≡ Some r → (index_of key rs < length rs) × (remove rs (index_of key rs) ≡ without_row key rs))
-    → ((if b then suc (index_of key rs) else 0) < suc (length rs))
-    × (remove (x ∷ rs) (if b then suc (index_of key rs) else 0) ≡ (if d then rs else x ∷ without_row key rs))
+    → (row_of rs key ≡ Some r → (insertion_index key rs < length rs)
+    × (remove rs (insertion_index key rs) ≡ without_row key rs))
+    → ((if b then suc (insertion_index key rs) else 0) < suc (length rs))
+    × (remove (x ∷ rs) (if b then suc (insertion_index key rs) else 0) ≡ (if d then rs else x ∷ without_row key rs))
 remove_here key x r rs true true before same order h rest =
     absurd (apart (same_key x.key key) same (not_same x.key key before))
 remove_here key x r rs true false before same order h rest = let g = rest h in
@@ -223,7 +227,7 @@ remove_here key x r rs false false before same order h rest =
 -- If the key `key` has a row, the index of this key is within the list, and removing the row at this index gives the
 -- rows without the key's row.
 pub remove_is : (key : ShardRef) (r : Row) (rs : List Row) → AreInOrder rs → row_of rs key ≡ Some r
-    → (index_of key rs < length rs) × (remove rs (index_of key rs) ≡ without_row key rs)
+    → (insertion_index key rs < length rs) × (remove rs (insertion_index key rs) ≡ without_row key rs)
 remove_is key r [] order h = absurd cc
 remove_is key r (x ∷ rs) order h =
     remove_here key x r rs (is_before x.key key) (same_key x.key key) refl refl order h (remove_is key r rs order.1)
@@ -243,7 +247,7 @@ without_here : (key : ShardRef) (x : Row) (rs : List Row) (d : Bool) → IsTable
 without_here key x rs true table rest = (table.0.1, table.1.1)
 without_here key x rs false table rest = ((before_without x.key key rs table.0.0, rest.0), (table.1.0, rest.1))
 
--- If the rows can be those of a lease table (`IsTable`), they still can without the row of the key `key`.
+-- The rows can still be those of a lease table (`IsTable`) without the row of the key `key`.
 pub table_without : (key : ShardRef) (rs : List Row) → IsTable rs → IsTable (without_row key rs)
 table_without key [] table = table
 table_without key (x ∷ rs) table =

@@ -8,7 +8,7 @@ use Rattle.kds_base.proofs.Facts.{apart}
 use Rattle.kds_defs.specs.declared.reply.Row.{Row}
 use Rattle.kds_defs.specs.Keys.{is_before, same_key}
 use Rattle.kds_defs.proofs.Keys.{after_else, before_both, not_same, not_same_after}
-use Rattle.kcl_table.specs.Rows.{AreInOrder, IsBeforeAll, if_key, index_of, row_of}
+use Rattle.kcl_table.specs.Rows.{AreInOrder, IsBeforeAll, if_key, insertion_index, row_of}
 
 -- If the key `a` comes before the key `b`, and `b` before the keys of all rows, then `a` comes before the keys of all
 -- rows.
@@ -36,18 +36,19 @@ partitioned key (r ∷ rs) order (suc i) zero d le within is = absurd (omega ari
 partitioned key (r ∷ rs) order (suc i) (suc j) d le within is =
     partitioned key rs order.1 i j d (omega arith) (omega arith) is
 
--- If `i` parts the rows before the key `key` from the others, `i` is the index of this key (`index_of`).
+-- If `i` parts the rows before the key `key` from the others, `i` is the index of this key (`insertion_index`).
 pub index_is : (key : ShardRef) (rs : List Row) (i : ℕ) → i ≤ length rs
-    → IsPartitionPoint (λ r. comes_before key r ≡ true) (λ r. comes_before key r ≡ false) rs i → i ≡ index_of key rs
+    → IsPartitionPoint (λ r. comes_before key r ≡ true) (λ r. comes_before key r ≡ false) rs i
+    → i ≡ insertion_index key rs
 index_is key [] i le h = omega arith
 index_is key (r ∷ rs) zero le h =
-    ap (λ b. if b then suc (index_of key rs) else 0) (sym (h.1 0 r (omega arith) (omega arith)))
+    ap (λ b. if b then suc (insertion_index key rs) else 0) (sym (h.1 0 r (omega arith) (omega arith)))
 index_is key (r ∷ rs) (suc i) le h =
     let rest = index_is key rs i (omega arith) (
       λ k d low high. h.0 (suc k) d (omega arith) (omega arith),
       λ k d low high. h.1 (suc k) d (omega arith) (omega arith),
     ) in
-    ap suc rest ∙ ap (λ b. if b then suc (index_of key rs) else 0) (sym (h.0 0 r (omega arith) (omega arith)))
+    ap suc rest ∙ ap (λ b. if b then suc (insertion_index key rs) else 0) (sym (h.0 0 r (omega arith) (omega arith)))
 
 -- If the key `key` comes before the keys of all rows, none of them has this key.
 pub absent : (key : ShardRef) (rs : List Row) → IsBeforeAll key rs → row_of rs key ≡ None
@@ -57,8 +58,9 @@ absent key (r ∷ rs) all = ap (λ b. if b then Some r else row_of rs key) (not_
 
 row_here : (key : ShardRef) (r : Row) (rs : List Row) (b d : Bool) → is_before r.key key ≡ b → same_key r.key key ≡ d
     → AreInOrder (r ∷ rs)
-    → row_of rs key ≡ if_key key (slice_get rs (index_of key rs))
-    → (if d then Some r else row_of rs key) ≡ if_key key (slice_get (r ∷ rs) (if b then suc (index_of key rs) else 0))
+    → row_of rs key ≡ if_key key (slice_get rs (insertion_index key rs))
+    → (if d then Some r else row_of rs key)
+    ≡ if_key key (slice_get (r ∷ rs) (if b then suc (insertion_index key rs) else 0))
 row_here key r rs true true before same order rest =
     absurd (apart (same_key r.key key) same (not_same r.key key before))
 row_here key r rs true false before same order rest = rest
@@ -67,9 +69,10 @@ row_here key r rs false false before same order rest =
     absent key rs (before_all key r.key rs (after_else r.key key before same) order.0)
     ∙ ap (λ d. if d then Some r else None) (sym same)
 
--- If the keys of the rows rise, the row of the key `key`, if there is one, is at the index of this key (`index_of`).
+-- If the keys of the rows rise, the row of the key `key`, if there is one, is at the index of this key
+-- (`insertion_index`).
 pub row_there : (key : ShardRef) (rs : List Row) → AreInOrder rs
-    → row_of rs key ≡ if_key key (slice_get rs (index_of key rs))
+    → row_of rs key ≡ if_key key (slice_get rs (insertion_index key rs))
 row_there key [] order = refl
 row_there key (r ∷ rs) order =
     row_here key r rs (is_before r.key key) (same_key r.key key) refl refl order (row_there key rs order.1)

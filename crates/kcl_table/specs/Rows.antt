@@ -10,8 +10,7 @@ abbrev pub row_of : List Row → ShardRef → Option Row
 row_of [] key = None
 row_of (r ∷ rs) key = if same_key r.key key then Some r else row_of rs key
 
--- The rows with the row `new`, which comes right before the first row whose key is after the key of `new`, or at the
--- end.
+-- The rows with the row `new` inserted right before the first row whose key is after the key of `new`, or at the end.
 abbrev pub with_row : Row → List Row → List Row
 with_row new [] = new ∷ []
 with_row new (r ∷ rs) = if is_before new.key r.key then new ∷ r ∷ rs else r ∷ with_row new rs
@@ -44,10 +43,10 @@ abbrev pub IsTable : List Row → Type 0
 IsTable rs = AreInOrder rs × AreCounted rs
 
 -- How many rows at the beginning of the list come before the key `key`. If the keys of the rows rise, this is the index
--- of the key's row, or the index at which it would be inserted.
-abbrev pub index_of : ShardRef → List Row → ℕ
-index_of key [] = 0
-index_of key (r ∷ rs) = if is_before r.key key then suc (index_of key rs) else 0
+-- of the row of `key`, or the index at which such a row would be inserted.
+abbrev pub insertion_index : ShardRef → List Row → ℕ
+insertion_index key [] = 0
+insertion_index key (r ∷ rs) = if is_before r.key key then suc (insertion_index key rs) else 0
 
 -- The row in the second argument, if there is one and it has the key `key`.
 abbrev pub if_key : ShardRef → Option Row → Option Row

@@ -1,16 +1,16 @@
 //! Finds the row with a given key among the rows of the lease table.
 ghost use Rattle.std.specs.Prelude.{◌≡◌, ◌≤◌, length, slice_get};
 ghost use Rattle.std.specs.Option.{option_map};
-ghost use Rattle.kcl_table.specs.Rows.{AreInOrder, if_key, index_of, row_of};
+ghost use Rattle.kcl_table.specs.Rows.{AreInOrder, if_key, insertion_index, row_of};
 
 use kds_base::ShardRef;
 use kds_defs::{Row, is_before};
 
 /// Returns the number of rows whose keys come before `key`. This is the index at which a row with the key `key`
 /// belongs.
-pub fn index_of(rows: &[Row], key: &ShardRef) -> usize
+pub fn insertion_index(rows: &[Row], key: &ShardRef) -> usize
     requires { AreInOrder rows.now }
-    ensures value { result ≡ index_of key.now rows.now }
+    ensures value { result ≡ insertion_index key.now rows.now }
     ensures within { result ≤ length rows.now }
 {
     rows.partition_point(|row| is_before(&row.key, key))
@@ -30,5 +30,5 @@ pub fn row_of<'a>(rows: &'a [Row], key: &ShardRef) -> Option<&'a Row>
     requires { AreInOrder rows.now }
     ensures { option_map (λ r. r.now) result ≡ row_of rows.now key.now }
 {
-    row_at(rows, index_of(rows, key), key)
+    row_at(rows, insertion_index(rows, key), key)
 }

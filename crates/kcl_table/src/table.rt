@@ -7,7 +7,7 @@ ghost use Rattle.kds_defs.specs.Leases.{marked_row, new_row, taken_row};
 ghost use Rattle.kcl_table.specs.Rows.{changed, row_of, with_row, without_row};
 ghost use Rattle.kcl_table.specs.Writes.{cut_answer, mark_answer, write_answer, take_answer, written_row};
 
-use crate::search::{index_of, row_of};
+use crate::search::{insertion_index, row_of};
 use crate::writes::{
     Change, held_row, marked, take_counter, taken, target_counter, write_counter, written,
 };
@@ -69,7 +69,7 @@ impl Table {
         requires counted { row.switches ≤ row.counter }
         ensures { self.new ≡ changed (λ _. row) row.key self.old }
     {
-        let index = index_of(&self.rows, &row.key);
+        let index = insertion_index(&self.rows, &row.key);
         self.rows[index] = row;
     }
 
@@ -95,7 +95,7 @@ impl Table {
         let None = row_of(&self.rows, &key) else {
             return Ok(Err(Refusal::LeaseThere));
         };
-        let index = index_of(&self.rows, &key);
+        let index = insertion_index(&self.rows, &key);
         self.rows
             .insert(index, first(key, floor, start, parent, adjacent))?;
         Ok(Ok(()))
@@ -190,7 +190,7 @@ impl Table {
         if listed {
             return Err(Refusal::ShardListed);
         }
-        let index = index_of(&self.rows, &key);
+        let index = insertion_index(&self.rows, &key);
         self.rows.remove(index);
         Ok(())
     }

@@ -1,11 +1,12 @@
 -- After the answer to a command of a worker, the worker with the fields that the code has written stands for its record
--- (the list of its events) with this answer added. `stands` says which processor calls a processor stands for.
+-- with this answer added. The record is the list of the worker's events. `stands` says which processor calls a
+-- processor stands for.
 use Rattle.std.proofs.Common.{◌≡◌, ℕ, ◌++◌, Bool, List, ◌∷◌, Option, Some, None, refl, sym, ap, subst, ◌∙◌}
 use Rattle.std.specs.Prelude.{Result}
 use Rattle.std.specs.Option.{option_map}
 use Rattle.kcl_defs.specs.declared.consumer.Call.{Call}
 use Rattle.kcl_defs.specs.declared.plans.Held.{Held}
-use Rattle.kcl_defs.specs.declared.plans.LeaseId.{LeaseId}
+use Rattle.kcl_defs.specs.declared.plans.TenancyId.{TenancyId}
 use Rattle.kcl_defs.specs.declared.plans.Seen.{Seen}
 use Rattle.kcl_defs.specs.declared.plans.SyncStep.{SyncStep}
 use Rattle.kcl_defs.specs.declared.plans.TakeStep.{TakeStep}
@@ -35,8 +36,9 @@ waits_for : (o : Option Pending) (chore : Chore) → Some chore ≡ option_map (
 waits_for None chore e = absurd cc
 waits_for (Some p) chore e = (p, refl, cc)
 
--- The worker `new` stands for the record `past` with the answer added, if it is `w` with fields that agree with the
--- state after the answer to the chore `chore`, and with the consumers that are over retired.
+-- The answer to the command of the chore `chore` came, and `new` is `w` with new fields and with the consumers that are
+-- over retired. If the new fields agree with the state after this answer, `new` stands for the record `past` with the
+-- answer added.
 pub absorbed_stands : {P F : Type 0} (stands : P → List Call → Type 0) (w new : WorkerStanding P F) (now : ℕ)
     (answer : Result Reply Refusal) (chore : Chore) (round : Round) (seen : List Seen) (held : List Held)
     (consumers : List (ConsumerValue P)) (maker : F) (past : WorkerPast) → w.waiting ≡ Some chore
@@ -74,8 +76,8 @@ absorbed_stands {P} {F} stands w new now answer chore round seen held consumers 
 
 -- ---- Chores
 
--- If the worker `w` agrees with the state `s` (`ShowsState`), both still agree after the answer to a step of the sync
--- plan: the steps `syncs` and `takes` are left, and no command waits.
+-- If the worker `w` agrees with the state `s` (`ShowsState`), `w` and `s` still agree after the answer to a step of the
+-- sync plan: the steps `syncs` and `takes` are left, and no command waits.
 pub synced_shows : {P F : Type 0} (stands : P → List Call → Type 0) (w : WorkerStanding P F) (s : WorkerState)
     (syncs : List SyncStep) (takes : List TakeStep) → ShowsState stands w s
     → ShowsState stands (record w { round = AtSync syncs takes; waiting = None })
@@ -89,10 +91,10 @@ synced_shows stands w s syncs takes h = record {
   retired = h.retired;
 }
 
--- If the worker `w` agrees with the state `s` (`ShowsState`), both still agree after the answer to a freeing: the lease
--- `id` is dropped, and no command waits.
+-- If the worker `w` agrees with the state `s` (`ShowsState`), `w` and `s` still agree after the answer to a freeing:
+-- the lease `id` is dropped, and no command waits.
 pub freed_shows : {P F : Type 0} (stands : P → List Call → Type 0) (w : WorkerStanding P F) (s : WorkerState)
-    (id : LeaseId) → ShowsState stands w s
+    (id : TenancyId) → ShowsState stands w s
     → ShowsState stands (record w { waiting = None; held = without_held id w.held })
     (record s { waiting = None; held = without_held id s.held })
 freed_shows stands w s id h = record {
@@ -104,10 +106,10 @@ freed_shows stands w s id h = record {
   retired = h.retired;
 }
 
--- If the worker `w` agrees with the state `s` (`ShowsState`), both still agree after the answer to a Give at a stop:
--- the consumer of the lease `id` took the answer, and no command waits.
+-- If the worker `w` agrees with the state `s` (`ShowsState`), `w` and `s` still agree after the answer to a Give at a
+-- stop: the first consumer of the lease `id` took the answer, and no command waits.
 pub finished_shows : {P F : Type 0} (stands : P → List Call → Type 0) (w : WorkerStanding P F) (s : WorkerState)
-    (id : LeaseId) (answer : Result Reply Refusal) → ShowsState stands w s
+    (id : TenancyId) (answer : Result Reply Refusal) → ShowsState stands w s
     → ShowsState stands (record w { waiting = None; consumers = answered_among id answer w.consumers })
     (record s { waiting = None; consumers = consumed id answer s.consumers })
 finished_shows stands w s id answer h = record {
@@ -119,7 +121,8 @@ finished_shows stands w s id answer h = record {
   retired = h.retired;
 }
 
--- The consumer `o` of the code has the stage of the consumer `k` of the record, if both were found by the same lease.
+-- If the consumer `o` was found in the code and the consumer `k` in the record (`IsFoundSo`), `o` and `k` are in the
+-- same stage. If neither exists, the stage is `Opening` for each.
 stage_found : {P : Type 0} (o : Option (ConsumerValue P)) (k : Option Known) → IsFoundSo o k
     → stage_or_opening o ≡ stage_in k
 stage_found None None f = refl
@@ -127,7 +130,7 @@ stage_found (Some c) (Some k) f = f.1
 stage_found None (Some k) f = absurd f
 stage_found (Some c) None f = absurd f
 
-kept_found : {P : Type 0} (id : LeaseId) (o : Option (ConsumerValue P)) (k : Option Known) (held : List Held)
+kept_found : {P : Type 0} (id : TenancyId) (o : Option (ConsumerValue P)) (k : Option Known) (held : List Held)
     → IsFoundSo o k
     → kept_unless_over id o held ≡ held_unless_over id k held
 kept_found id None None held f = refl
@@ -135,10 +138,10 @@ kept_found id (Some c) (Some k) held f = ap (λ p. kept_unless_over id (Some (re
 kept_found id None (Some k) held f = absurd f
 kept_found id (Some c) None held f = absurd f
 
--- If the worker `w` agrees with the state `s` (`ShowsState`), both still agree after the answer to a command of the
--- consumer of the lease `id`.
+-- If the worker `w` agrees with the state `s` (`ShowsState`), `w` and `s` still agree after the answer to a command of
+-- the consumer of the lease `id`.
 pub consumed_shows : {P F : Type 0} (stands : P → List Call → Type 0) (w : WorkerStanding P F) (s : WorkerState)
-    (now : ℕ) (id : LeaseId) (answer : Result Reply Refusal) → ShowsState stands w s
+    (now : ℕ) (id : TenancyId) (answer : Result Reply Refusal) → ShowsState stands w s
     → ShowsState stands (record w {
       round = AtConsumers (Some id);
       waiting = None;
@@ -170,8 +173,9 @@ consumed_shows stands w s now id answer h =
 
 -- ---- The fields that the code has written. `w` and `old` are the worker before the answer
 
--- If the new fields agree with the state after the answer to the chore `chore`, the worker with these fields, and with
--- the consumers that are over retired, stands for its record with the answer added.
+-- The answer to the command of the chore `chore` came, and the new fields agree with the state after this answer. Then
+-- the worker with these fields, and with the consumers that are over retired, stands for its record with the answer
+-- added.
 pub absorbed_leaves : {P F : Type 0} (stands : P → List Call → Type 0) (w old : WorkerStanding P F) → w ≡ old
     → (now : ℕ) (answer : Result Reply Refusal) (chore : Chore) (round : Round) (held : List Held)
     (consumers cs : List (ConsumerValue P)) (rs : List (Retirement P)) (past : WorkerPast) → old.waiting ≡ Some chore
@@ -193,8 +197,9 @@ absorbed_leaves stands w old is now answer chore round held consumers cs rs past
     }) leads
     (subst (λ v. StandsFor stands v past) (sym is) st)
 
--- If the worker `w` agrees with the state `s`, it agrees with the state `t` after it got the leases and the consumers
--- of `t`, which otherwise equals `s` with the round `round` and no waiting command.
+-- `t` is the state `s` with the round `round`, no waiting command, the leases `held`, and the consumers for which `cs`
+-- stands. If the worker `w` agrees with `s`, then `w` with this round, no waiting command, `held` and `cs` agrees with
+-- `t`.
 left_shows : {P F : Type 0} (stands : P → List Call → Type 0) (w : WorkerStanding P F) (s t : WorkerState)
     (round : Round) (held : List Held) (cs : List (ConsumerValue P)) → ShowsState stands w s
     → Leaves stands (record s { waiting = None; round = round }) t held cs
@@ -211,7 +216,7 @@ left_shows stands w s t round held cs h l = record {
 -- After the answer to the renewal of the lease `h`, the worker with the leases and consumers to which the answer leads
 -- stands for its record with this answer added.
 pub renewal_leaves : {P F : Type 0} (stands : P → List Call → Type 0) (w old : WorkerStanding P F) → w ≡ old
-    → (now : ℕ) (answer : Result Reply Refusal) (h : Held) (id : LeaseId) (held : List Held)
+    → (now : ℕ) (answer : Result Reply Refusal) (h : Held) (id : TenancyId) (held : List Held)
     (consumers cs : List (ConsumerValue P)) (rs : List (Retirement P)) (past : WorkerPast) → id ≡ id_of_held h
     → old.waiting ≡ Some (Renewing h) → cs ≡ live_among consumers → rs ≡ w.retired ++ retired_among consumers
     → ((s : WorkerState) → w.held ≡ s.held → ConsumersStand stands w.consumers s.consumers
@@ -237,10 +242,10 @@ renewal_leaves stands w old is now answer h id held consumers cs rs past same wa
     left_shows stands w s _ (AtRenewals (Some (id_of_held h))) held consumers shows
     (leaves (record s { waiting = None; round = AtRenewals (Some (id_of_held h)) }) shows.held shows.consumers)) st)
 
--- After the answer to a command of the consumer of the lease `id`, the worker with the leases and consumers to which
--- the answer leads stands for its record with this answer added.
+-- An answer to a command of the consumer of the lease `id` came. The worker with the leases and consumers to which this
+-- answer leads stands for its record with the answer added.
 pub consumer_leaves : {P F : Type 0} (stands : P → List Call → Type 0) (w old : WorkerStanding P F) → w ≡ old
-    → (now : ℕ) (answer : Result Reply Refusal) (id : LeaseId) (held : List Held)
+    → (now : ℕ) (answer : Result Reply Refusal) (id : TenancyId) (held : List Held)
     (consumers cs : List (ConsumerValue P))
     (rs : List (Retirement P)) (past : WorkerPast) → old.waiting ≡ Some (Consuming id)
     → held ≡ held_in now id answer w.consumers w.held → consumers ≡ answered_among id answer w.consumers
@@ -260,10 +265,10 @@ consumer_leaves stands w old is now answer id held consumers cs rs past waits a 
     (λ i. record w { round = AtConsumers (Some id); waiting = None; held = sym a i; consumers = sym b i })
     (consumed_shows stands w s now id answer shows)) st
 
--- After the answer to a Give of the stopped worker, by the consumer of the lease `id`, the worker stands for its record
+-- After a stopped worker got the answer to the Give of the consumer of the lease `id`, the worker stands for its record
 -- with this answer added.
 pub give_leaves : {P F : Type 0} (stands : P → List Call → Type 0) (w old : WorkerStanding P F) → w ≡ old
-    → (now : ℕ) (answer : Result Reply Refusal) (id : LeaseId) (consumers cs : List (ConsumerValue P))
+    → (now : ℕ) (answer : Result Reply Refusal) (id : TenancyId) (consumers cs : List (ConsumerValue P))
     (rs : List (Retirement P)) (past : WorkerPast) → old.waiting ≡ Some (Finishing id)
     → consumers ≡ answered_among id answer w.consumers → cs ≡ live_among consumers
     → rs ≡ w.retired ++ retired_among consumers → StandsFor stands old past
@@ -291,10 +296,10 @@ freeing_leaves stands w old is now answer h held cs rs past waits a live over st
     (λ i. record w { waiting = None; held = sym a i })
     (freed_shows stands w s (id_of_held h) shows)) st
 
--- After a refused renewal of the lease `h`, the worker's leases are `held` without `h`, and its consumers are `cs`
--- after the consumer of `h` has learnt of the loss. This is what `after_renewal` leads to.
+-- If the renewal of the lease `h` was refused, `after_renewal` leads to the leases `held` without `h`, and to the
+-- consumers `cs` after the consumer of `h` has learnt of the loss.
 pub refused_leaves : {P : Type 0} (stands : P → List Call → Type 0) (s : WorkerState) (now : ℕ) (h : Held)
-    (answer : Result Reply Refusal) (loss : Bool) (id : LeaseId) (held held' : List Held)
+    (answer : Result Reply Refusal) (loss : Bool) (id : TenancyId) (held held' : List Held)
     (cs cs' : List (ConsumerValue P))
     → id ≡ id_of_held h → after_renewal now h answer s ≡ renewal_by now h (row_answer.Refused loss) s
     → held' ≡ without_held id held → cs' ≡ lost_among (λ i. same_id i id) cs → held ≡ s.held

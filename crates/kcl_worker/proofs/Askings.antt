@@ -1,11 +1,11 @@
--- Whatever the processors of a worker may ask for after a batch, `may` allows (`AskWithin`). This stays so after each
--- event of the consumers, and for each processor call that returns.
+-- `may` allows everything that the processors of a worker may ask for after a batch (`AskWithin`). This stays so after
+-- each event of the worker's consumers.
 use Rattle.std.proofs.Common.{◌≡◌, Bool, true, false, List, [], ◌∷◌, ◌++◌, Some, refl, sym, ap, subst, ◌∙◌}
 use Rattle.std.specs.Prelude.{cond, if◌then◌else◌, is_some, not, Result}
 use Rattle.std.specs.List.{AllByRecursion, find}
 use Rattle.kcl_defs.specs.declared.consumer.Ask.{Ask}
 use Rattle.kcl_defs.specs.declared.consumer.Call.{Call}
-use Rattle.kcl_defs.specs.declared.plans.LeaseId.{LeaseId}
+use Rattle.kcl_defs.specs.declared.plans.TenancyId.{TenancyId}
 use Rattle.kds_defs.specs.declared.reply.Refusal.{Refusal}
 use Rattle.kds_defs.specs.declared.reply.Reply.{Reply}
 use Rattle.kds_defs.specs.declared.reply.Stored.{Stored}
@@ -21,9 +21,8 @@ use Rattle.kcl_worker_lists.specs.Lists.{is_due}
 use Rattle.kcl_worker.specs.Standing.{ConsumersStand}
 use Rattle.kcl_worker.proofs.Happenings.{stage_known}
 
--- If `may` allows whatever the consumers' processors may ask for (`AskWithin`), it still does after the consumers of
--- the leases for which `t` is true have lost them.
-pub within_lost : {P : Type 0} (asks : P → List Stored → Ask → Type 0) (may : List Stored → Ask → Type 0) (t : LeaseId
+-- `AskWithin` still holds for the consumers `cs` after each consumer for whose lease `t` is true has lost this lease.
+pub within_lost : {P : Type 0} (asks : P → List Stored → Ask → Type 0) (may : List Stored → Ask → Type 0) (t : TenancyId
     → Bool) (cs : List (ConsumerValue P)) → AskWithin asks may cs → AskWithin asks may (lost_among t cs)
 within_lost asks may t [] w = tt
 within_lost asks may t (c ∷ cs) w = (head (t (id_in c)), within_lost asks may t cs w.1)
@@ -32,10 +31,9 @@ within_lost asks may t (c ∷ cs) w = (head (t (id_in c)), within_lost asks may 
     head true = w.0
     head false = w.0
 
--- If `may` allows whatever the consumers' processors may ask for (`AskWithin`), it still does after the consumer of the
--- lease `id` took the answer `answer`.
+-- `AskWithin` still holds for the consumers `cs` after the first consumer of the lease `id` took the answer `answer`.
 pub within_answered : {P : Type 0} (asks : P → List Stored → Ask → Type 0) (may : List Stored → Ask
-    → Type 0) (id : LeaseId) (answer : Result Reply Refusal) (cs : List (ConsumerValue P)) → AskWithin asks may cs
+    → Type 0) (id : TenancyId) (answer : Result Reply Refusal) (cs : List (ConsumerValue P)) → AskWithin asks may cs
     → AskWithin asks may (answered_among id answer cs)
 within_answered asks may id answer [] w = tt
 within_answered asks may id answer (c ∷ cs) w = head (same_id (id_in c) id) (within_answered asks may id answer cs w.1)
@@ -45,8 +43,8 @@ within_answered asks may id answer (c ∷ cs) w = head (same_id (id_in c) id) (w
     head true rest = (w.0, w.1)
     head false rest = (w.0, rest)
 
--- If `may` allows whatever the processors of the consumers `ds` and of the consumer `c` may ask for (`AskWithin`), it
--- does so with `c` inserted into `ds`.
+-- If `may` allows everything that the processors of the consumers `ds` and of the consumer `c` may ask for, `AskWithin`
+-- holds for `ds` with `c` inserted.
 pub within_with : {P : Type 0} (asks : P → List Stored → Ask → Type 0) (may : List Stored → Ask
     → Type 0) (c : ConsumerValue P) (ds : List (ConsumerValue P)) → IsWithin asks may c.processor
     → AskWithin asks may ds
@@ -59,8 +57,7 @@ within_with asks may c (d ∷ ds) one w = head (is_before_id (id_in c) (id_in d)
     head true rest = (one, w)
     head false rest = (w.0, rest)
 
--- If `may` allows whatever the consumers' processors may ask for (`AskWithin`), it does so for those of the consumers
--- that aren't over.
+-- If `AskWithin` holds for the consumers `cs`, it also holds for those of `cs` that aren't over.
 pub within_live : {P : Type 0} (asks : P → List Stored → Ask → Type 0) (may : List Stored → Ask
     → Type 0) (cs : List (ConsumerValue P)) → AskWithin asks may cs → AskWithin asks may (live_among cs)
 within_live asks may [] w = tt
@@ -71,15 +68,15 @@ within_live asks may (c ∷ cs) w = head (is_over_in c) (within_live asks may cs
     head true rest = rest
     head false rest = (w.0, rest)
 
--- If `may` allows whatever the consumers' processors may ask for (`AskWithin`), it does so for `live`, the consumers
--- that are left after those that are over were retired.
+-- If `AskWithin` holds for the consumers `cs`, it also holds for `live`, the consumers that are left after those that
+-- are over were retired.
 pub within_settled : {P : Type 0} (asks : P → List Stored → Ask → Type 0) (may : List Stored → Ask
     → Type 0) (cs live : List (ConsumerValue P)) → live ≡ live_among cs → AskWithin asks may cs
     → AskWithin asks may live
 within_settled asks may cs live is w = subst (AskWithin asks may) (sym is) (within_live asks may cs w)
 
 -- If consumers lose their leases, their processors don't change.
-pub lost_processors : {P : Type 0} (t : LeaseId → Bool) (cs : List (ConsumerValue P))
+pub lost_processors : {P : Type 0} (t : TenancyId → Bool) (cs : List (ConsumerValue P))
     → processors (lost_among t cs) ≡ processors cs
 lost_processors t [] = refl
 lost_processors t (c ∷ cs) = head (t (id_in c)) (lost_processors t cs)
@@ -89,8 +86,7 @@ lost_processors t (c ∷ cs) = head (t (id_in c)) (lost_processors t cs)
     head true e = ap (λ ps. c.processor ∷ ps) e
     head false e = ap (λ ps. c.processor ∷ ps) e
 
--- If `may` allows whatever the consumers' processors may ask for (`AskWithin`), so does `more`, which allows at least
--- as much after each batch.
+-- If `AskWithin` holds for `may`, it also holds for `more`, which allows at least as much as `may` after each batch.
 pub within_more : {P : Type 0} (asks : P → List Stored → Ask → Type 0) (may more : List Stored → Ask
     → Type 0) (cs : List (ConsumerValue P)) → ((batch : List Stored) (a : Ask) → may batch a → more batch a)
     → AskWithin asks may cs → AskWithin asks more cs
@@ -106,8 +102,7 @@ steady_among : {P : Type 0} (asks : P → List Stored → Ask → Type 0) (may :
 steady_among asks may [] behind one same f w = (λ batch a h. w.0 batch a (f batch a h), w.1)
 steady_among asks may (c ∷ before) behind one same f w = (w.0, steady_among asks may before behind one same f w.1)
 
--- If `may` allows whatever the consumers' processors may ask for (`AskWithin`), it still does after the first due
--- processor call has returned.
+-- `AskWithin` still holds for the consumers after the first due processor call has returned.
 pub within_called : {P : Type 0} (stands : P → List Call → Type 0) (asks : P → List Stored → Ask
     → Type 0) (may : List Stored → Ask → Type 0) (asked : Ask) (old new : List (ConsumerValue P))
     → FirstCalled stands asks asked old new → AskWithin asks may old → AskWithin asks may new
@@ -115,8 +110,7 @@ within_called stands asks may asked old new f w =
     subst (AskWithin asks may) (sym f.is)
     (steady_among asks may f.before f.behind f.one f.called f.has.steady (subst (AskWithin asks may) f.was w))
 
--- If `may` allows whatever the consumers' processors may ask for (`AskWithin`), it still does after a processor call
--- that ran out of memory.
+-- `AskWithin` still holds for the consumers after a processor call that ran out of memory.
 pub within_uncalled : {P : Type 0} (stands : P → List Call → Type 0) (asks : P → List Stored → Ask
     → Type 0) (may : List Stored → Ask → Type 0) (old new : List (ConsumerValue P)) → FirstUncalled stands asks old new
     → AskWithin asks may old → AskWithin asks may new
@@ -161,8 +155,8 @@ ask_among stands asks may asked (c ∷ before) behind one (k ∷ ks) none due ha
     head false e rest = rest
     head true e rest = absurd cc
 
--- What the processor asks for after the first due call is what `may` allows after a batch, and nothing after any other
--- call (`IsAskOf`).
+-- If the first due processor call handed over a batch, `may` allows what the processor asks for after this call. After
+-- any other processor call the processor asks for nothing (`IsAskOf`).
 pub asked_so : {P : Type 0} (stands : P → List Call → Type 0) (asks : P → List Stored → Ask → Type 0) (may : List Stored
     → Ask → Type 0) (asked : Ask) (old new : List (ConsumerValue P)) (ks : List Known)
     → FirstCalled stands asks asked old new → AskWithin asks may old → ConsumersStand stands old ks

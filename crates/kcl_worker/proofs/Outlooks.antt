@@ -1,5 +1,5 @@
--- The next command that the code chooses is the one that comes next after the worker's record (the list of its events).
--- `stands` says which processor calls a processor stands for.
+-- The next command that the code chooses is the one that comes next after the worker's record, which is the list of the
+-- worker's events. `stands` says which processor calls a processor stands for.
 use Rattle.std.proofs.Common.{◌≡◌, ℕ, ◌<◌, ◌≤◌, suc, get_or, drop, length, Bool, true, false, List, [], ◌∷◌, Option}
 use Rattle.std.proofs.Common.{Some, None, refl, sym, ap, subst, ◌∙◌, arith}
 use Rattle.std.specs.Prelude.{◌==◌, ◌&&◌, ◌||◌, cond, is_some, not}
@@ -14,7 +14,7 @@ use Rattle.kcl_defs.specs.declared.consumer.Call.{Call}
 use Rattle.kcl_defs.specs.declared.consumer.Due.{Due}
 use Rattle.kcl_defs.specs.declared.consumer.WorkerMade.{WorkerMade}
 use Rattle.kcl_defs.specs.declared.plans.Held.{Held}
-use Rattle.kcl_defs.specs.declared.plans.LeaseId.{LeaseId}
+use Rattle.kcl_defs.specs.declared.plans.TenancyId.{TenancyId}
 use Rattle.kcl_defs.specs.declared.plans.SyncStep.{SyncStep}
 use Rattle.kcl_defs.specs.declared.plans.TakeStep.{TakeStep}
 use Rattle.kcl_defs.specs.Consumers.{Stage, due_call, next_command, over_at, stage_after}
@@ -36,17 +36,18 @@ use Rattle.kcl_worker.proofs.Happenings.{stage_known}
 
 -- ---- The same consumer is found in the code and in the record
 
--- Either no consumer was found, neither in the code nor in the record; or one was found in each, and both were made
--- with the same values and are in the same stage.
+-- Either no consumer was found in the code and none in the record, or one was found in each. In the second case, the
+-- two consumers were made with the same values and are in the same stage.
 abbrev pub IsFoundSo : {P : Type 0} → Option (ConsumerValue P) → Option Known → Type 0
 IsFoundSo None None = Unit {0}
 IsFoundSo (Some c) (Some k) = (c.made ≡ k.made) × (c.stage ≡ stage_of_known k)
 IsFoundSo None (Some k) = ⊥
 IsFoundSo (Some c) None = ⊥
 
--- If the test `t` depends only on the lease and the stage, the first consumer for which it is true is the same in the
--- code as in the record.
-pub found_so : {P : Type 0} (stands : P → List Call → Type 0) (t : LeaseId → Stage → Bool) (cs : List (ConsumerValue P))
+-- `t` is a test of a lease and a stage. The first consumer of the code for which `t` is true matches the first consumer
+-- of the record for which `t` is true (`IsFoundSo`).
+pub found_so : {P : Type 0} (stands : P → List Call → Type 0) (t : TenancyId → Stage
+    → Bool) (cs : List (ConsumerValue P))
     (ks : List Known) → ConsumersStand stands cs ks
     → IsFoundSo (find (λ c. t (id_in c) c.stage) cs) (find (λ k. t (id_of k) (stage_of_known k)) ks)
 found_so stands t [] [] s = tt
@@ -87,8 +88,8 @@ same_numbers a b c d e f h =
     three c f true h = grind (arith, nat_tests)
     three c f false h = absurd cc
 
--- A test of leases gives the same result for two leases with the same identity.
-pub same_test : (t : LeaseId → Bool) (a b : LeaseId) → same_id a b ≡ true → t a ≡ t b
+-- A test of lease identities gives the same result for two equal identities.
+pub same_test : (t : TenancyId → Bool) (a b : TenancyId) → same_id a b ≡ true → t a ≡ t b
 same_test t a b h =
     let e = same_numbers a.key.stream a.key.shard a.tenure b.key.stream b.key.shard b.tenure h in
     ap (λ n. t (record { key = record { stream = n; shard = a.key.shard }; tenure = a.tenure })) e.0
@@ -99,7 +100,7 @@ own_id : (a b c : ℕ) → ((a == a) && (b == b) && (c == c)) ≡ true
 own_id a b c = grind (arith, nat_tests)
 
 -- If `k` is the first consumer for whose lease `t` is true, `k` is also the first consumer of its lease.
-pub by_id : (t : LeaseId → Bool) (k : Known) (ks : List Known) → find (λ j. t (id_of j)) ks ≡ Some k
+pub by_id : (t : TenancyId → Bool) (k : Known) (ks : List Known) → find (λ j. t (id_of j)) ks ≡ Some k
     → (known_of (id_of k) ks ≡ Some k) × (t (id_of k) ≡ true)
 by_id t k [] h = absurd cc
 by_id t k (x ∷ xs) h = head (t (id_of x)) refl h (λ g. by_id t k xs g)
@@ -127,7 +128,7 @@ by_id t k (x ∷ xs) h = head (t (id_of x)) refl h (λ g. by_id t k xs g)
 
 -- ---- A fact about all consumers holds of the one that is found
 
--- If `P` holds of all items of a list, it holds of the item that is found in the list.
+-- If `P` holds for all items of a list, `P` holds for an item that is found in the list.
 pub all_found : {A : Type 0} (P : A → Type 0) (t : A → Bool) (x : A) (xs : List A) → find t xs ≡ Some x
     → AllByRecursion P xs → P x
 all_found P t x [] h all = absurd cc
@@ -140,7 +141,7 @@ all_found {A} P t x (y ∷ ys) h all = head (t y) h (λ g. all_found P t x ys g 
     head true g rest = subst P (same y x g) all.0
     head false g rest = rest g
 
--- If no processor call is due and no consumer is over, each consumer can send its next command (`IsReady`).
+-- If no processor call is due and no consumer is over, each consumer is ready for its next command (`IsReady`).
 pub ready : {P : Type 0} (cs : List (ConsumerValue P)) → due_in cs ≡ None
     → AllByRecursion (λ c. over_at c.stage ≡ None) cs
     → AllByRecursion IsReady cs
@@ -154,10 +155,10 @@ ready (c ∷ cs) none all = head (due_call c.stage) refl none (λ n. ready cs n 
 
 -- ---- A consumer's command
 
--- If the worker is among its consumers and `c` is the first one after the lease `last`, then the next command of `c` is
--- the worker's next command.
+-- If the worker's round has come to the consumers, and `c` is the first consumer after the lease `last`, then the next
+-- command of `c` is the worker's next command.
 pub consumer_given : {P : Type 0} (stands : P → List Call → Type 0) (made : WorkerMade) (s : WorkerState)
-    (syncs : List SyncStep) (takes : List TakeStep) (last : Option LeaseId) (cs : List (ConsumerValue P))
+    (syncs : List SyncStep) (takes : List TakeStep) (last : Option TenancyId) (cs : List (ConsumerValue P))
     (held : List Held)
     (c : ConsumerValue P) (what : Command) → ConsumersStand stands cs s.consumers → held ≡ s.held
     → past_in last cs ≡ Some c
@@ -184,9 +185,9 @@ consumer_given {P} stands made s syncs takes last cs held c what stand same foun
           command = ap (λ o. consumer_command s o) (by_id (is_past last) k s.consumers e).0 ∙ of_known;
         }
 
--- If the worker is among its consumers and none comes after the lease `last`, a survey comes next.
+-- If the worker's round has come to the consumers, and no consumer comes after the lease `last`, a survey comes next.
 pub survey_given : {P : Type 0} (stands : P → List Call → Type 0) (made : WorkerMade) (s : WorkerState)
-    (syncs : List SyncStep) (takes : List TakeStep) (last : Option LeaseId) (cs : List (ConsumerValue P))
+    (syncs : List SyncStep) (takes : List TakeStep) (last : Option TenancyId) (cs : List (ConsumerValue P))
     → ConsumersStand stands cs s.consumers → past_in last cs ≡ None
     → IsGiven made s syncs takes (Some (from_consumers last s)) awaited.Survey command.Survey
 survey_given {P} stands made s syncs takes last cs stand found =
@@ -201,7 +202,7 @@ survey_given {P} stands made s syncs takes last cs stand found =
 
 -- ---- At a stop
 
--- If the worker is stopped and `c` is the first consumer that has a batch to give, the Give of `c` comes next.
+-- If the worker is stopped, and `c` is the first consumer whose next command is a Give, then this Give comes next.
 pub giving_given : {P : Type 0} (stands : P → List Call → Type 0) (made : WorkerMade) (s : WorkerState)
     (syncs : List SyncStep) (takes : List TakeStep) (cs : List (ConsumerValue P)) (c : ConsumerValue P)
     → ConsumersStand stands cs s.consumers → giving_in cs ≡ Some c
@@ -234,7 +235,8 @@ none_giving {P} stands s cs stand found =
     go None f = refl
     go (Some k) f = absurd f
 
--- If the worker is stopped, no consumer has a batch to give, and `h` is the first lease, the freeing of `h` comes next.
+-- If the worker is stopped, no consumer's next command is a Give, and `h` is the first lease, then the freeing of `h`
+-- comes next.
 pub freeing_given : {P : Type 0} (stands : P → List Call → Type 0) (made : WorkerMade) (s : WorkerState)
     (syncs : List SyncStep) (takes : List TakeStep) (cs : List (ConsumerValue P)) (held : List Held) (h : Held)
     (rest : List Held) → ConsumersStand stands cs s.consumers → held ≡ s.held → giving_in cs ≡ None → held ≡ h ∷ rest
@@ -247,7 +249,8 @@ freeing_given stands made s syncs takes cs held h rest stand same found first = 
   command = refl;
 }
 
--- If the worker is stopped, no consumer has a batch to give, and the worker has no lease, no command comes next.
+-- If the worker is stopped, no consumer's next command is a Give, and the worker has no lease, then no command comes
+-- next.
 pub nothing_given : {P : Type 0} (stands : P → List Call → Type 0) (s : WorkerState) (cs : List (ConsumerValue P))
     (held : List Held) → ConsumersStand stands cs s.consumers → held ≡ s.held → giving_in cs ≡ None → held ≡ []
     → stopping_chore s (find is_giving s.consumers) ≡ None
@@ -260,8 +263,8 @@ none_mapped : (o : Option Pending) → None ≡ option_map (λ p. p.chore) o →
 none_mapped None e = refl
 none_mapped (Some p) e = absurd cc
 
--- If `awaited` and `what` are the next chore and its command, the worker `new`, in which this command waits for its
--- answer, stands for the record `past` with the command added.
+-- `awaited` and `what` are the next chore of the worker `w` and this chore's command, and in `new` this command waits
+-- for its answer. If `w` stands for the record `past`, `new` stands for `past` with the command added.
 pub asked_stands : {P F : Type 0} (stands : P → List Call → Type 0) (w new : WorkerStanding P F) (now : ℕ)
     (syncs : List SyncStep) (takes : List TakeStep) (awaited : Awaited) (what : Command) (past : WorkerPast)
     → w.waiting ≡ None → new ≡ record w { waiting = chore_of awaited syncs takes }
@@ -303,7 +306,7 @@ empty_list (x ∷ xs) h = absurd (none (length xs) h)
     none : (n : ℕ) → suc n < 1 → ⊥
     none n h = omega arith
 
--- A list with at least one item consists of its item at the index 0 and the items after it.
+-- A list with at least one item consists of the item at the index 0 and the items after it.
 pub first_list : {X : Type 0} (xs : List X) (x : X) → 1 ≤ length xs → x ≡ get_or xs 0 x → xs ≡ x ∷ drop 1 xs
 first_list [] x h e = absurd (none h)
   where
@@ -311,10 +314,10 @@ first_list [] x h e = absurd (none h)
     none h = omega arith
 first_list (y ∷ ys) x h e = ap (λ z. z ∷ ys) (sym e)
 
--- If the worker is stopped and `c` is the first consumer that has a batch to give, the Give of `c` comes next. `id` is
--- the lease of `c`, and `t` is its tenure.
+-- If the worker is stopped, and `c` is the first consumer whose next command is a Give, then this Give comes next. `id`
+-- is the lease of `c`, and `t` is the tenure of `c`.
 pub giving_as : {P : Type 0} (stands : P → List Call → Type 0) (made : WorkerMade) (s : WorkerState)
-    (syncs : List SyncStep) (takes : List TakeStep) (cs : List (ConsumerValue P)) (c : ConsumerValue P) (id : LeaseId)
+    (syncs : List SyncStep) (takes : List TakeStep) (cs : List (ConsumerValue P)) (c : ConsumerValue P) (id : TenancyId)
     (t : ℕ)
     → id ≡ id_in c → t ≡ c.made.tenure → ConsumersStand stands cs s.consumers → giving_in cs ≡ Some c
     → IsGiven made s syncs takes (stopping_chore s (find is_giving s.consumers)) (awaited.Finish id) (command.Give t)
@@ -325,12 +328,12 @@ giving_as stands made s syncs takes cs c id t a b stand found =
     (command.Give n)) (sym b)
     (giving_given stands made s syncs takes cs c stand found))
 
--- If the worker is among its consumers and `c` is the first one after the lease `last`, then the next command of `c` is
--- the worker's next command. `id` is the lease of `c`, and `counter` is the lease's counter.
+-- If the worker's round has come to the consumers, and `c` is the first consumer after the lease `last`, then the next
+-- command of `c` is the worker's next command. `id` is the lease of `c`, and `counter` is this lease's counter.
 pub consumer_as : {P : Type 0} (stands : P → List Call → Type 0) (made : WorkerMade) (s : WorkerState)
-    (syncs : List SyncStep) (takes : List TakeStep) (last : Option LeaseId) (cs : List (ConsumerValue P))
+    (syncs : List SyncStep) (takes : List TakeStep) (last : Option TenancyId) (cs : List (ConsumerValue P))
     (held : List Held)
-    (c : ConsumerValue P) (id : LeaseId) (counter : ℕ) (what : Command) → id ≡ id_in c → counter ≡ counter_of id held
+    (c : ConsumerValue P) (id : TenancyId) (counter : ℕ) (what : Command) → id ≡ id_in c → counter ≡ counter_of id held
     → ConsumersStand stands cs s.consumers → held ≡ s.held → past_in last cs ≡ Some c
     → next_command c.made c.stage counter ≡ Some what
     → IsGiven made s syncs takes (Some (from_consumers last s)) (awaited.Consume id) what
@@ -351,7 +354,7 @@ none_due_any (c ∷ cs) none = head (due_call c.stage) none (λ n. none_due_any 
     head None n rest = rest n
     head (Some due) n rest = absurd cc
 
--- If no item of a list is found for which `t` is true, `t` is true for none of them.
+-- If the search finds no item of a list for which `t` is true, `t` is true for no item of the list.
 pub none_found_any : {A : Type 0} (t : A → Bool) (xs : List A) → find t xs ≡ None → list_any t xs ≡ false
 none_found_any t [] none = refl
 none_found_any {A} t (x ∷ xs) none = head (t x) none (λ n. none_found_any t xs n)
@@ -385,7 +388,7 @@ stops_at : (failover now : ℕ) (s : WorkerState) (round : Round) → chore_from
 stops_at failover now s AtStopping none = (refl, none)
 stops_at failover now s _ none = absurd cc
 
--- A worker with no due processor call and no next chore is idle.
+-- If no processor call of the worker is due, and the worker has no next chore, it is idle.
 pub idle_so : {P F : Type 0} (stands : P → List Call → Type 0) (w : WorkerStanding P F) (s : WorkerState)
     (failover now : ℕ) → ShowsState stands w s → due_in w.consumers ≡ None → chore_from failover now s w.round ≡ None
     → is_idle_in w ≡ true
@@ -403,8 +406,8 @@ idle_so stands w s failover now shows none chore =
 
 -- ---- The fields that the code has written. `w` and `old` are the worker before
 
--- If `awaited` and `what` are the next chore and its command in each state with the worker's consumers and leases, the
--- worker that waits for the answer to `what` stands for its record with this command added.
+-- `awaited` and `what` are the next chore and this chore's command in each state with the worker's consumers and
+-- leases. Then the worker that waits for the answer to `what` stands for its record with this command added.
 pub asked_leaves : {P F : Type 0} (stands : P → List Call → Type 0) (w old : WorkerStanding P F) → w ≡ old
     → (now : ℕ) (syncs : List SyncStep) (takes : List TakeStep) (awaited : Awaited) (what : Command) (past : WorkerPast)
     → old.waiting ≡ None → ((s : WorkerState) → ConsumersStand stands w.consumers s.consumers → w.held ≡ s.held
@@ -421,7 +424,7 @@ asked_leaves {P} {F} stands w old is now syncs takes awaited what past free give
     (ap (λ v. v.waiting) is ∙ free) refl
     (given (worker_after w.made past) st0.shows.consumers st0.shows.held) st0)
 
--- A worker with no due processor call that isn't idle has a next chore.
+-- If no processor call of the worker is due, and the worker isn't idle, it has a next chore.
 pub none_left : {P F : Type 0} (stands : P → List Call → Type 0) (w old : WorkerStanding P F) → w ≡ old
     → (now : ℕ) (past : WorkerPast) → due_in old.consumers ≡ None → is_idle_in old ≡ false
     → ((s : WorkerState) → ConsumersStand stands w.consumers s.consumers → w.held ≡ s.held
@@ -436,7 +439,7 @@ none_left stands w old is now past none busy left st =
 
 -- ---- What callers see of a worker, and its record
 
--- If no processor call of the code's consumers is due, none of the record's consumers is due.
+-- If no processor call is due for the consumers of the code, none is due for the consumers of the record.
 pub none_due : {P : Type 0} (stands : P → List Call → Type 0) (cs : List (ConsumerValue P)) (ks : List Known)
     → due_in cs ≡ None → ConsumersStand stands cs ks → find is_due_known ks ≡ None
 none_due stands [] [] none s = refl

@@ -14,7 +14,7 @@ ghost use Rattle.kcl_worker.specs.Parts.{chore_of};
 
 use crate::round::{Awaited, Part};
 use kcl_consumer::{Consumer, Processor};
-use kcl_defs::{Held, LeaseId, SyncStep, TakeStep, WorkerMade};
+use kcl_defs::{Held, SyncStep, TakeStep, TenancyId, WorkerMade};
 use kcl_worker_lists::consumers::{first_giving, first_past, id_of};
 use kcl_worker_lists::leases::{counter_of, next_due};
 use kds_base::Moment;
@@ -25,7 +25,7 @@ use kds_defs::Command;
 pub fn from_consumers<P: Processor>(
     consumers: &[Consumer<P>],
     held: &[Held],
-    last: Option<LeaseId>,
+    last: Option<TenancyId>,
 ) -> (Awaited, Command)
     requires { AllByRecursion IsReady consumers.now }
     ensures next { IsNextOfAny P.stands_for consumers.now held.now (λ s. Some (from_consumers last s)) result }
@@ -57,7 +57,7 @@ fn renewal_of(h: &Held) -> Command
 pub fn from_renewals<P: Processor>(
     consumers: &[Consumer<P>],
     held: &[Held],
-    last: Option<LeaseId>,
+    last: Option<TenancyId>,
     now: Moment,
     failover: u64,
 ) -> (Awaited, Command)

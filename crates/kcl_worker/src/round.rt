@@ -7,17 +7,17 @@ ghost use Rattle.kcl_defs.specs.declared.plans.TakeStep.{TakeStep};
 ghost use Rattle.kcl_defs.specs.Workers.{is_stopping};
 ghost use Rattle.kcl_worker.specs.Parts.{round_of};
 
-use kcl_defs::{Held, LeaseId};
+use kcl_defs::{Held, TenancyId};
 
-/// The part of the round that a worker is in. In `Renewals` and `Consumers`, the `LeaseId` is that of the last lease
+/// The part of the round that a worker is in. In `Renewals` and `Consumers`, the `TenancyId` is that of the last lease
 /// that this part has handled, if any. `Stopping` means that the worker was stopped.
 #[derive(Clone, Copy, Debug, PartialEq, Eq)]
 pub enum Part {
     Survey,
     Sync,
     Takes,
-    Renewals(Option<LeaseId>),
-    Consumers(Option<LeaseId>),
+    Renewals(Option<TenancyId>),
+    Consumers(Option<TenancyId>),
     Stopping,
 }
 
@@ -29,8 +29,8 @@ pub enum Awaited {
     Sync,
     Take,
     Renew(Held),
-    Consume(LeaseId),
-    Finish(LeaseId),
+    Consume(TenancyId),
+    Finish(TenancyId),
     Free(Held),
 }
 

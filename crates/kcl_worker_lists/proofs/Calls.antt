@@ -8,7 +8,7 @@ use Rattle.std.proofs.Math.Seq.{drop-cons}
 use Rattle.kcl_defs.specs.declared.consumer.Ask.{Ask}
 use Rattle.kcl_defs.specs.declared.consumer.Call.{Call}
 use Rattle.kds_defs.specs.declared.reply.Stored.{Stored}
-use Rattle.kcl_defs.specs.declared.plans.LeaseId.{LeaseId}
+use Rattle.kcl_defs.specs.declared.plans.TenancyId.{TenancyId}
 use Rattle.kds_defs.specs.declared.reply.Refusal.{Refusal}
 use Rattle.kds_defs.specs.declared.reply.Reply.{Reply}
 use Rattle.kcl_defs.specs.Consumers.{after_answer, given_after}
@@ -23,8 +23,8 @@ split_at xs i x lt at =
     ∙ ap (λ l. take i xs ++ l) (drop-cons xs i x lt)
     ∙ ap (λ y. take i xs ++ (y ∷ drop (suc i) xs)) (sym at)
 
--- Let the consumer at the index `i` be the first with a due processor call, and let `d` be this consumer after the
--- call. Then the list with `d` in its place is the list after the first due call (`FirstCalled`).
+-- The consumer `c` at the index `i` is the first with a due processor call, and `d` is `c` after this call. Then `cs`
+-- with `d` at the index `i` is the list after the first due call (`FirstCalled`).
 pub first_called : {P : Type 0} (stands : P → List Call → Type 0) (asks : P → List Stored → Ask
     → Type 0) (asked : Ask) (i : ℕ) (cs new : List (ConsumerValue P)) (c d : ConsumerValue P) → IsFirstDue i cs
     → c ≡ get_or cs i c → new ≡ set cs i d → HasCalled stands asks asked c d → FirstCalled stands asks asked cs new
@@ -40,8 +40,8 @@ first_called stands asks asked i cs new c d f at is has = record {
   has = has;
 }
 
--- Let the consumer at the index `i` be the first with a due processor call, and let `d` be this consumer after the call
--- ran out of memory. Then the list with `d` in its place is the list after this call (`FirstUncalled`).
+-- The consumer `c` at the index `i` is the first with a due processor call, and `d` is `c` after this call ran out of
+-- memory. Then `cs` with `d` at the index `i` is the list after this call (`FirstUncalled`).
 pub first_uncalled : {P : Type 0} (stands : P → List Call → Type 0) (asks : P → List Stored → Ask
     → Type 0) (i : ℕ) (cs new : List (ConsumerValue P)) (c d : ConsumerValue P) → IsFirstDue i cs → c ≡ get_or cs i c
     → new ≡ set cs i d → IsAsBefore stands asks c d → FirstUncalled stands asks cs new
@@ -55,20 +55,20 @@ first_uncalled stands asks i cs new c d f at is has = record {
   has = has;
 }
 
--- If `P` implies `Q`, and `P` holds if the result is a success, `Q` holds if it is a success.
+-- If `P` implies `Q`, and `P` holds if the result is a success, then `Q` holds if the result is a success.
 pub on_ok : {A E : Type 0} (P Q : Type 0) (r : Result A E) → (P → Q) → OnOk r P → OnOk r Q
 on_ok P Q (Ok x) f h = f h
 on_ok P Q (Err e) f h = h
 
--- If `P` implies `Q`, and `P` holds if the result is an error, `Q` holds if it is an error.
+-- If `P` implies `Q`, and `P` holds if the result is an error, then `Q` holds if the result is an error.
 pub on_err : {A E : Type 0} (P Q : Type 0) (r : Result A E) → (P → Q) → OnErr r P → OnErr r Q
 on_err P Q (Ok x) f h = h
 on_err P Q (Err e) f h = f h
 
 -- ---- A loop that writes over each element
 
--- Let the first `i` items of `ys` be those of `xs` after `f`, and the others be those of `xs`. If the item at the index
--- `i` is replaced by its value under `f` as well, the first `i + 1` items are those of `xs` after `f`.
+-- Assume that `ys` is `xs` with `f` applied to the first `i` items. If `f` is also applied to the item at the index
+-- `i`, the result is `xs` with `f` applied to the first `i + 1` items.
 pub map_over : {X : Type 0} (f : X → X) (xs ys : List X) (i : ℕ) (x y : X) → i < length xs
     → ys ≡ map f (take i xs) ++ drop i xs → x ≡ get_or ys i x → y ≡ f x
     → set ys i y ≡ map f (take (i + 1) xs) ++ drop (i + 1) xs
@@ -76,16 +76,16 @@ map_over f xs ys i x y lt so_far at is = ap (λ z. set ys i z) is ∙ map_over_m
 
 -- ---- The consumer that takes an answer
 
--- If `d` differs from the consumer `c` only in the stage and the given number, as after the answer `answer`, then `d`
--- is `c` after this answer (`answered_in`).
+-- If `d` has the stage and the given number of the consumer `c` after the answer `answer`, and all other fields of `c`,
+-- then `d` is `c` after this answer (`answered_in`).
 pub answered_same : {P : Type 0} (answer : Result Reply Refusal) (c d : ConsumerValue P) → d.made ≡ c.made
     → d.stage ≡ after_answer c.made answer c.stage → d.given ≡ given_after answer c.stage c.given
     → d.processor ≡ c.processor → d ≡ answered_in answer c
 answered_same answer c d a b g e = λ i. record { made = a i; stage = b i; given = g i; processor = e i }
 
--- If the consumer at the index `i` is the first one of the lease `id`, the list in which it took the answer is the list
--- after the answer (`answered_among`).
-pub answered_here : {P : Type 0} (id : LeaseId) (answer : Result Reply Refusal) (i : ℕ) (cs : List (ConsumerValue P))
+-- The consumer `c` at the index `i` is the first one of the lease `id`, and `d` is `c` after the answer `answer`. Then
+-- `cs` with `d` at the index `i` is the list after this answer (`answered_among`).
+pub answered_here : {P : Type 0} (id : TenancyId) (answer : Result Reply Refusal) (i : ℕ) (cs : List (ConsumerValue P))
     (c d : ConsumerValue P) → IsFirstOf id i cs → c ≡ get_or cs i c → d ≡ answered_in answer c
     → set cs i d ≡ answered_among id answer cs
 answered_here id answer i cs c d f at is =

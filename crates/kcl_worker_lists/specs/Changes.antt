@@ -8,7 +8,7 @@ use Rattle.kcl_defs.specs.declared.consumer.Call.{Call}
 use Rattle.kcl_defs.specs.declared.consumer.Why.{Why}
 use Rattle.kcl_defs.specs.declared.consumer.Why.TheVariants as why
 use Rattle.kcl_defs.specs.declared.plans.Held.{Held}
-use Rattle.kcl_defs.specs.declared.plans.LeaseId.{LeaseId}
+use Rattle.kcl_defs.specs.declared.plans.TenancyId.{TenancyId}
 use Rattle.kds_base.specs.declared.lease_key.ShardRef.{ShardRef}
 use Rattle.kds_defs.specs.Keys.{same_key}
 use Rattle.kds_defs.specs.declared.reply.Refusal.{Refusal}
@@ -26,8 +26,8 @@ use Rattle.kcl_worker_lists.specs.Lists.{Retirement, is_due}
 abbrev pub lost_in : {P : Type 0} → ConsumerValue P → ConsumerValue P
 lost_in c = record c { stage = after_loss c.stage }
 
--- The consumer `c` after it took the answer `answer` to its command: its stage and the last number that it gave may
--- have changed.
+-- The consumer `c` after it took the answer `answer` to its command. Only the stage of `c`, and the last number that
+-- `c` gave, may have changed.
 abbrev pub answered_in : {P : Type 0} → Result Reply Refusal → ConsumerValue P → ConsumerValue P
 answered_in answer c =
     record c { stage = after_answer c.made answer c.stage; given = given_after answer c.stage c.given }
@@ -41,18 +41,18 @@ abbrev pub why_of : Stage → Why
 why_of (Over why) = why
 why_of _ = why.Lost
 
--- What is kept of the consumer `c` once it has ended: its key, its tenure, the reason, and its processor.
+-- What is kept of the consumer `c` once it has ended: its key, its tenure, the reason why it ended, and its processor.
 abbrev pub retire : {P : Type 0} → ConsumerValue P → Retirement P
 retire c = record { key = c.made.key; tenure = c.made.tenure; why = why_of c.stage; processor = c.processor }
 
 -- ---- Several consumers
 
--- The consumers `cs` after those for whose lease `test` is true have learnt that it is lost.
-abbrev pub lost_among : {P : Type 0} → (LeaseId → Bool) → List (ConsumerValue P) → List (ConsumerValue P)
+-- The consumers `cs` after each consumer for whose lease `test` is true has learnt that this lease is lost.
+abbrev pub lost_among : {P : Type 0} → (TenancyId → Bool) → List (ConsumerValue P) → List (ConsumerValue P)
 lost_among test cs = map (λ c. if test (id_in c) then lost_in c else c) cs
 
--- The consumers after the first one of the lease `id` took the answer `answer`.
-abbrev pub answered_among : {P : Type 0} → LeaseId → Result Reply Refusal → List (ConsumerValue P)
+-- The consumers in the last argument after the first one that belongs to the lease `id` took the answer `answer`.
+abbrev pub answered_among : {P : Type 0} → TenancyId → Result Reply Refusal → List (ConsumerValue P)
     → List (ConsumerValue P)
 answered_among id answer [] = []
 answered_among id answer (c ∷ cs) =
@@ -65,7 +65,7 @@ with_consumer c [] = c ∷ []
 with_consumer c (d ∷ ds) = if is_before_id (id_in c) (id_in d) then c ∷ d ∷ ds else d ∷ with_consumer c ds
 
 -- The consumers in the second argument without the first one of the lease `id`.
-abbrev pub without_consumer : {P : Type 0} → LeaseId → List (ConsumerValue P) → List (ConsumerValue P)
+abbrev pub without_consumer : {P : Type 0} → TenancyId → List (ConsumerValue P) → List (ConsumerValue P)
 without_consumer id [] = []
 without_consumer id (c ∷ cs) = if same_id (id_in c) id then cs else c ∷ without_consumer id cs
 
@@ -91,8 +91,9 @@ pub record IsFirstDue {P : Type 0} (i : ℕ) (cs : List (ConsumerValue P)) : Typ
   pub none_due : AllByRecursion (λ c. is_due c ≡ false) (take i cs)
   pub due : (c : ConsumerValue P) → c ≡ get_or cs i c → is_due c ≡ true
 
--- The due processor call of the first of the consumers `old` that has one was made, and the processor asked for
--- `asked`. In `new` this consumer is as it is after the call, and all others are unchanged.
+-- `one` is the first of the consumers `old` for whose processor a call is due. `new` has `called` in the place of
+-- `one`: this consumer after the call returned, with `asked` as what its processor asks for (`HasCalled`). All other
+-- consumers are unchanged.
 pub record FirstCalled {P : Type 0} (stands : P → List Call → Type 0) (asks : P → List Stored → Ask
     → Type 0) (asked : Ask)
     (old new : List (ConsumerValue P)) : Type 0 where
@@ -109,29 +110,30 @@ pub record FirstCalled {P : Type 0} (stands : P → List Call → Type 0) (asks 
 -- ---- The leases after a consumer's answer
 
 -- The first consumer of the lease `id`, if there is one.
-abbrev pub first_of : {P : Type 0} → LeaseId → List (ConsumerValue P) → Option (ConsumerValue P)
+abbrev pub first_of : {P : Type 0} → TenancyId → List (ConsumerValue P) → Option (ConsumerValue P)
 first_of id cs = find (λ c. same_id (id_in c) id) cs
 
--- The stage of the consumer, or `Opening` if there is none.
+-- The stage of the consumer in the argument, or `Opening` if there is no consumer.
 abbrev pub stage_or_opening : {P : Type 0} → Option (ConsumerValue P) → Stage
 stage_or_opening None = Opening
 stage_or_opening (Some c) = c.stage
 
 -- The leases `held`, without the lease `id` if its consumer (the second argument) has ended.
-abbrev pub kept_unless_over : {P : Type 0} → LeaseId → Option (ConsumerValue P) → List Held → List Held
+abbrev pub kept_unless_over : {P : Type 0} → TenancyId → Option (ConsumerValue P) → List Held → List Held
 kept_unless_over id None held = held
 kept_unless_over id (Some c) held = if is_over_in c then without_held id held else held
 
 -- The leases `held` after the answer to a command of the consumer of the lease `id` came at `now`. `cs` are the
--- consumers before the answer. If the answer has a counter, the lease gets it. The lease is dropped if an OpenShard or
--- a Mark was refused because of a loss, or if the consumer is over after the answer.
-abbrev pub held_in : {P : Type 0} → ℕ → LeaseId → Result Reply Refusal → List (ConsumerValue P) → List Held → List Held
+-- consumers before the answer. If the answer has a counter, this is the counter of the lease from `now` on. The lease
+-- is dropped if an OpenShard or a Mark was refused because of a loss, or if the consumer is over after the answer.
+abbrev pub held_in : {P : Type 0} → ℕ → TenancyId → Result Reply Refusal → List (ConsumerValue P) → List Held
+    → List Held
 held_in now id answer cs held =
     kept_unless_over id (first_of id (answered_among id answer cs))
     (held_after now id (stage_or_opening (first_of id cs)) answer held)
 
--- A due processor call of one of the consumers `old` ran out of memory, so the call is still due and nothing has
--- changed (`IsAsBefore`). In `new` the other consumers are unchanged, too.
+-- `new` has the consumers `old`, but with `same` in the place of `one`. The consumer `same` is as `one` was
+-- (`IsAsBefore`), so the same processor call is still due. This is so if a due processor call ran out of memory.
 pub record FirstUncalled {P : Type 0} (stands : P → List Call → Type 0) (asks : P → List Stored → Ask
     → Type 0) (old new : List (ConsumerValue P)) : Type 0 where
   pub before : List (ConsumerValue P)
@@ -142,14 +144,14 @@ pub record FirstUncalled {P : Type 0} (stands : P → List Call → Type 0) (ask
   pub is : new ≡ before ++ same ∷ behind
   pub has : IsAsBefore stands asks one same
 
--- Whether there is a consumer, and it has ended.
+-- Whether there is a consumer in the argument, and this consumer has ended.
 abbrev pub is_over_at : {P : Type 0} → Option (ConsumerValue P) → Bool
 is_over_at None = false
 is_over_at (Some c) = is_over_in c
 
--- The consumer at the index `i` is the first one of the lease `id` among `cs`. So an answer to a command of this lease
--- changes no consumer before the index `i`.
-pub record IsFirstOf {P : Type 0} (id : LeaseId) (i : ℕ) (cs : List (ConsumerValue P)) : Type 0 where
+-- The consumer at the index `i` is the first one of the lease `id` among `cs`. So an answer to a command of this
+-- lease's consumer changes no consumer before the index `i`.
+pub record IsFirstOf {P : Type 0} (id : TenancyId) (i : ℕ) (cs : List (ConsumerValue P)) : Type 0 where
   pub within : i < length cs
   pub before : (answer : Result Reply Refusal) → take i cs ++ answered_among id answer (drop i cs)
       ≡ answered_among id answer cs

@@ -12,9 +12,9 @@ before_next key (Some r) = is_before key r.key
 
 -- How many rows at the beginning of the list come before the key `key`. If the keys of the rows rise, this is the index
 -- of the key's row, or the index at which it would be inserted.
-abbrev pub index_of : ShardRef → List Row → ℕ
-index_of key [] = 0
-index_of key (r ∷ rs) = if is_before r.key key then suc (index_of key rs) else 0
+abbrev pub insertion_index : ShardRef → List Row → ℕ
+insertion_index key [] = 0
+insertion_index key (r ∷ rs) = if is_before r.key key then suc (insertion_index key rs) else 0
 
 -- The row in the second argument, if there is one and it has the key `key`.
 abbrev pub if_key : ShardRef → Option Row → Option Row

@@ -4,7 +4,7 @@ use Rattle.std.specs.List.{filter, find}
 use Rattle.kds_base.specs.declared.lease_key.ShardRef.{ShardRef}
 use Rattle.kcl_defs.specs.declared.consumer.Due.{Due}
 use Rattle.kcl_defs.specs.declared.consumer.Why.{Why}
-use Rattle.kcl_defs.specs.declared.plans.LeaseId.{LeaseId}
+use Rattle.kcl_defs.specs.declared.plans.TenancyId.{TenancyId}
 use Rattle.kcl_defs.specs.Consumers.{due_call}
 use Rattle.kcl_defs.specs.Workers.{is_giving_stage, is_past}
 use Rattle.kcl_consumer.specs.Standing.{ConsumerValue}
@@ -17,16 +17,16 @@ pub record Retirement (P : Type 0) : Type 0 where
   pub why : Why
   pub processor : P
 
--- The identity of the lease of the consumer `c`: its key and its tenure.
-abbrev pub id_in : {P : Type 0} → ConsumerValue P → LeaseId
+-- The identity of the lease of the consumer `c`: the lease's key and its tenure.
+abbrev pub id_in : {P : Type 0} → ConsumerValue P → TenancyId
 id_in c = record { key = c.made.key; tenure = c.made.tenure }
 
--- The first of the consumers `cs` whose lease comes after the lease `last`, if there is one. Without a lease `last`, it
--- is the first of all.
-abbrev pub past_in : {P : Type 0} → Option LeaseId → List (ConsumerValue P) → Option (ConsumerValue P)
+-- The first of the consumers `cs` whose lease comes after the lease `last`, if there is one. If `last` is None, this is
+-- the first of all consumers `cs`.
+abbrev pub past_in : {P : Type 0} → Option TenancyId → List (ConsumerValue P) → Option (ConsumerValue P)
 past_in last cs = find (λ c. is_past last (id_in c)) cs
 
--- The first of the consumers `cs` that has a batch to give, if there is one.
+-- The first of the consumers `cs` whose next command is a Give, if there is one.
 abbrev pub giving_in : {P : Type 0} → List (ConsumerValue P) → Option (ConsumerValue P)
 giving_in cs = find (λ c. is_giving_stage c.stage) cs
 
@@ -34,12 +34,14 @@ giving_in cs = find (λ c. is_giving_stage c.stage) cs
 abbrev pub is_due : {P : Type 0} → ConsumerValue P → Bool
 is_due c = is_some (due_call c.stage)
 
--- The call in the second argument, with the key of its consumer `c`. If no call is due, it is `rest`.
+-- The due call in the second argument, with the key of its consumer `c`. If there is no due call in the second
+-- argument, the result is `rest`.
 abbrev pub due_or : {P : Type 0} → ConsumerValue P → Option Due → Option (ShardRef × Due) → Option (ShardRef × Due)
 due_or c None rest = rest
 due_or c (Some due) rest = Some (c.made.key, due)
 
--- The first due processor call of the consumers, with the key of its consumer, if a call is due.
+-- The first due processor call of the consumers, with the key of the consumer to whose processor it is due. It is None
+-- if no call is due.
 abbrev pub due_in : {P : Type 0} → List (ConsumerValue P) → Option (ShardRef × Due)
 due_in [] = None
 due_in (c ∷ cs) = due_or c (due_call c.stage) (due_in cs)

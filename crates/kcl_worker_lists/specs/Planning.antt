@@ -4,7 +4,7 @@ use Rattle.std.specs.List.{filter, list_any}
 use Rattle.kds_base.specs.declared.lease_key.ShardRef.{ShardRef}
 use Rattle.kcl_defs.specs.declared.consumer.WorkerMade.{WorkerMade}
 use Rattle.kcl_defs.specs.declared.plans.Held.{Held}
-use Rattle.kcl_defs.specs.declared.plans.LeaseId.{LeaseId}
+use Rattle.kcl_defs.specs.declared.plans.TenancyId.{TenancyId}
 use Rattle.kcl_defs.specs.declared.plans.Seen.{Seen}
 use Rattle.kds_defs.specs.declared.reply.Refusal.{Refusal}
 use Rattle.kds_defs.specs.declared.reply.Reply.{Reply}
@@ -19,12 +19,13 @@ abbrev pub lost_of : List Row → List Held → List Held
 lost_of rows held = filter (λ h. not (still_stands rows h)) held
 
 -- Whether one of the leases `held` has the identity `id`.
-abbrev pub is_among : List Held → LeaseId → Bool
+abbrev pub is_among : List Held → TenancyId → Bool
 is_among held id = list_any (λ h. same_id (id_of_held h) id) held
 
--- `p` is what a worker plans after a survey at `now` that found the shards `shards` and the rows `rows`. Before, the
--- worker had seen `seen` and had the leases `held`. `p` contains what the worker has seen of each row since, the leases
--- that it keeps, those whose row is gone or names another tenure, the sync plan, and the take plan.
+-- `p` is what a worker plans after a survey at `now` that found the shards `shards` and the rows `rows`. Before the
+-- survey, the worker had seen `seen` of the rows and had the leases `held`. `p` has what the worker has seen of each
+-- key's row now, the sync plan and the take plan. `p` also has the leases that the worker keeps, and those whose row is
+-- gone or names another tenure.
 pub record IsPlanned (made : WorkerMade) (seen : List Seen) (held : List Held) (shards : List ShardRef)
     (rows : List Row) (now : ℕ) (p : Planned) : Type 0 where
   pub seen_so : (key : ShardRef) → seen_at p.observed key ≡ after_rows rows now (seen_at seen) key
@@ -34,8 +35,8 @@ pub record IsPlanned (made : WorkerMade) (seen : List Seen) (held : List Held) (
   pub takes_so : p.takes
       ≡ take_plan (expiry (seen_at p.observed) now made.settings.failover) made.name p.held.items rows
 
--- If the answer is that of an accepted survey, `p` exists and is what the worker plans then (`IsPlanned`). After any
--- other answer there is no plan.
+-- If the answer is that of an accepted survey, the last argument has what the worker plans after this survey
+-- (`IsPlanned`). After any other answer, the last argument is None.
 abbrev pub IsPlannedAfter : WorkerMade → List Seen → List Held → ℕ → Result Reply Refusal → Option Planned → Type 0
 IsPlannedAfter made seen held now (Ok (reply.Survey shards rows)) (Some p) = IsPlanned made seen held shards rows now p
 IsPlannedAfter made seen held now (Ok (reply.Survey shards rows)) None = ⊥

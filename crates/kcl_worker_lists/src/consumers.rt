@@ -12,7 +12,7 @@ ghost use Rattle.kcl_defs.specs.declared.consumer.Ask.{Ask};
 ghost use Rattle.std.specs.Option.{option_map};
 ghost use Rattle.kcl_worker_lists.specs.Planning.{is_among};
 ghost use Rattle.kcl_worker_lists.specs.Lists.{giving_in, id_in, past_in};
-ghost use Rattle.kcl_defs.specs.Workers.{is_giving_stage, is_writing, same_id};
+ghost use Rattle.kcl_defs.specs.Workers.{is_giving_stage, opens_or_marks, same_id};
 ghost use Rattle.kcl_worker_lists.specs.Changes.{FirstCalled, FirstUncalled, IsFirstDue, IsFirstOf, answered_among};
 ghost use Rattle.kcl_worker_lists.specs.Changes.{is_over_at, lost_among, lost_in, first_of, stage_or_opening};
 ghost use Rattle.kcl_worker_lists.specs.Changes.{with_consumer};
@@ -21,15 +21,15 @@ ghost use Rattle.kcl_worker_lists.specs.Lists.{due_in, is_due};
 use crate::leases::{is_before_id, is_past, same_id};
 use crate::planning::is_among;
 use kcl_consumer::{Consumer, Processor};
-use kcl_defs::{Held, LeaseId};
+use kcl_defs::{Held, TenancyId};
 use kds_base::Memory;
 use kds_defs::{Answer, let_go};
 
 /// Returns the key and the tenure number of the consumer's lease.
-pub fn id_of<P: Processor>(c: &Consumer<P>) -> LeaseId
+pub fn id_of<P: Processor>(c: &Consumer<P>) -> TenancyId
     ensures { result ≡ id_in c.now }
 {
-    LeaseId {
+    TenancyId {
         key: c.key(),
         tenure: c.tenure(),
     }
@@ -39,7 +39,7 @@ pub fn id_of<P: Processor>(c: &Consumer<P>) -> LeaseId
 /// returns the first consumer in the list.
 pub fn first_past<'a, P: Processor>(
     consumers: &'a [Consumer<P>],
-    last: &Option<LeaseId>,
+    last: &Option<TenancyId>,
 ) -> Option<&'a Consumer<P>>
     ensures { option_map (λ c. c.now) result ≡ past_in last.now consumers.now }
 {
@@ -108,7 +108,7 @@ pub fn lose_all<P: Processor>(consumers: &mut Vec<Consumer<P>>)
 
 /// Tells the consumers of the lease `id` that this lease is lost.
 #[tactic(auto, using(crate::proofs::Calls::map_over))]
-pub fn lose_one<P: Processor>(consumers: &mut Vec<Consumer<P>>, id: &LeaseId)
+pub fn lose_one<P: Processor>(consumers: &mut Vec<Consumer<P>>, id: &TenancyId)
     ensures { consumers.new.items ≡ lost_among (λ i. same_id i id.now) consumers.old.items }
 {
     for c in consumers.iter_mut() {
@@ -157,7 +157,10 @@ pub fn call_first<P: Processor>(consumers: &mut Vec<Consumer<P>>) -> Result<(), 
 }
 
 /// Returns the first consumer of the lease `id`, or `None` if the lease has no consumer.
-fn first_of<'a, P: Processor>(consumers: &'a [Consumer<P>], id: &LeaseId) -> Option<&'a Consumer<P>>
+fn first_of<'a, P: Processor>(
+    consumers: &'a [Consumer<P>],
+    id: &TenancyId,
+) -> Option<&'a Consumer<P>>
     ensures { option_map (λ c. c.now) result ≡ first_of id.now consumers.now }
 {
     for c in consumers {
@@ -170,17 +173,17 @@ fn first_of<'a, P: Processor>(consumers: &'a [Consumer<P>], id: &LeaseId) -> Opt
 
 /// Whether the next command of the first consumer of the lease `id` is an OpenShard (it opens the shard) or a Mark (it
 /// sets the checkpoint). If the lease has no consumer, the result is `true`.
-pub fn is_writing_at<P: Processor>(consumers: &[Consumer<P>], id: &LeaseId) -> bool
-    ensures { result ≡ is_writing (stage_or_opening (first_of id.now consumers.now)) }
+pub fn opens_or_marks_at<P: Processor>(consumers: &[Consumer<P>], id: &TenancyId) -> bool
+    ensures { result ≡ opens_or_marks (stage_or_opening (first_of id.now consumers.now)) }
 {
     match first_of(consumers, id) {
-        Some(c) => c.is_writing(),
+        Some(c) => c.opens_or_marks(),
         None => true,
     }
 }
 
 /// Whether the first consumer of the lease `id` is over. If the lease has no consumer, the result is `false`.
-pub fn is_over_at<P: Processor>(consumers: &[Consumer<P>], id: &LeaseId) -> bool
+pub fn is_over_at<P: Processor>(consumers: &[Consumer<P>], id: &TenancyId) -> bool
     ensures { result ≡ is_over_at (first_of id.now consumers.now) }
 {
     match first_of(consumers, id) {
@@ -190,7 +193,7 @@ pub fn is_over_at<P: Processor>(consumers: &[Consumer<P>], id: &LeaseId) -> bool
 }
 
 /// Returns the index of the first consumer of the lease `id`, or `None` if the lease has no consumer.
-fn index_of<P: Processor>(consumers: &[Consumer<P>], id: &LeaseId) -> Option<usize>
+fn index_of<P: Processor>(consumers: &[Consumer<P>], id: &TenancyId) -> Option<usize>
     ensures some { IfSome result (λ i. IsFirstOf id.now i consumers.now) }
     ensures none { IfNone result ((answer : Result Reply Refusal)
         → answered_among id.now answer consumers.now ≡ consumers.now) }
@@ -205,7 +208,7 @@ fn index_of<P: Processor>(consumers: &[Consumer<P>], id: &LeaseId) -> Option<usi
 
 /// Updates the first consumer of the lease `id` with the answer to this consumer's last command. If the lease has no
 /// consumer, the answer is dropped.
-pub fn absorb_one<P: Processor>(consumers: &mut Vec<Consumer<P>>, id: &LeaseId, answer: Answer)
+pub fn absorb_one<P: Processor>(consumers: &mut Vec<Consumer<P>>, id: &TenancyId, answer: Answer)
     ensures absorbed { consumers.new.items ≡ answered_among id.now answer consumers.old.items }
     ensures len { vec_len consumers.new ≡ vec_len consumers.old }
 {

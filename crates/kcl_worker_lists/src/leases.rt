@@ -8,11 +8,11 @@ ghost use Rattle.kcl_defs.specs.Plans.{is_due, renewed_held};
 ghost use Rattle.kcl_defs.specs.Workers.{counter_of, id_of_held, is_before_id, is_nothing_held, is_past, renewed};
 ghost use Rattle.kcl_defs.specs.Workers.{same_id, with_held, without_held};
 
-use kcl_defs::{Held, LeaseId};
+use kcl_defs::{Held, TenancyId};
 use kds_base::Moment;
 
 /// Whether `a` and `b` identify the same lease: both the keys and the tenure numbers are equal.
-pub fn same_id(a: &LeaseId, b: &LeaseId) -> bool
+pub fn same_id(a: &TenancyId, b: &TenancyId) -> bool
     ensures { result ≡ same_id a.now b.now }
 {
     a.key == b.key && a.tenure == b.tenure
@@ -20,7 +20,7 @@ pub fn same_id(a: &LeaseId, b: &LeaseId) -> bool
 
 /// Whether the lease `a` comes before the lease `b` in the order of stream numbers, then shard numbers, then tenure
 /// numbers.
-pub fn is_before_id(a: &LeaseId, b: &LeaseId) -> bool
+pub fn is_before_id(a: &TenancyId, b: &TenancyId) -> bool
     ensures { result ≡ is_before_id a.now b.now }
 {
     if a.key.stream != b.key.stream {
@@ -34,7 +34,7 @@ pub fn is_before_id(a: &LeaseId, b: &LeaseId) -> bool
 
 /// Whether the lease `id` comes after the lease `last` in the order of the list. If `last` is `None`, the result is
 /// `true`.
-pub fn is_past(last: &Option<LeaseId>, id: &LeaseId) -> bool
+pub fn is_past(last: &Option<TenancyId>, id: &TenancyId) -> bool
     ensures { result ≡ is_past last.now id.now }
 {
     match last {
@@ -44,17 +44,17 @@ pub fn is_past(last: &Option<LeaseId>, id: &LeaseId) -> bool
 }
 
 /// Returns the key and the tenure number of the lease `h`.
-pub fn id_of_held(h: &Held) -> LeaseId
+pub fn id_of_held(h: &Held) -> TenancyId
     ensures { result ≡ id_of_held h.now }
 {
-    LeaseId {
+    TenancyId {
         key: h.key,
         tenure: h.tenure,
     }
 }
 
 /// Returns the row counter that the lease `id` has in `held`, or 0 if `held` doesn't have this lease.
-pub fn counter_of(held: &[Held], id: &LeaseId) -> u64
+pub fn counter_of(held: &[Held], id: &TenancyId) -> u64
     ensures { result ≡ counter_of id.now held.now }
 {
     for h in held {
@@ -67,7 +67,7 @@ pub fn counter_of(held: &[Held], id: &LeaseId) -> u64
 
 /// Returns the first lease in the list that comes after the lease `last` and is due for renewal at the moment `now`.
 /// If `last` is `None`, the search begins at the first lease. `failover` is the failover time in milliseconds.
-pub fn next_due(held: &[Held], last: &Option<LeaseId>, now: Moment, failover: u64) -> Option<Held>
+pub fn next_due(held: &[Held], last: &Option<TenancyId>, now: Moment, failover: u64) -> Option<Held>
     ensures { result ≡ find (λ h. is_past last.now (id_of_held h) && is_due h now failover) held.now }
 {
     for h in held {
@@ -90,7 +90,7 @@ fn renew_if(h: &mut Held, same: bool, counter: u64, now: Moment)
 
 /// Notes that the row of the lease `id` was written at the moment `now` and has the counter `counter`.
 #[tactic(auto, using(crate::proofs::Calls::map_over))]
-pub fn renew(held: &mut Vec<Held>, id: &LeaseId, counter: u64, now: Moment)
+pub fn renew(held: &mut Vec<Held>, id: &TenancyId, counter: u64, now: Moment)
     ensures { held.new.items ≡ renewed id.now counter now held.old.items }
 {
     for h in held.iter_mut() {
@@ -100,7 +100,7 @@ pub fn renew(held: &mut Vec<Held>, id: &LeaseId, counter: u64, now: Moment)
 }
 
 /// Removes the lease `id` from the list.
-pub fn drop_held(held: &mut Vec<Held>, id: &LeaseId)
+pub fn drop_held(held: &mut Vec<Held>, id: &TenancyId)
     ensures { held.new.items ≡ without_held id.now held.old.items }
 {
     let mut i = 0;

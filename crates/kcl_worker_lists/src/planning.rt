@@ -9,7 +9,7 @@ ghost use Rattle.kcl_worker_lists.specs.Planning.{IsPlanned, IsPlannedAfter, los
 
 use crate::leases::{id_of_held, same_id};
 use crate::search::{are_rising, row_of};
-use kcl_defs::{Held, LeaseId, SyncStep, TakeStep, WorkerMade};
+use kcl_defs::{Held, SyncStep, TakeStep, TenancyId, WorkerMade};
 use kcl_take::Observed;
 use kds_base::{Items, Memory, Moment, ShardRef};
 use kds_defs::{Answer, Reply, Row};
@@ -41,7 +41,7 @@ fn still_stands(rows: &[Row], h: &Held, rising: bool) -> bool
 }
 
 /// Returns the leases in `held` that the worker still holds: the lease's row is in `rows` and names the lease's tenure.
-fn standing(alloc: Global, rows: &[Row], held: &[Held]) -> Result<Vec<Held>, Memory>
+fn still_held(alloc: Global, rows: &[Row], held: &[Held]) -> Result<Vec<Held>, Memory>
     ensures { IfOk result (λ kept. kept.items ≡ filter (still_stands rows.now) held.now) }
 {
     let rising = are_rising(rows);
@@ -70,7 +70,7 @@ fn lost_of(alloc: Global, rows: &[Row], held: &[Held]) -> Result<Vec<Held>, Memo
 }
 
 /// Whether the lease `id` is in the list `held`.
-pub fn is_among(held: &[Held], id: &LeaseId) -> bool
+pub fn is_among(held: &[Held], id: &TenancyId) -> bool
     ensures { result ≡ is_among held.now id.now }
 {
     for h in held {
@@ -83,7 +83,7 @@ pub fn is_among(held: &[Held], id: &LeaseId) -> bool
 
 /// Computes a worker's notes, leases and plans after a survey, which listed `shards` and `rows`. The worker's notes
 /// before the survey are `observed`, and its leases are `held`. The error means out of memory.
-pub fn plan_survey(
+pub fn plans_from_survey(
     alloc: Global,
     made: &WorkerMade,
     observed: &Observed,
@@ -96,7 +96,7 @@ pub fn plan_survey(
 {
     let observed = observed.with_rows(alloc, rows, now)?;
     let lost = lost_of(alloc, rows, held)?;
-    let held = standing(alloc, rows, held)?;
+    let held = still_held(alloc, rows, held)?;
     let syncs = kcl_sync::plan(alloc, shards, rows, made.settings.from)?;
     let takes = kcl_take::plan(
         alloc,
@@ -131,7 +131,7 @@ pub fn plan_after(
     match answer {
         Ok(reply) => match reply {
             Reply::Survey { shards, rows } => {
-                let planned = plan_survey(
+                let planned = plans_from_survey(
                     alloc,
                     made,
                     observed,

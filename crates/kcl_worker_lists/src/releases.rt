@@ -8,7 +8,7 @@ ghost use Rattle.kcl_worker_lists.specs.Changes.{has_one, leaving_in, first_of, 
 use crate::consumers::id_of;
 use crate::leases::{id_of_held, same_id};
 use kcl_consumer::{Consumer, Processor};
-use kcl_defs::{Held, LeaseId};
+use kcl_defs::{Held, TenancyId};
 use kds_base::ShardRef;
 
 /// Whether the list `consumers` has a consumer of the lease `h`.
@@ -45,7 +45,7 @@ pub fn leaving<P: Processor>(
 /// returns `None` and leaves the list unchanged. Needs no memory.
 pub fn take_consumer<P: Processor>(
     consumers: &mut Vec<Consumer<P>>,
-    id: &LeaseId,
+    id: &TenancyId,
 ) -> Option<Consumer<P>>
     ensures taken { result ≡ first_of id.now consumers.old.items }
     ensures left { consumers.new.items ≡ without_consumer id.now consumers.old.items }

@@ -3,7 +3,7 @@
 ghost use Rattle.std.specs.Prelude.{◌≡◌, ◌≤◌, length, slice_get, true};
 ghost use Rattle.std.specs.Option.{option_map};
 ghost use Rattle.kcl_defs.specs.Plans.{AreRising, keys_of, row_of};
-ghost use Rattle.kcl_worker_lists.specs.Indexes.{before_next, if_key, index_of};
+ghost use Rattle.kcl_worker_lists.specs.Indexes.{before_next, if_key, insertion_index};
 
 use kds_base::ShardRef;
 use kds_defs::{Row, is_before};
@@ -35,9 +35,9 @@ pub fn are_rising(rows: &[Row]) -> bool
 
 /// Returns the number of rows whose keys come before `key`. This is the index at which the row with the key `key`
 /// stands, if there is one.
-fn index_of(rows: &[Row], key: &ShardRef) -> usize
+fn insertion_index(rows: &[Row], key: &ShardRef) -> usize
     requires { AreRising (keys_of rows.now) }
-    ensures value { result ≡ index_of key.now rows.now }
+    ensures value { result ≡ insertion_index key.now rows.now }
     ensures within { result ≤ length rows.now }
 {
     rows.partition_point(|row| is_before(&row.key, key))
@@ -57,7 +57,7 @@ fn search_row<'a>(rows: &'a [Row], key: &ShardRef) -> Option<&'a Row>
     requires { AreRising (keys_of rows.now) }
     ensures { option_map (λ r. r.now) result ≡ row_of rows.now key.now }
 {
-    row_at(rows, index_of(rows, key), key)
+    row_at(rows, insertion_index(rows, key), key)
 }
 
 /// Returns the first row with the key `key`, or `None` if no row has this key.

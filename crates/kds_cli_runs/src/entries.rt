@@ -133,7 +133,7 @@ impl Keep for Journal {
         Ok(answer)
     }
 
-    fn clear(&mut self) {
+    fn clear_text(&mut self) {
         if let Some(text) = &mut self.text {
             text.clear();
         }

@@ -10,7 +10,7 @@ use Rattle.kds_defs.specs.declared.reply.Refusal.{Refusal}
 use Rattle.kds_defs.specs.declared.reply.Refusal.TheVariants as refusal
 use Rattle.kds_defs.specs.declared.reply.Row.{Row}
 use Rattle.kds_defs.specs.Decision.{Decision, refuse◌if◌else◌, with◌or◌then◌}
-use Rattle.kds_defs.specs.Leases.{counter_in, tenure_in, checkpoint_in, floor_in, is_end, reads_end}
+use Rattle.kds_defs.specs.Leases.{counter_in, tenure_in, checkpoint_in, floor_in, is_end, is_marked_to_end}
 use Rattle.kds_defs.specs.StreamCommands.{last_number}
 
 -- How answers of the type `A` are refused. `when r b next` is the refusal `r` if `b` is true, and the answer `next`
@@ -44,8 +44,8 @@ past_counter by o counter next =
     next r))
 
 -- The answer that `next` gives to a take of the row `o`. The take is refused if there is no row, its counter isn't
--- `counter`, or its checkpoint is the shard's end. It is also refused if `spent` is true of the row, so that a number
--- that the take needs is used up.
+-- `counter`, or its checkpoint is the shard's end. It is also refused if `spent` is true of the row, which means that a
+-- number that the take needs is used up.
 abbrev pub past_take : {A : Type 0} → Refusing A → Option Row → ℕ → (Row → Bool) → (Row → A) → A
 past_take by o counter spent next =
     past_counter by o counter (λ r.
@@ -53,11 +53,11 @@ past_take by o counter spent next =
     by.when refusal.Spent (spent r) (
     next r)))
 
--- The answer `next`, or a refusal if the row `o` doesn't name tenure `t` as the one that holds it.
+-- The answer `next`, or a refusal if the tenure that holds the row `o` (`tenure_in`) isn't tenure `t`.
 abbrev pub past_tenure : {A : Type 0} → Refusing A → Option Row → ℕ → A → A
 past_tenure by o t next = by.when (refusal.Lost (tenure_in o)) (not (tenure_in o == t)) next
 
--- The answer `next`, or a refusal if the row `o` doesn't name tenure `t` as the one that holds it, or its counter isn't
+-- The answer `next`, or a refusal if the tenure that holds the row `o` isn't tenure `t`, or the row's counter isn't
 -- `counter`.
 abbrev pub past_held : {A : Type 0} → Refusing A → Option Row → ℕ → ℕ → A → A
 past_held by o t counter next =
@@ -65,12 +65,12 @@ past_held by o t counter next =
     by.when (refusal.Moved (counter_in o)) (not (counter_in o == counter)) (
     next))
 
--- The answer `next`, or a refusal if the counter of the row `o` has the greatest number that it can have.
+-- The answer `next`, or a refusal if the counter of the row `o` is `last_number`, the greatest possible number.
 abbrev pub past_last : {A : Type 0} → Refusing A → Option Row → A → A
 past_last by o next = by.when refusal.Spent (counter_in o == last_number) next
 
--- The answer `next` to tenure `t`, which renews or frees the row `o`. The write is refused if the row doesn't name
--- tenure `t`, or its counter isn't `counter` or can't rise.
+-- The answer `next` to a renewal or a freeing of the row `o` by tenure `t`. The write is refused if tenure `t` doesn't
+-- hold the row, or if the row's counter isn't `counter` or can't rise.
 abbrev pub past_renewal : {A : Type 0} → Refusing A → Option Row → ℕ → ℕ → A → A
 past_renewal by o t counter next = past_held by o t counter (past_last by o next)
 
@@ -86,20 +86,21 @@ least ShardEnd floor = floor
 -- the shard's end. The shard's end needs `at_end`: the last given read ended the shard.
 abbrev pub past_checkpoint : {A : Type 0} → Refusing A → Option Row → Target → ℕ → Bool → A → A
 past_checkpoint by o (target.At q) delivered at_end next =
-    by.when refusal.Ended (reads_end o) (
+    by.when refusal.Ended (is_marked_to_end o) (
     by.when (refusal.Beyond delivered) (nat_le delivered q) (
     by.when (refusal.Below (least (checkpoint_in o) (floor_in o))) (nat_lt q (least (checkpoint_in o) (floor_in o))) (
     next)))
 past_checkpoint by o target.End delivered at_end next = by.when refusal.NotAtEnd (not at_end) next
 
--- The answer `next` to tenure `t`, which sets the checkpoint of the row `o` to `to`. The write is refused if the row
--- doesn't name tenure `t`, its counter isn't `counter` or can't rise, or `to` isn't allowed. `delivered` is one past
--- the last given record, and `at_end` says whether the last given read ended the shard.
+-- The answer `next` to a mark, by which tenure `t` sets the checkpoint of the row `o` to `to`. The mark is refused if
+-- tenure `t` doesn't hold the row, the row's counter isn't `counter` or can't rise, or `to` isn't allowed
+-- (`past_checkpoint`). `delivered` is one past the last given record, and `at_end` says whether the last given read
+-- ended the shard.
 abbrev pub past_mark : {A : Type 0} → Refusing A → Option Row → ℕ → ℕ → Target → ℕ → Bool → A → A
 past_mark by o t counter to delivered at_end next =
     past_held by o t counter (past_checkpoint by o to delivered at_end (past_last by o next))
 
 -- The answer `next` to the removal of the row `o`. The removal is refused if there is no row, its counter isn't
--- `counter`, or `listed` is true: its shard is still listed.
+-- `counter`, or `listed` is true, which means that the row's shard is still listed.
 abbrev pub past_cut : {A : Type 0} → Refusing A → Option Row → ℕ → Bool → A → A
 past_cut by o counter listed next = past_counter by o counter (λ r. by.when refusal.ShardListed listed next)

@@ -12,7 +12,8 @@ use Rattle.kds_defs.specs.declared.entry.Entry.{Entry}
 use Rattle.kds_defs.specs.declared.entry.Entry.TheVariants as entry
 use Rattle.kds_defs.specs.declared.reply.Row.{Row}
 use Rattle.kds_defs.specs.Journal.{Journal}
-use Rattle.kds_defs.specs.Leases.{row, counter_in, tenure_in, reads_end, tenure, TenureState, ReadDone, given_reads}
+use Rattle.kds_defs.specs.Leases.{row, counter_in, tenure_in, is_marked_to_end, tenure, TenureState, ReadDone}
+use Rattle.kds_defs.specs.Leases.{given_reads}
 use Rattle.kds_defs.specs.Leases.{key_of}
 use Rattle.kds_defs.specs.Records.{Logged, records, next_number}
 use Rattle.kds_defs.specs.Shards.{ShardState, shard_at, is_open, open_shards, is_expired}
@@ -47,8 +48,9 @@ pub record IsHome (log : Journal) (s k sh : ℕ) : Type 0 where
   pub is_open_now : is_open state ≡ true
   pub contains : Covers state.range k
 
--- If the entry is a put, its shard is open and contains the put's hash key (`IsHome`). If it is a put, a split or a
--- merge, its sequence number is the next one of its stream. This is so after the lines of `log`.
+-- The entry is as it should be after the lines of `log`. If the entry is a put, its shard is open, and the shard's
+-- range contains the put's hash key (`IsHome`). If the entry is a put, a split or a merge, its sequence number is the
+-- next one of its stream.
 abbrev pub IsPlaced : Journal → Entry → Type 0
 IsPlaced log (entry.Put s sh number hash bytes key_bytes) = IsHome log s hash sh × (number ≡ next_number log s)
 IsPlaced log (entry.Split s sh at number low high) = number ≡ next_number log s
@@ -75,9 +77,9 @@ pub record WritesRow (log : Journal) (by t counter : ℕ) : Type 0 where
   pub holds : HoldsRow log by t
   pub next : counter ≡ counter_in (row log holds.state.key) + 1
 
--- If the entry renews, frees or marks the row of a tenure, the tenure is that of the actor `by` and holds the row, and
--- the entry's counter is one above the row's. If the entry opens a tenure, the tenure is that of the actor `by` and
--- holds its row.
+-- If the entry renews, frees or marks the row of a tenure, the tenure is that of the actor `by` and holds the row. The
+-- entry's counter then is one above the row's counter (`WritesRow`). If the entry opens a tenure, the tenure is that of
+-- the actor `by` and holds its row.
 abbrev pub IsFenced : Journal → ℕ → Entry → Type 0
 IsFenced log by (entry.Renewed t counter) = WritesRow log by t counter
 IsFenced log by (entry.Freed t counter) = WritesRow log by t counter
@@ -93,16 +95,16 @@ AreFenced (line ∷ log) = IsFenced log line.by line.what × AreFenced log
 
 -- ---- Lineage: a shard is opened after its parents, and read after it was opened
 
--- There is a shard, and it is expired in stream `s` at the clock `c`.
+-- There is a shard, and as a shard of stream `s` it is expired at the clock `c`.
 abbrev pub IsExpiredState : Journal → ℕ → ℕ → Option ShardState → Type 0
 IsExpiredState log c s None = ⊥
 IsExpiredState log c s (Some x) = is_expired log c s x ≡ true
 
--- If there is a parent in stream `s`, it is past at the clock `c`: the checkpoint of its row is the shard's end, or the
--- parent is expired.
+-- If there is a parent in stream `s`, the parent is past at the clock `c`: the checkpoint of the parent's row is the
+-- shard's end, or the parent is expired.
 abbrev pub IsPast : Journal → ℕ → ℕ → Option ℕ → Type 0
 IsPast log c s None = Unit {0}
-IsPast log c s (Some parent) = (reads_end (row log (ref s parent)) ≡ true)
+IsPast log c s (Some parent) = (is_marked_to_end (row log (ref s parent)) ≡ true)
     ⊎ IsExpiredState log c s (shard_at log s parent)
 
 -- There is a shard in stream `s`, and each parent that it has was processed to its end or is expired at the clock `c`
@@ -134,8 +136,8 @@ IsInLine log c (entry.Opened t) = AreParentsPast log c (key_of log t)
 IsInLine log c (entry.Read t limit ended numbers) = WasOpened log t
 IsInLine log c _ = Unit {0}
 
--- Each opening in a journal came after the parents of its shard were processed to their end or expired. Each read came
--- after an opening of its tenure (`IsInLine`).
+-- Each opening of a tenure in a journal came after the parents of the tenure's shard were processed to their end or
+-- expired. Each read of a tenure came after an opening of this tenure (`IsInLine`).
 abbrev pub AreInLine : Journal → Type 0
 AreInLine [] = Unit {0}
 AreInLine (line ∷ log) = IsInLine log line.clock line.what × AreInLine log

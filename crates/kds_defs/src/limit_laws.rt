@@ -8,8 +8,8 @@ ghost use Rattle.kds_defs.specs.declared.limits.TheConstants.{KEY_CHARACTERS, RE
 ghost use Rattle.kds_defs.specs.declared.limits.TheConstants.{TOKEN_LIFE, FIRST_HOURS, LEAST_HOURS, MOST_HOURS, HOUR};
 ghost use Rattle.kds_defs.specs.declared.limits.TheConstants.{BATCH_BYTES, MOST, PENDING_READS};
 ghost use Rattle.kds_defs.specs.declared.limits.TheConstants.{SECOND, SECOND_RECORDS, SECOND_BYTES};
-ghost use Rattle.kds_defs.specs.declared.limits.TheConstants.{RECORDS_LIMIT, SHARDS_LIMIT, DESCRIBED_LIMIT};
-ghost use Rattle.kds_defs.specs.declared.limits.TheConstants.{NAMES_LIMIT, MOST_SECONDS};
+ghost use Rattle.kds_defs.specs.declared.limits.TheConstants.{DEFAULT_RECORDS, DEFAULT_SHARDS, DEFAULT_DESCRIBED};
+ghost use Rattle.kds_defs.specs.declared.limits.TheConstants.{DEFAULT_NAMES, MOST_SECONDS};
 ghost use Rattle.kds_defs.specs.declared.limits.TheConstants.{API_ACTOR, MOST_ACTOR, OPERATION_BYTES, LINE_BYTES};
 ghost use Rattle.kds_defs.specs.declared.limits.TheConstants.{INPUT_BYTES};
 
@@ -44,10 +44,10 @@ pub fn rate_limits()
 /// States how many items a request without a limit gets at most, and the greatest time, in seconds, that a request may
 /// name (Kinesis API Reference, the operations).
 pub fn request_limits()
-    ensures records { RECORDS_LIMIT ≡ 10000 }
-    ensures shards { SHARDS_LIMIT ≡ 1000 }
-    ensures described { DESCRIBED_LIMIT ≡ 100 }
-    ensures names { NAMES_LIMIT ≡ 100 }
+    ensures records { DEFAULT_RECORDS ≡ 10000 }
+    ensures shards { DEFAULT_SHARDS ≡ 1000 }
+    ensures described { DEFAULT_DESCRIBED ≡ 100 }
+    ensures names { DEFAULT_NAMES ≡ 100 }
     ensures seconds { MOST_SECONDS ≡ 4611686018427387 }
 {}
 

@@ -67,18 +67,18 @@ pub const SECOND_BYTES: u64 = 1_048_576;
 pub const PENDING_READS: u64 = 8;
 
 /// The most records that GetRecords returns if the request has no Limit (Kinesis API Reference, GetRecords, Limit).
-pub const RECORDS_LIMIT: u32 = 10_000;
+pub const DEFAULT_RECORDS: u32 = 10_000;
 
 /// The most shards that ListShards returns if the request has no MaxResults (Kinesis API Reference, ListShards,
 /// MaxResults).
-pub const SHARDS_LIMIT: u32 = 1_000;
+pub const DEFAULT_SHARDS: u32 = 1_000;
 
 /// The most shards that DescribeStream returns if the request has no Limit (Kinesis API Reference, DescribeStream,
 /// Limit).
-pub const DESCRIBED_LIMIT: u32 = 100;
+pub const DEFAULT_DESCRIBED: u32 = 100;
 
 /// The most names that ListStreams returns if the request has no Limit (Kinesis API Reference, ListStreams, Limit).
-pub const NAMES_LIMIT: u32 = 100;
+pub const DEFAULT_NAMES: u32 = 100;
 
 /// The greatest time that a request may name, in seconds (Kinesis API Reference, GetShardIterator, Timestamp). This
 /// project chose the bound, because a `Moment` must be below 2^62 milliseconds.

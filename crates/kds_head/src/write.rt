@@ -123,26 +123,26 @@ fn write_before(text: &mut [u8], at: usize, piece: &[u8]) -> usize
 }
 
 /// Writes the status line and the headers of a response into the bytes directly before its body, so that the body
-/// needn't be copied. The body is in `text` from the index `body` to the end. Returns the index at which the response
-/// begins. Preconditions: `status`, `json`, `close` and the body meet the precondition of `response`, and at least
-/// `RESPONSE_HEAD_BYTES` bytes precede the body.
+/// needn't be copied. The body is in `text` from the index `body_at` to the end. Returns the index at which the
+/// response begins. Preconditions: `status`, `json`, `close` and the body meet the precondition of `response`, and at
+/// least `RESPONSE_HEAD_BYTES` bytes precede the body.
 #[tactic(auto, unfolding(crate::specs::Response::response_text))]
 pub fn put_response_head(
     status: u16,
     json: bool,
     close: bool,
     text: &mut [u8],
-    body: usize,
+    body_at: usize,
 ) -> usize
-    requires response { IsResponse status (drop body text.old) json close }
-    requires room { 256 ≤ body }
-    requires within { body ≤ length text.old }
+    requires response { IsResponse status (drop body_at text.old) json close }
+    requires room { 256 ≤ body_at }
+    requires within { body_at ≤ length text.old }
     ensures begins { result ≤ length text.new }
-    ensures text { drop result text.new ≡ response_text status (drop body text.old) json close }
+    ensures text { drop result text.new ≡ response_text status (drop body_at text.old) json close }
 {
     let mut digits = Buffer::new();
-    let size = text.len() - body;
-    let at = write_before(text, body, b"\r\n".as_slice());
+    let size = text.len() - body_at;
+    let at = write_before(text, body_at, b"\r\n".as_slice());
     let at = write_before(text, at, connection_line(close));
     let at = write_before(text, at, b"\r\n".as_slice());
     let at = write_before(text, at, digits.format(size).as_bytes());

@@ -31,33 +31,33 @@ object_of body = if_object (read_body body)
 
 -- The operation with the name `name`, if it is one of the four that change a setting or the shard count of a stream,
 -- and otherwise None.
-abbrev pub setting_named : List ℕ → Option Operation
-setting_named name =
+abbrev pub last_four_named : List ℕ → Option Operation
+last_four_named name =
     if bytes_eq name (codes "IncreaseStreamRetentionPeriod") then Some op.IncreaseRetention
     else if bytes_eq name (codes "DecreaseStreamRetentionPeriod") then Some op.DecreaseRetention
     else if bytes_eq name (codes "UpdateShardCount") then Some op.UpdateShardCount
     else if bytes_eq name (codes "LocalEnforceLimits") then Some op.EnforceLimits
     else None
 
--- The operation with the name `name`, if it puts records, splits a shard or merges two. If `name` is none of these four
--- names, the result is that of `setting_named`.
-abbrev pub writing_named : List ℕ → Option Operation
-writing_named name =
+-- The operation with the name `name`, if it is PutRecord, PutRecords, SplitShard or MergeShards. If `name` is none of
+-- these four names, the result is that of `last_four_named`.
+abbrev pub last_eight_named : List ℕ → Option Operation
+last_eight_named name =
     if bytes_eq name (codes "PutRecord") then Some op.PutRecord
     else if bytes_eq name (codes "PutRecords") then Some op.PutRecords
     else if bytes_eq name (codes "SplitShard") then Some op.SplitShard
     else if bytes_eq name (codes "MergeShards") then Some op.MergeShards
-    else setting_named name
+    else last_four_named name
 
 -- The operation with the name `name`, if it is DescribeStreamSummary, ListShards, GetShardIterator or GetRecords. If
--- `name` is none of these four names, the result is that of `writing_named`.
-abbrev pub reading_or_writing_named : List ℕ → Option Operation
-reading_or_writing_named name =
+-- `name` is none of these four names, the result is that of `last_eight_named`.
+abbrev pub last_twelve_named : List ℕ → Option Operation
+last_twelve_named name =
     if bytes_eq name (codes "DescribeStreamSummary") then Some op.DescribeStreamSummary
     else if bytes_eq name (codes "ListShards") then Some op.ListShards
     else if bytes_eq name (codes "GetShardIterator") then Some op.GetShardIterator
     else if bytes_eq name (codes "GetRecords") then Some op.GetRecords
-    else writing_named name
+    else last_eight_named name
 
 -- The operation with the name `name`, or None if there is no such operation (Kinesis API Reference, Actions;
 -- LocalEnforceLimits is this project's own). The code compares the name in four functions, and so do these definitions.
@@ -67,7 +67,7 @@ operation_named name =
     else if bytes_eq name (codes "DeleteStream") then Some op.DeleteStream
     else if bytes_eq name (codes "ListStreams") then Some op.ListStreams
     else if bytes_eq name (codes "DescribeStream") then Some op.DescribeStream
-    else reading_or_writing_named name
+    else last_twelve_named name
 
 -- The command that the members of the object `d` ask for in a request for this operation, or the first fault of these
 -- members.

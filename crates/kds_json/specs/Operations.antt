@@ -11,7 +11,8 @@ use Rattle.kds_defs.specs.declared.command.Start.{Start}
 use Rattle.kds_defs.specs.declared.command.Start.TheVariants as start
 use Rattle.kds_defs.specs.declared.limits.TheConstants.{LEAST_SHARDS, MOST_SHARDS, LEAST_HOURS, MOST_HOURS, MOST}
 use Rattle.kds_token.specs.Tokens.{iter_of, page_of}
-use Rattle.kds_defs.specs.declared.limits.TheConstants.{RECORDS_LIMIT, SHARDS_LIMIT, DESCRIBED_LIMIT, NAMES_LIMIT}
+use Rattle.kds_defs.specs.declared.limits.TheConstants.{DEFAULT_RECORDS, DEFAULT_SHARDS, DEFAULT_DESCRIBED}
+use Rattle.kds_defs.specs.declared.limits.TheConstants.{DEFAULT_NAMES}
 use Rattle.kds_json_members.specs.declared.problem.Fault.{Fault}
 use Rattle.kds_json_members.specs.declared.problem.FaultKind.TheVariants.{Invalid}
 use Rattle.kds_json_members.specs.Results.{◌>>=◌, fault_of}
@@ -42,7 +43,7 @@ delete_stream d = do
 unfoldable pub list_streams : Data → Result Command Fault
 list_streams d = do
   after ← optional_at None some_name_in (codes "ExclusiveStartStreamName") d
-  limit ← optional_at NAMES_LIMIT (number_in 1 MOST) (codes "Limit") d
+  limit ← optional_at DEFAULT_NAMES (number_in 1 MOST) (codes "Limit") d
   Ok (command.Streams after limit)
 
 -- The command that the members of `d` ask for in a DescribeStream, or the first fault (Kinesis API Reference,
@@ -51,7 +52,7 @@ unfoldable pub describe_stream : Data → Result Command Fault
 describe_stream d = do
   name ← required_at name_in (codes "StreamName") d
   after ← optional_at None some_id_in (codes "ExclusiveStartShardId") d
-  limit ← optional_at DESCRIBED_LIMIT (number_in 1 MOST) (codes "Limit") d
+  limit ← optional_at DEFAULT_DESCRIBED (number_in 1 MOST) (codes "Limit") d
   Ok (command.Describe name after limit)
 
 -- The command that the members of `d` ask for in a DescribeStreamSummary, or the first fault (Kinesis API Reference,
@@ -61,8 +62,8 @@ describe_summary d = do
   name ← required_at name_in (codes "StreamName") d
   Ok (command.Summary name)
 
--- The command that the members of `d` ask for in an IncreaseStreamRetentionPeriod if `raise` is true, and in a
--- DecreaseStreamRetentionPeriod if it is false, or the first fault (Kinesis API Reference, Request Parameters).
+-- The command that the members of `d` ask for, or the first fault. The operation is IncreaseStreamRetentionPeriod if
+-- `raise` is true, and DecreaseStreamRetentionPeriod if it is false (Kinesis API Reference, Request Parameters).
 unfoldable pub keep : Bool → Data → Result Command Fault
 keep raise d = do
   name ← required_at name_in (codes "StreamName") d
@@ -89,7 +90,7 @@ enforce_limits d = do
 -- ---- Records
 
 -- The record that the members of `d` ask to put, or the first fault. If there is no explicit hash key, the hash key is
--- that of the partition key (Kinesis API Reference, PutRecordsRequestEntry).
+-- the hash of the partition key (Kinesis API Reference, PutRecordsRequestEntry).
 unfoldable pub item_of : Data → Result NewItem Fault
 item_of d = do
   key ← required_at key_in (codes "PartitionKey") d
@@ -151,7 +152,7 @@ get_shard_iterator d = do
 unfoldable pub get_records : Data → Result Command Fault
 get_records d = do
   iter ← token_at iter_of (codes "ShardIterator") d
-  limit ← optional_at RECORDS_LIMIT (number_in 1 MOST) (codes "Limit") d
+  limit ← optional_at DEFAULT_RECORDS (number_in 1 MOST) (codes "Limit") d
   Ok (command.Records iter limit)
 
 -- ---- Shards
@@ -181,7 +182,7 @@ list_from_start d = do
   name ← required_at name_in (codes "StreamName") d
   nothing ← absent_at (codes "ShardFilter") d
   after ← optional_at None some_id_in (codes "ExclusiveStartShardId") d
-  limit ← optional_at SHARDS_LIMIT (number_in 1 MOST) (codes "MaxResults") d
+  limit ← optional_at DEFAULT_SHARDS (number_in 1 MOST) (codes "MaxResults") d
   Ok (command.Shards name after limit)
 
 -- The command that the members of `d` ask for in a ListShards with a NextToken, which goes on where an earlier listing
@@ -192,10 +193,11 @@ list_from_token d = do
   no_filter ← absent_at (codes "ShardFilter") d
   no_start ← absent_at (codes "ExclusiveStartShardId") d
   page ← token_at page_of (codes "NextToken") d
-  limit ← optional_at SHARDS_LIMIT (number_in 1 MOST) (codes "MaxResults") d
+  limit ← optional_at DEFAULT_SHARDS (number_in 1 MOST) (codes "MaxResults") d
   Ok (command.More page limit)
 
--- The command that the members of `d` ask for in a ListShards, or the first fault. It depends on whether NextToken is
--- given and isn't null (Kinesis API Reference, ListShards, Request Parameters).
+-- The command that the members of `d` ask for in a ListShards, or the first fault. If NextToken is given and isn't
+-- null, the request is read as one with a NextToken, and otherwise as one without (Kinesis API Reference, ListShards,
+-- Request Parameters).
 unfoldable pub list_shards : Data → Result Command Fault
 list_shards d = if is_some (member_of (codes "NextToken") d) then list_from_token d else list_from_start d

@@ -1,8 +1,8 @@
 //! The operations of the service and their names.
 ghost use Rattle.std.specs.Prelude.{◌≡◌};
-ghost use Rattle.kds_json.specs.Asked.{operation_named as named, reading_or_writing_named as reads};
-ghost use Rattle.kds_json.specs.Asked.{writing_named as writes};
-ghost use Rattle.kds_json.specs.Asked.{setting_named as sets};
+ghost use Rattle.kds_json.specs.Asked.{operation_named as named, last_twelve_named as reads};
+ghost use Rattle.kds_json.specs.Asked.{last_eight_named as writes};
+ghost use Rattle.kds_json.specs.Asked.{last_four_named as sets};
 
 /// An operation of the service (Kinesis API Reference, Actions).
 #[derive(Clone, Copy)]
@@ -42,13 +42,13 @@ pub fn operation_named(name: &[u8]) -> Option<Operation>
     } else if name == b"DescribeStream".as_slice() {
         Some(Operation::DescribeStream)
     } else {
-        reading_or_writing_named(name)
+        last_twelve_named(name)
     }
 }
 
 /// Returns the operation called `name` if it is one of twelve operations. This function itself finds the four
 /// operations that read streams, shards and records. The two functions below find the other eight.
-fn reading_or_writing_named(name: &[u8]) -> Option<Operation>
+fn last_twelve_named(name: &[u8]) -> Option<Operation>
     ensures { result ≡ reads name.now }
 {
     if name == b"DescribeStreamSummary".as_slice() {
@@ -60,13 +60,13 @@ fn reading_or_writing_named(name: &[u8]) -> Option<Operation>
     } else if name == b"GetRecords".as_slice() {
         Some(Operation::GetRecords)
     } else {
-        writing_named(name)
+        last_eight_named(name)
     }
 }
 
 /// Returns the operation called `name` if it is one of eight operations. This function itself finds the four operations
 /// that write records or change shards. The function below finds the other four.
-fn writing_named(name: &[u8]) -> Option<Operation>
+fn last_eight_named(name: &[u8]) -> Option<Operation>
     ensures { result ≡ writes name.now }
 {
     if name == b"PutRecord".as_slice() {
@@ -78,12 +78,12 @@ fn writing_named(name: &[u8]) -> Option<Operation>
     } else if name == b"MergeShards".as_slice() {
         Some(Operation::MergeShards)
     } else {
-        setting_named(name)
+        last_four_named(name)
     }
 }
 
 /// Returns the operation called `name` if it is one of the four operations that change the settings of a stream.
-fn setting_named(name: &[u8]) -> Option<Operation>
+fn last_four_named(name: &[u8]) -> Option<Operation>
     ensures { result ≡ sets name.now }
 {
     if name == b"IncreaseStreamRetentionPeriod".as_slice() {

@@ -12,7 +12,7 @@ use crate::streams::{described_value, scaled_value, streams_value, summary_value
 use kds_base::{Memory, Name, Octets};
 use kds_defs::{About, Answer, Page, Reply, Shard};
 use kds_reply_texts::{
-    BAD_REQUEST, add_batch, add_outcomes, add_place, iterator_text, push_piece, refusal_body,
+    BAD_REQUEST, add_batch, add_outcomes, add_place, iterator_body, push_piece, refusal_body,
 };
 use serde_json::Value;
 use std::alloc::Global;
@@ -118,7 +118,7 @@ fn add_body(to: &mut Vec<u8>, alloc: Global, reply: &Reply) -> Result<(), Memory
             target,
             ..
         } => add_scaled(to, alloc, name, *before, *target),
-        Reply::Iterator(iter) => push_piece(to, iterator_text(alloc, iter)?.as_slice()),
+        Reply::Iterator(iter) => push_piece(to, iterator_body(alloc, iter)?.as_slice()),
         Reply::Records {
             batch,
             next,

@@ -7,7 +7,7 @@ ghost use Rattle.kds_reply_texts.specs.Records.{records_data};
 use crate::children::children_text;
 use crate::pieces::{push_piece, put_decimal, reserve};
 use crate::records::{append_records, record_size};
-use crate::tokens::{ITERATOR_BYTES, quoted_iter};
+use crate::tokens::{ITERATOR_BYTES, escaped_iter};
 use kds_base::Memory;
 use kds_defs::{Iter, Shard, Stored};
 use std::alloc::Global;
@@ -36,7 +36,7 @@ fn put_open(
         → OnOk result (out.new.items ≡ out.old.items
         ++ compact_text (records_data batch.now (Some next.now) behind children)) }
 {
-    let token = quoted_iter(alloc, next)?;
+    let token = escaped_iter(alloc, next)?;
     push_piece(out, b"{\"MillisBehindLatest\":")?;
     put_decimal(out, behind)?;
     push_piece(out, b",\"NextShardIterator\":\"")?;

@@ -22,4 +22,4 @@ pub use moments::seconds;
 pub use pieces::push_piece;
 pub use put_results::{add_outcomes, add_place};
 pub use refusals::refusal_body;
-pub use tokens::{iterator_text, listing_token};
+pub use tokens::{iterator_body, listing_token};

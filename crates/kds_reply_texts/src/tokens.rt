@@ -42,7 +42,7 @@ fn numbers_fit(stream: u64, shard: u64, position: u64, issued: u64)
 {}
 
 /// Returns the token of a shard iterator as a part of a JSON string, in which no character of the token needs escaping.
-pub fn quoted_iter(alloc: Global, iter: &Iter) -> Result<Octets, Memory>
+pub fn escaped_iter(alloc: Global, iter: &Iter) -> Result<Octets, Memory>
     ensures { IfOk result (λ o. o ≡ escape (iter_token iter.now)) }
 {
     numbers_fit(iter.stream.0, iter.shard.0, iter.position, iter.issued.ms());
@@ -51,7 +51,7 @@ pub fn quoted_iter(alloc: Global, iter: &Iter) -> Result<Octets, Memory>
 }
 
 /// Returns the body of the reply to GetShardIterator (Kinesis API Reference, GetShardIterator, Response Elements).
-pub fn iterator_text(alloc: Global, iter: &Iter) -> Result<Octets, Memory>
+pub fn iterator_body(alloc: Global, iter: &Iter) -> Result<Octets, Memory>
     ensures { IfOk result (λ o. o ≡ compact_text (iterator_data iter.now)) }
 {
     let token = write_iter(alloc, iter)?;

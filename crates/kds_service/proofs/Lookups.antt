@@ -1,5 +1,5 @@
--- The service finds the stream that a command is for, refuses a command that is for none as the machine does, and tells
--- the stream what it must know about the other streams.
+-- The service finds the stream that a command is for, and tells this stream what it must know about the other streams.
+-- If there is no such stream, the service refuses the command as the machine does.
 use Rattle.std.proofs.Common.{◌≡◌, ℕ, ◌+◌, Bool, true, false, List, slice_get, Option, Some, None, length, refl, sym}
 use Rattle.std.proofs.Common.{ap, ◌∙◌}
 use Rattle.std.specs.Prelude.{◌-◌, not, if◌then◌else◌}
@@ -20,13 +20,13 @@ use Rattle.kds_defs.specs.Shards.{is_open}
 use Rattle.kds_defs.specs.Streams.{is_live}
 use Rattle.kds_defs.specs.Subjects.{name_of_command}
 use Rattle.kds_defs.proofs.Decisions.{passed_if, refused_if, with_none}
-use Rattle.kds_stream.specs.Serving.{IsToldOf, needs_open_limit, is_of_stream, token_of}
+use Rattle.kds_stream.specs.Serving.{IsToldOf, needs_open_limit, is_of_stream, token_stream}
 use Rattle.kds_stream.specs.Showing.{Shows}
 use Rattle.kds_stream.specs.Value.{StreamValue}
 use Rattle.kds_service.proofs.Lists.{all_get}
 use Rattle.kds_service.proofs.Readings.{beside_is, from_zero, has_name, named_at, none_named, not_among, number_at}
 use Rattle.kds_service.proofs.Readings.{open_are, own_and_beside}
-use Rattle.kds_service.specs.Indexes.{expiry, open_beside, index_by_number, index_by, index_for, index_by_name}
+use Rattle.kds_service.specs.Indexes.{token_refusal, open_beside, index_by_number, index_by, index_for, index_by_name}
 use Rattle.kds_service.specs.Shown.{ServiceValue, ShowsAll, numbers_of}
 
 -- A command of the service other than CreateStream, DeleteStream and ListStreams is for one existing stream
@@ -44,7 +44,7 @@ rest_of _ own makes ends lists = own
 -- ---- The index of the stream that a command is for
 
 -- For a command whose token is of stream `s`, the index is that of the stream with the number `s`.
-pub token_index : (vs : List StreamValue) (what : Command) (s : ℕ) → token_of what ≡ Some s
+pub token_index : (vs : List StreamValue) (what : Command) (s : ℕ) → token_stream what ≡ Some s
     → index_for vs what ≡ index_by_number vs s
 token_index vs what s is = ap (λ t. index_by vs t (name_of_command what)) is
 
@@ -73,8 +73,8 @@ young_so : (r : Refusal) (b : Bool) → (if b then Some r else None) ≡ None �
 young_so r true is = absurd cc
 young_so r false is = refl
 
--- If the token of a command is too old (`expiry`), the machine refuses the command after every journal.
-pub expired_so : (log : Journal) (c by : ℕ) (what : Command) (r : Refusal) → expiry c what ≡ Some r
+-- If the token of a command is too old (`token_refusal`), the machine refuses the command after every journal.
+pub expired_so : (log : Journal) (c by : ℕ) (what : Command) (r : Refusal) → token_refusal c what ≡ Some r
     → decide log c by what ≡ Refused r
 expired_so log c by (command.Records iter limit) r is = old_so refusal.Expired r (is_expired_token c iter.issued) _ is
 expired_so log c by (command.More page limit) r is = old_so refusal.PageExpired r (is_expired_token c page.issued) _ is
@@ -87,7 +87,7 @@ gone w s log none all = not_from_false (is_live log s) (all.others s (not_among 
 -- Let the command be for one stream, with a token that isn't too old, if it has one. If no stream of the service has
 -- the number in the token or the name in the command, the machine refuses the command with NoStream.
 pub gone_so : (w : ServiceValue) (log : Journal) (by : ℕ) (what : Command) → ShowsAll w log → is_of_stream what ≡ true
-    → expiry w.clock what ≡ None
+    → token_refusal w.clock what ≡ None
     → index_for w.streams what ≡ None → decide log w.clock by what ≡ Refused refusal.NoStream
 gone_so w log by (command.Create name count) all own young none = absurd cc
 gone_so w log by (command.Delete name) all own young none = absurd cc
@@ -112,8 +112,8 @@ gone_so w log by _ all own young none = with_none _ _ _ (none_named w log _ all 
 
 -- ---- What the stream at the index is told about the other streams
 
--- Let `x` be the stream that the command is for. The command's name, if it has one, is that of `x`, and `open_limit` is
--- how many shards may be open in `x`, given those of the other streams (`IsToldOf`).
+-- Let `x` be the stream of the service that the command is for. If the command needs the limit `open_limit`, let this
+-- be OPEN_SHARDS minus the open shards of the other streams. Then `x` is told what it must know (`IsToldOf`).
 pub told_so : (w : ServiceValue) (log : Journal) (i : ℕ) (x : StreamValue) (what : Command) (open_limit : ℕ)
     → ShowsAll w log
     → slice_get w.streams i ≡ Some x

@@ -1,5 +1,5 @@
--- Defines at which index of the service's streams the stream with a number or a name, or the stream of a command, is
--- found, and how many shards the streams have open.
+-- Defines the index at which the service finds the stream with a number or a name, or the stream of a command. Also
+-- defines how many shards the streams have open.
 use Rattle.std.specs.Prelude.{ℕ, ◌≡◌, ◌+◌, ◌==◌, Bool, ◌||◌, nat_le, nat_lt, if◌then◌else◌, List, [], ◌∷◌, length}
 use Rattle.std.specs.Prelude.{Option, Some, None}
 use Rattle.std.specs.List.{filter, position_from}
@@ -13,7 +13,7 @@ use Rattle.kds_defs.specs.Listings.{is_expired_token}
 use Rattle.kds_defs.specs.Shards.{is_open}
 use Rattle.kds_defs.specs.Streams.{same_name}
 use Rattle.kds_defs.specs.Subjects.{name_of_command}
-use Rattle.kds_stream.specs.Serving.{token_of}
+use Rattle.kds_stream.specs.Serving.{token_stream}
 use Rattle.kds_stream.specs.Value.{StreamValue}
 use Rattle.kds_service.specs.Shown.{AreAt, names_of, numbers_of}
 
@@ -37,14 +37,14 @@ index_by vs None None = None
 -- The index among `vs` of the stream that the command `what` is for. If the command has a token, this is the stream
 -- whose number is in the token, and otherwise the stream with the command's name.
 abbrev pub index_for : List StreamValue → Command → Option ℕ
-index_for vs what = index_by vs (token_of what) (name_of_command what)
+index_for vs what = index_by vs (token_stream what) (name_of_command what)
 
 -- The refusal of a command whose token is too old at the clock `c`: Expired for a GetRecords, and PageExpired for a
 -- ListShards with a NextToken. It is None if the token isn't too old, or if the command has none.
-abbrev pub expiry : ℕ → Command → Option Refusal
-expiry c (command.Records iter limit) = if is_expired_token c iter.issued then Some refusal.Expired else None
-expiry c (command.More page limit) = if is_expired_token c page.issued then Some refusal.PageExpired else None
-expiry c _ = None
+abbrev pub token_refusal : ℕ → Command → Option Refusal
+token_refusal c (command.Records iter limit) = if is_expired_token c iter.issued then Some refusal.Expired else None
+token_refusal c (command.More page limit) = if is_expired_token c page.issued then Some refusal.PageExpired else None
+token_refusal c _ = None
 
 -- The number of shards that are open in a list of streams.
 abbrev pub open_total : List StreamValue → ℕ
@@ -65,7 +65,7 @@ open_beside (v ∷ vs) s = open_unless v s + open_beside vs s
 abbrev pub is_full : List StreamValue → ℕ → Bool
 is_full vs count = nat_le LIVE_STREAMS (length vs) || nat_lt OPEN_SHARDS (open_total vs + count)
 
--- In each pair of `es`, a key with its stream, the key is the stream's name and the stream is at the clock `c`.
+-- Each pair of `es` has a key and a stream. The key is the stream's name, and the stream is at the clock `c`.
 pub record AreNamedAt (c : ℕ) (es : List (List ℕ × StreamValue)) : Type 0 where
   pub named : keys_of es ≡ names_of (values_of es)
   pub at : AreAt c (values_of es)

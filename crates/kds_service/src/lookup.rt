@@ -3,8 +3,8 @@
 ghost use Rattle.std.specs.Prelude.{◌≡◌, ◌<◌, ◌-◌, IfSome, length, true};
 ghost use Rattle.indexmap.specs.IndexMap.{keys, values};
 ghost use Rattle.kds_defs.specs.declared.limits.TheConstants.{OPEN_SHARDS};
-ghost use Rattle.kds_stream.specs.Serving.{needs_open_limit, token_of};
-ghost use Rattle.kds_service.specs.Indexes.{expiry, open_beside, index_for};
+ghost use Rattle.kds_stream.specs.Serving.{needs_open_limit, token_stream};
+ghost use Rattle.kds_service.specs.Indexes.{token_refusal, open_beside, index_for};
 ghost use Rattle.kds_service.specs.Shown.{names_of};
 
 use crate::streams_by_name::{Streams, index_by_name, index_by_number, open_limit};
@@ -15,8 +15,8 @@ use kds_token::{iter_expired, page_expired};
 
 /// Returns the refusal of a command whose token (shard iterator or NextToken) is too old, and `None` for every other
 /// command (Kinesis API Reference, GetRecords, ExpiredIteratorException; ListShards, ExpiredNextTokenException).
-pub fn expiry(what: &Command, clock: Moment) -> Option<Refusal>
-    ensures { result ≡ expiry clock what.now }
+pub fn token_refusal(what: &Command, clock: Moment) -> Option<Refusal>
+    ensures { result ≡ token_refusal clock what.now }
 {
     match what {
         Command::Records { iter, .. } => iter_expired(iter, clock).then_some(Refusal::Expired),
@@ -28,7 +28,7 @@ pub fn expiry(what: &Command, clock: Moment) -> Option<Refusal>
 /// Returns the number of the stream to which the command's token (shard iterator or NextToken) belongs, or `None` if
 /// the command has no token.
 fn token_stream(what: &Command) -> Option<StreamNo>
-    ensures { result ≡ token_of what.now }
+    ensures { result ≡ token_stream what.now }
 {
     match what {
         Command::Records { iter, .. } => Some(iter.stream),

@@ -11,7 +11,7 @@ ghost use Rattle.kds_service.specs.Shown.{Leads, LeadsTo, service};
 use crate::creation::{create, delete};
 use crate::laws;
 use crate::listing::streams as list_streams;
-use crate::lookup::{expiry, index_for, open_limit_for};
+use crate::lookup::{index_for, open_limit_for, token_refusal};
 use crate::streams_by_name::Streams;
 use kds_base::{Memory, Moment};
 use kds_defs::{Answer, Command, Refusal};
@@ -60,7 +60,7 @@ fn serve_one(
     ensures kept { OnErr result (values streams.new ≡ values streams.old) }
 {
     laws::others();
-    if let Some(refusal) = expiry(&what, clock) {
+    if let Some(refusal) = token_refusal(&what, clock) {
         return Ok(Err(refusal));
     }
     match index_for(streams, &what) {

@@ -124,7 +124,7 @@ impl Output {
         ensures err { OnErr result (self.new ≡ self.old) }
     {
         if self.as_slice().is_empty() {
-            return self.begin(answer, close);
+            return self.answer_in_place(answer, close);
         }
         let (status, body) = reply(self.alloc, answer)?;
         self.respond(status, body.as_slice(), close)
@@ -132,7 +132,7 @@ impl Output {
 
     /// Does the same as `answer` for an empty output, but writes the body in place instead of copying it. If memory
     /// runs out, the output stays empty. If this happens while the response is being written, the buffer is also freed.
-    fn begin(&mut self, answer: &Answer, close: bool) -> Result<(), Memory>
+    fn answer_in_place(&mut self, answer: &Answer, close: bool) -> Result<(), Memory>
         requires nothing { self.old ≡ [] }
         requires own { is_service_answer answer.now ≡ true }
         ensures ok { OnOk result (self.new ≡ answered (reply_of answer.now) close) }

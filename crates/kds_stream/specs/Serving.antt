@@ -17,16 +17,16 @@ use Rattle.kds_stream.specs.Showing.{Shows}
 use Rattle.kds_stream.specs.Value.{StreamValue}
 
 -- The number of the stream to which the command's shard iterator or token belongs, if the command has one.
-abbrev pub token_of : Command → Option ℕ
-token_of (command.Records iter limit) = Some iter.stream
-token_of (command.More page limit) = Some page.stream
-token_of _ = None
+abbrev pub token_stream : Command → Option ℕ
+token_stream (command.Records iter limit) = Some iter.stream
+token_stream (command.More page limit) = Some page.stream
+token_stream _ = None
 
 -- Whether the command `what` is one that a stream serves: it names a stream that must exist, or has a shard iterator or
 -- a token of a stream, and isn't DeleteStream.
 abbrev pub is_of_stream : Command → Bool
 is_of_stream (command.Delete name) = false
-is_of_stream what = is_some (name_of_command what) || is_some (token_of what)
+is_of_stream what = is_some (name_of_command what) || is_some (token_stream what)
 
 -- Whether a command may raise the number of open shards in an existing stream. Such commands are SplitShard and
 -- UpdateShardCount.

@@ -101,7 +101,7 @@ impl Routes {
 
     /// Adds the record of an item that its shard accepts. The record gets the next sequence number, and `clock` is its
     /// arrival time. The key and the payload of the item are moved into the record, and not copied.
-    fn store(&mut self, shard: ShardNo, item: NewItem, clock: Moment) -> Result<(), Memory>
+    fn add_accepted(&mut self, shard: ShardNo, item: NewItem, clock: Moment) -> Result<(), Memory>
         requires { self.old.next + 1 < 2 ^ 64 }
         ensures routed { OnOk result (self.new.routed.items ≡ self.old.routed.items
             ++ stored_item shard clock self.old.next item ∷ []) }
@@ -188,7 +188,7 @@ fn route_one(
     if routes.next == u64::MAX {
         return Ok(false);
     }
-    routes.store(shard, item, clock)?;
+    routes.add_accepted(shard, item, clock)?;
     Ok(true)
 }
 

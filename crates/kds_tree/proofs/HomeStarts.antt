@@ -9,7 +9,7 @@ use Rattle.std.proofs.lemmas.Bool.Decides.{nat_tests}
 use Rattle.kds_base.specs.Span.{Covers}
 use Rattle.kds_defs.specs.Shards.{ShardState, is_open, home_among}
 use Rattle.kds_defs.specs.Tiled.{IsOrdered}
-use Rattle.kds_tree.specs.Starts.{AreStarts, IsStart, start_of}
+use Rattle.kds_tree.specs.Starts.{AreStarts, IsStart, open_start_of}
 use Rattle.kds_tree.specs.Tree.{IsTree, IsHome}
 use Rattle.kds_tree.specs.declared.start.OpenStart.{OpenStart}
 use Rattle.kds_tree.proofs.Homes.{home_is, only}
@@ -49,7 +49,7 @@ module _ (xs : List ShardState) (ss : List OpenStart) (k i : ℕ) (tree : IsTree
   found s at is_at within is =
       let h = home_is xs k tree below in
       let member = starts.of.whole (home_among (filter is_open xs) k) h.state h.made h.is_open_now in
-      let first = start_of h.state (home_among (filter is_open xs) k) in
+      let first = open_start_of h.state (home_among (filter is_open xs) k) in
       let e : (get_or ss member.0 first).key ≡ h.state.range.start = ap (λ (t : OpenStart). t.key) member.2 in
       let low : h.state.range.start ≤ k = h.contains.0 in
       let high : k ≤ h.state.range.end = h.contains.1 in
@@ -80,7 +80,7 @@ module _ (xs : List ShardState) (ss : List OpenStart) (k i : ℕ) (tree : IsTree
   some_start at is_at =
       let h = home_is xs k tree below in
       let member = starts.of.whole (home_among (filter is_open xs) k) h.state h.made h.is_open_now in
-      let first = start_of h.state (home_among (filter is_open xs) k) in
+      let first = open_start_of h.state (home_among (filter is_open xs) k) in
       let e : (get_or ss member.0 first).key ≡ h.state.range.start = ap (λ (t : OpenStart). t.key) member.2 in
       let low : h.state.range.start ≤ k = h.contains.0 in
       let before : member.0 < i = before_point member.0 first member.1 (omega arith) in

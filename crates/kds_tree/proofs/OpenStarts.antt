@@ -15,7 +15,7 @@ use Rattle.kds_base.proofs.Facts.{apart}
 use Rattle.kds_defs.specs.Shards.{ShardState, Closing, is_open, with_closed}
 use Rattle.kds_defs.specs.Tiled.{AreNumbered}
 use Rattle.kds_defs.proofs.Numbers.{numbered-closed}
-use Rattle.kds_tree.specs.Starts.{IsStart, AreOf, AreStarts, open_starts, own_start, start_of, stays}
+use Rattle.kds_tree.specs.Starts.{IsStart, AreOf, AreStarts, open_starts, own_start, open_start_of, stays}
 use Rattle.kds_tree.specs.declared.start.OpenStart.{OpenStart}
 use Rattle.kds_tree.proofs.Homes.{number_at}
 
@@ -163,11 +163,11 @@ made_starts xs numbers = record {
       (each_from xs xs 0 numbers (λ i y is. let e : 0 + i ≡ i = omega arith in ap (slice_get xs) e ∙ is));
   whole = λ i x is open_now.
       let e : x.no ≡ i = omega (arith, number_at xs 0 i x numbers is) in
-      subst (λ (k : ℕ). Contains (open_starts xs) (start_of x k)) e (contains_open xs i x is open_now);
+      subst (λ (k : ℕ). Contains (open_starts xs) (open_start_of x k)) e (contains_open xs i x is open_now);
 }
 
--- If the starts `ss` are those of the open shards, each as often as it should be, and are then put in the order of
--- their keys, the result `ts` is right (`AreStarts`).
+-- Let the starts `ss` be those of the open shards, each as often as among `open_starts`. If `ts` has the starts of `ss`
+-- in the order of their keys, `ts` is right (`AreStarts`).
 pub in_order : (xs : List ShardState) (ss ts : List OpenStart) → AreOf ss xs
     → ((p : OpenStart → Bool) → length (filter p ss) ≡ length (filter p (open_starts xs))) → IsPermutation ss ts
     → IsNonDecreasingBy (λ (s : OpenStart). s.key) ts → AreStarts ts xs
@@ -176,15 +176,15 @@ in_order xs ss ts of many same order = record {
   many = λ p. tally_same p ss ts same ∙ many p;
   of = record {
     each = All-permutation (IsStart xs) ss ts same of.each;
-    whole = λ i x is open_now. Contains-permutation ss ts (start_of x i) same (of.whole i x is open_now);
+    whole = λ i x is open_now. Contains-permutation ss ts (open_start_of x i) same (of.whole i x is open_now);
   };
   order = order;
 }
 
 -- ---- Two shards are closed, and others are added at the end
 
--- The shards `closed` are `xs` with the shards `sh` and `other` closed. All other shards are kept, and each open shard
--- was open before. The starts of the open shards are those before without the starts of `sh` and `other`.
+-- The shards `closed` are `xs` with the shards `sh` and `other` closed. All other shards are kept, and only these can
+-- be open in `closed`. The starts of the open shards are those before without the starts of `sh` and `other`.
 pub record Closes (xs closed : List ShardState) (sh other : ℕ) : Type 0 where
   pub kept : (i : ℕ) (x : ShardState) → i ≢ sh → i ≢ other → slice_get xs i ≡ Some x → slice_get closed i ≡ Some x
   pub back : (i : ℕ) (x : ShardState) → slice_get closed i ≡ Some x → is_open x ≡ true → (slice_get xs i ≡ Some x)
@@ -219,17 +219,18 @@ module _ (xs closed born : List ShardState) (sh other : ℕ) (closes : Closes xs
 
   whole_by : (ss : List OpenStart) → AreOf ss xs → (i : ℕ) (x : ShardState) → is_open x ≡ true
       → (slice_get closed i ≡ Some x) ⊎ IsBehind born (length closed) i x
-      → Contains (filter (stays sh other) ss ++ open_starts born) (start_of x i)
+      → Contains (filter (stays sh other) ss ++ open_starts born) (open_start_of x i)
   whole_by ss of i x open_now (inl h) =
       let was = closes.back i x h open_now in
       let member = of.whole i x was.0 open_now in
-      Contains-append_left (filter (stays sh other) ss) (open_starts born) (start_of x i)
-      (contains_left (stays sh other) ss (start_of x i) member.0 member.1 member.2
-      (passes_by sh other (start_of x i) was.1 was.2))
+      Contains-append_left (filter (stays sh other) ss) (open_starts born) (open_start_of x i)
+      (contains_left (stays sh other) ss (open_start_of x i) member.0 member.1 member.2
+      (passes_by sh other (open_start_of x i) was.1 was.2))
   whole_by ss of i x open_now (inr h) =
       let e : x.no ≡ i = omega (arith, number_at born (length xs) h.index x numbers h.at, h.is, closes.long) in
-      Contains-append_right (filter (stays sh other) ss) (open_starts born) (start_of x i)
-      (subst (λ (k : ℕ). Contains (open_starts born) (start_of x k)) e (contains_open born h.index x h.at open_now))
+      Contains-append_right (filter (stays sh other) ss) (open_starts born) (open_start_of x i)
+      (subst (λ (k : ℕ). Contains (open_starts born) (open_start_of x k)) e
+      (contains_open born h.index x h.at open_now))
 
   -- Let two shards be closed, and let the shards `born` be added at the end. Then the starts before, without those of
   -- the closed shards, and the starts of `born` are together those of the open shards (`AreOf`).
@@ -268,8 +269,8 @@ many_changed xs closed born sh other closes numbers ss starts p =
     ∙ sym (tally-append p (open_starts closed) (open_starts born))
     ∙ ap (tally p) (sym (open-append closed born))
 
--- The starts of the shards that stay open, followed by the starts of the new shards `born` and put in the order of
--- their keys, are right after a split or a merge (`AreStarts`).
+-- Let the starts of the shards that stay open be followed by those of the new shards `born`, and let all be put in the
+-- order of their keys. The result is right after a split or a merge (`AreStarts`).
 pub reshaped : (xs closed born : List ShardState) (sh other : ℕ) → Closes xs closed sh other
     → AreNumbered (length xs) born → AreNumbered 0 xs
     → (ss more ts : List OpenStart) → AreStarts ss xs → more ≡ filter (stays sh other) ss ++ open_starts born
@@ -283,15 +284,15 @@ reshaped xs closed born sh other closes numbers own ss more ts starts is same or
 
 -- ---- How the code adds starts
 
--- If the code leaves the starts `front` as they are and adds the start `a`, which is `b`, the starts are `front`
+-- If the code leaves the starts `front` as they are and adds a start that is equal to `b`, the starts are `front`
 -- followed by `b`.
 pub one_more : (front mid more : List OpenStart) (a b : OpenStart) → mid ≡ front → more ≡ mid ++ a ∷ [] → a ≡ b
     → more ≡ front ++ b ∷ []
 one_more front mid more a b is_mid is_more is =
     is_more ∙ ap (λ us. us ++ a ∷ []) is_mid ∙ ap (λ (s : OpenStart). front ++ s ∷ []) is
 
--- If the code leaves the starts `front` as they are and adds the starts `a` and `b`, which are `c` and `d`, the starts
--- are `front` followed by `c` and `d`.
+-- If the code leaves the starts `front` as they are and adds two starts that are equal to `c` and `d`, the starts are
+-- `front` followed by `c` and `d`.
 pub two_more : (front mid next more : List OpenStart) (a b c d : OpenStart) → mid ≡ front → next ≡ mid ++ a ∷ []
     → more ≡ next ++ b ∷ [] → a ≡ c → b ≡ d → more ≡ front ++ c ∷ d ∷ []
 two_more front mid next more a b c d is_mid is_next is_more is_c is_d =
@@ -392,8 +393,7 @@ closed_twice [] sh closing = refl
 closed_twice (x ∷ xs) zero closing = refl
 closed_twice (x ∷ xs) (suc sh) closing = ap (λ ys. x ∷ ys) (closed_twice xs sh closing)
 
--- The list in which the shard `sh` is closed is related to the list before as `Closes` states, with `sh` in both
--- places.
+-- If the shard `sh` is closed, `Closes` holds of the list before and the list after, with `sh` in both places.
 pub closes_one : (xs : List ShardState) (sh : ℕ) (closing : Closing) → Closes xs (with_closed sh closing xs) sh sh
 closes_one xs sh closing = record {
   kept = λ i x apart again is. closed_other xs sh i closing apart ∙ is;
@@ -404,8 +404,7 @@ closes_one xs sh closing = record {
   left = λ numbers. left_two xs sh sh closing numbers ∙ ap open_starts (closed_twice xs sh closing);
 }
 
--- The list in which the shards `sh` and `other` are closed one after the other is related to the list before as
--- `Closes` states.
+-- If the shards `sh` and `other` are closed one after the other, `Closes` holds of the list before and the list after.
 pub closes_two : (xs : List ShardState) (sh other : ℕ) (closing : Closing)
     → Closes xs (with_closed other closing (with_closed sh closing xs)) sh other
 closes_two xs sh other closing =

@@ -12,11 +12,11 @@ closing_from (Some n) None = None
 closing_from None c = None
 
 -- Either both an ending sequence number and a time of closing are given, or neither is.
-abbrev pub AreBoth : Option ℕ → Option ℕ → Type 0
-AreBoth (Some n) (Some c) = Unit {0}
-AreBoth (Some n) None = ⊥
-AreBoth None (Some c) = ⊥
-AreBoth None None = Unit {0}
+abbrev pub AreBothOrNeither : Option ℕ → Option ℕ → Type 0
+AreBothOrNeither (Some n) (Some c) = Unit {0}
+AreBothOrNeither (Some n) None = ⊥
+AreBothOrNeither None (Some c) = ⊥
+AreBothOrNeither None None = Unit {0}
 
 -- The state that the kept shard `k` represents.
 abbrev pub state_of : Inside → ShardState
@@ -40,13 +40,13 @@ moment_of (Some closing) = Some closing.clock
 abbrev pub fields_of : ShardState → Inside
 fields_of x = record { shard = shown x; closed = moment_of x.closing }
 
-ending_back : (n c : Option ℕ) → AreBoth n c → ending (closing_from n c) ≡ n
+ending_back : (n c : Option ℕ) → AreBothOrNeither n c → ending (closing_from n c) ≡ n
 ending_back None None h = refl
 ending_back None (Some c) h = absurd h
 ending_back (Some n) None h = absurd h
 ending_back (Some n) (Some c) h = refl
 
-moment_back : (n c : Option ℕ) → AreBoth n c → moment_of (closing_from n c) ≡ c
+moment_back : (n c : Option ℕ) → AreBothOrNeither n c → moment_of (closing_from n c) ≡ c
 moment_back None None h = refl
 moment_back None (Some c) h = absurd h
 moment_back (Some n) None h = absurd h
@@ -54,7 +54,7 @@ moment_back (Some n) (Some c) h = refl
 
 -- If the kept shard `k` has both an ending sequence number and a time of closing, or neither, the kept shard that
 -- represents the state of `k` is `k` itself.
-pub fields_back : (k : Inside) → AreBoth k.shard.end k.closed → fields_of (state_of k) ≡ k
+pub fields_back : (k : Inside) → AreBothOrNeither k.shard.end k.closed → fields_of (state_of k) ≡ k
 fields_back k h =
     ap (λ (n : Option ℕ). let f : Inside = record {
       shard = record k.shard { end = n };

@@ -15,19 +15,19 @@ pub record IsStart (xs : List ShardState) (s : OpenStart) : Type 0 where
   pub begins : state.range.start ≡ s.key
 
 -- The start of the shard `x`: the number `number`, and the first hash key of the range of `x`.
-abbrev pub start_of : ShardState → ℕ → OpenStart
-start_of x number = record { key = x.range.start; shard = number }
+abbrev pub open_start_of : ShardState → ℕ → OpenStart
+open_start_of x number = record { key = x.range.start; shard = number }
 
 -- The starts `ss` are those of the open shards among `xs`: each of `ss` is the start of an open shard, and each open
 -- shard has its start in `ss`.
 pub record AreOf (ss : List OpenStart) (xs : List ShardState) : Type 0 where
   pub each : All (IsStart xs) ss
   pub whole : (number : ℕ) (x : ShardState) → slice_get xs number ≡ Some x → is_open x ≡ true
-      → Contains ss (start_of x number)
+      → Contains ss (open_start_of x number)
 
 -- The start of the shard `x`, with the number that `x` itself has.
 abbrev pub own_start : ShardState → OpenStart
-own_start x = start_of x x.no
+own_start x = open_start_of x x.no
 
 -- The starts of the open shards among `xs`, in the order of `xs`.
 abbrev pub open_starts : List ShardState → List OpenStart

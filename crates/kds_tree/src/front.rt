@@ -86,7 +86,7 @@ pub fn move_on(front: &mut ExpiredFront, shards: &[KeptShard], cut: Option<Momen
     ensures { AreLeft (floor_of front.old.cut) 0 front.old.count front.old.left.items shards.now
         → AreLeft (floor_of front.new.cut) 0 front.new.count front.new.left.items shards.now }
 {
-    let (child, end) = expired_parents(shards, front.child, &cut);
+    let (child, end) = first_with_unexpired_parent(shards, front.child, &cut);
     if child == front.child || !is_no_earlier(&cut, &front.cut) {
         return;
     }
@@ -108,10 +108,14 @@ fn child_after(front: &ExpiredFront, child: usize, end: usize) -> usize {
 
 /// Returns the index of the first shard, from the index `start` on, with a parent that hasn't expired at the trim
 /// horizon `cut`, and the index behind all parents of the shards before it.
-fn expired_parents(shards: &[KeptShard], start: usize, cut: &Option<Moment>) -> (usize, usize) {
+fn first_with_unexpired_parent(
+    shards: &[KeptShard],
+    start: usize,
+    cut: &Option<Moment>,
+) -> (usize, usize) {
     let mut child = start;
     let mut end = 0;
-    while child < shards.len() && has_no_parent(shards, &shards[child], cut) {
+    while child < shards.len() && has_no_unexpired_parent(shards, &shards[child], cut) {
         end = shards[child].behind_parents().max(end);
         child += 1;
     }
@@ -119,7 +123,7 @@ fn expired_parents(shards: &[KeptShard], start: usize, cut: &Option<Moment>) -> 
 }
 
 /// Whether the shard `child` has no parent, or its parent has expired at the trim horizon `cut`.
-fn has_no_parent(shards: &[KeptShard], child: &KeptShard, cut: &Option<Moment>) -> bool {
+fn has_no_unexpired_parent(shards: &[KeptShard], child: &KeptShard, cut: &Option<Moment>) -> bool {
     match child.shard().parent {
         Some(no) => is_expired_at(shards, no, cut),
         None => true,

@@ -3,7 +3,7 @@ ghost use Rattle.std.specs.Prelude.{◌≡◌, ◌≤◌, not, length, Some, Non
 ghost use Rattle.kds_base.specs.Span.{covers};
 ghost use Rattle.kds_defs.specs.Shards.{is_open, is_child, is_closed_below, new_shard, shown, with_closed};
 ghost use Rattle.kds_defs.specs.Streams.{floor_of};
-ghost use Rattle.kds_tree.specs.Starts.{start_of};
+ghost use Rattle.kds_tree.specs.Starts.{open_start_of};
 
 use crate::start::OpenStart;
 use kds_base::{Moment, Range, Seq, ShardNo};
@@ -23,11 +23,11 @@ impl Model for KeptShard {
 
     ghost Value = { ShardState };
 
-    ghost use Rattle.kds_tree.specs.Keeping.{AreBoth, state_of, fields_of, fields_back};
+    ghost use Rattle.kds_tree.specs.Keeping.{AreBothOrNeither, state_of, fields_of, fields_back};
 
     ghost view = { state_of };
 
-    ghost invariant = { λ k. AreBoth k.shard.end k.closed };
+    ghost invariant = { λ k. AreBothOrNeither k.shard.end k.closed };
 
     ghost inverse = { fields_of };
 
@@ -73,8 +73,8 @@ impl KeptShard {
     }
 
     /// Returns the number of the shard, and the hash key at which its range starts.
-    pub fn start(&self) -> OpenStart
-        ensures { result ≡ start_of self.now self.now.no }
+    pub fn open_start(&self) -> OpenStart
+        ensures { result ≡ open_start_of self.now self.now.no }
     {
         OpenStart {
             key: self.shard.range.start,

@@ -267,8 +267,8 @@ impl ShardTree {
         self.shards.extend_from_slice(&[lower_child, upper_child])?;
         self.shards[shard.0 as usize].close(seq, clock);
         remove_starts(&mut self.starts, shard, shard);
-        self.starts.push_reserved(lower_child.start());
-        self.starts.push_reserved(upper_child.start());
+        self.starts.push_reserved(lower_child.open_start());
+        self.starts.push_reserved(upper_child.open_start());
         sort_starts(&mut self.starts);
         set_first_child(&mut self.first_children, shard, shard, low);
         self.first_children.push_reserved(None);
@@ -342,7 +342,7 @@ impl ShardTree {
         self.shards[shard.0 as usize].close(seq, clock);
         self.shards[other.0 as usize].close(seq, clock);
         remove_starts(&mut self.starts, shard, other);
-        self.starts.push_reserved(born.start());
+        self.starts.push_reserved(born.open_start());
         sort_starts(&mut self.starts);
         set_first_child(&mut self.first_children, shard, other, child);
         self.first_children.push_reserved(None);
@@ -357,7 +357,7 @@ fn open_starts(alloc: Global, shards: &[KeptShard]) -> Result<Vec<OpenStart>, Me
     let mut starts = Vec::new(alloc);
     for kept in shards {
         if kept.is_open() {
-            starts.push(kept.start())?;
+            starts.push(kept.open_start())?;
         }
     }
     sort_starts(&mut starts);

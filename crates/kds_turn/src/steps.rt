@@ -107,7 +107,7 @@ pub fn put_machine<M: Machine>(board: &Board<M>, seat: &mut Seat<M>, machine: M)
 pub fn count_turn<M: Machine, N: Next>(board: &Board<M>, seat: &mut Seat<M>, _turn: &Snapshot<Turn>)
     requires board { (seat.old.table_id ≡ board.now.table_id) × (board.now.table_id.words ≡ 3)
         × (board.now.table_id.slots ≡ 1) }
-    requires seat { (seat.old.me.0.busy ≡ true) × (seat.old.me.0.joined ≡ []) }
+    requires seat { (seat.old.me.0.busy ≡ true) × (seat.old.me.0.unloaded ≡ []) }
     requires unspent { length seat.old.me.0.seen + 1 < 2 ^ 64 }
     requires turn { (_turn.now.value ≡ N.turn) × IsLawful N.turn × (N.turn.by ≡ first_number seat.old.me.0.accounts)
         × (0 < N.turn.by) }

@@ -10,12 +10,12 @@ pub struct Account {
     pub turns: LinkedList<Turn>,
 }
 
-/// What a seat knows. `seen` are the turns that the seat has seen. `joined` are the turns that joined seats had seen.
-/// The next time the seat loads the number of turns, the turns in `joined` are added to `seen`. `accounts` are the
+/// What a seat knows. `seen` are the turns that the seat has seen. `unloaded` are the turns that joined seats had seen.
+/// The next time the seat loads the number of turns, the turns in `unloaded` are added to `seen`. `accounts` are the
 /// seat's accounts. `busy` says whether the seat has the lock.
 pub struct View {
     pub seen: LinkedList<Turn>,
-    pub joined: LinkedList<Turn>,
+    pub unloaded: LinkedList<Turn>,
     pub accounts: LinkedList<Account>,
     pub busy: bool,
 }

@@ -1,7 +1,7 @@
 //! Serves one command for a stream.
 ghost use Rattle.std.specs.Prelude.{◌≡◌, ℕ, Some, true, IfOk, OnErr};
 ghost use Rattle.kds_defs.specs.Lawful.{IsLawfulCommand};
-ghost use Rattle.kds_stream.specs.Serving.{Serves, is_of_stream, token_of};
+ghost use Rattle.kds_stream.specs.Serving.{Serves, is_of_stream, token_stream};
 ghost use Rattle.kds_stream.specs.Value.{KeepsFields};
 
 use crate::stream::Stream;
@@ -17,7 +17,7 @@ impl Stream {
     pub fn serve(&mut self, alloc: Global, what: Command, open_limit: u64) -> Result<Answer, Memory>
         requires lawful { IsLawfulCommand what }
         requires own { is_of_stream what ≡ true }
-        requires token { (s : ℕ) → token_of what ≡ Some s → s ≡ self.old.no }
+        requires token { (s : ℕ) → token_stream what ≡ Some s → s ≡ self.old.no }
         ensures answered { IfOk result (λ a. Serves what open_limit self.old self.new a) }
         ensures fields { KeepsFields self.new self.old }
         ensures kept { OnErr result (self.new ≡ self.old) }

@@ -6,10 +6,10 @@ use Rattle.kds_head.proofs.write.put_response_head.Goals as goal
 
 pub returns-clause-text : goal.returns-clause-text
 returns-clause-text c =
-    let body = drop c.args.body c.args.text.now in
-    let digits : c.as_bytes.result.now ≡ decimal (length c.args.text.now - c.args.body) = search rules in
-    let size : length c.args.text.now - c.args.body ≡ length body =
-    omega (arith, length-drop c.args.body c.args.text.now) in
+    let body = drop c.args.body_at c.args.text.now in
+    let digits : c.as_bytes.result.now ≡ decimal (length c.args.text.now - c.args.body_at) = search rules in
+    let size : length c.args.text.now - c.args.body_at ≡ length body =
+    omega (arith, length-drop c.args.body_at c.args.text.now) in
     in_front c.status_line.result.now c.content_type_line.result.now c.as_slice-3.result.now c.as_bytes.result.now
     c.as_slice-2.result.now
     c.connection_line.result.now c.as_slice.result.now body _ _ _ _ _ _ _

@@ -18,14 +18,14 @@ pub returns-in-Some-clause-leads : goal.returns-in-Some-clause-leads
 returns-in-Some-clause-leads c b n =
     let a = c.args in
     refused_leads (service a.clock b n (values a.streams.now)) a.what c.in-Some.refusal
-    (λ log by all. expired_so log a.clock by a.what c.in-Some.refusal (sym c.expiry.ensures ∙ c.in-Some.is))
+    (λ log by all. expired_so log a.clock by a.what c.in-Some.refusal (sym c.token_refusal.ensures ∙ c.in-Some.is))
 
 pub returns-in-None-clause-leads : goal.returns-in-None-clause-leads
 returns-in-None-clause-leads c b n =
     let a = c.args in
     let w = service a.clock b n (values a.streams.now) in
     refused_leads w a.what refusal.NoStream
-    (λ log by all. gone_so w log by a.what all c.requires.own (sym c.expiry.ensures ∙ c.in_default.is)
+    (λ log by all. gone_so w log by a.what all c.requires.own (sym c.token_refusal.ensures ∙ c.in_default.is)
     (sym c.in-None.ensures.value))
 
 pub serve-requires-clause-token : goal.serve-requires-clause-token

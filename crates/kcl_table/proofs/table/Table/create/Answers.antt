@@ -2,7 +2,7 @@ use Rattle.std.proofs.Common.{◌≡◌, List, None, sym, ap, subst, ◌∙◌, 
 use Rattle.std.specs.List.{insert}
 use Rattle.kds_defs.specs.declared.reply.Row.{Row}
 use Rattle.kds_defs.specs.Leases.{new_row}
-use Rattle.kcl_table.specs.Rows.{IsTable, index_of, row_of}
+use Rattle.kcl_table.specs.Rows.{IsTable, insertion_index, row_of}
 use Rattle.kcl_table.proofs.Changes.{insert_is, table_with}
 use Rattle.kcl_table.proofs.table.Table.create.Goals as goal
 
@@ -13,10 +13,11 @@ invariant_of-self-2 c =
     ap (λ (rs : List Row). row_of rs c.args.key) (sym (c.deref.ensures.value ∙ c.self.view_is))
     ∙ sym c.in-None.ensures in
     let new = new_row c.args.key c.args.floor c.args.start c.args.parent c.args.adjacent in
-    let index = c.index_of-index.ensures.value ∙ ap (index_of c.args.key) (c.deref-2.ensures.value ∙ c.self.view_is) in
+    let index = c.insertion_index-index.ensures.value
+    ∙ ap (insertion_index c.args.key) (c.deref-2.ensures.value ∙ c.self.view_is) in
     let same = c.in_ok-insert.ensures.items
-    ∙ ap (insert c.self.inside.rows.items c.index_of-index.result) c.first.ensures
-    ∙ ap (λ (rs : List Row). insert rs c.index_of-index.result new) c.self.view_is
+    ∙ ap (insert c.self.inside.rows.items c.insertion_index-index.result) c.first.ensures
+    ∙ ap (λ (rs : List Row). insert rs c.insertion_index-index.result new) c.self.view_is
     ∙ ap (λ i. insert c.args.self.now i new) index ∙ insert_is new c.args.self.now none in
     subst IsTable (sym same) (table_with new c.args.self.now none (omega arith) table)
 
@@ -27,9 +28,10 @@ returns-clause-made c =
     ap (λ (rs : List Row). row_of rs c.args.key) (sym (c.deref.ensures.value ∙ c.self.view_is))
     ∙ sym c.in-None.ensures in
     let new = new_row c.args.key c.args.floor c.args.start c.args.parent c.args.adjacent in
-    let index = c.index_of-index.ensures.value ∙ ap (index_of c.args.key) (c.deref-2.ensures.value ∙ c.self.view_is) in
+    let index = c.insertion_index-index.ensures.value
+    ∙ ap (insertion_index c.args.key) (c.deref-2.ensures.value ∙ c.self.view_is) in
     let same = c.in_ok-insert.ensures.items
-    ∙ ap (insert c.self.inside.rows.items c.index_of-index.result) c.first.ensures
-    ∙ ap (λ (rs : List Row). insert rs c.index_of-index.result new) c.self.view_is
+    ∙ ap (insert c.self.inside.rows.items c.insertion_index-index.result) c.first.ensures
+    ∙ ap (λ (rs : List Row). insert rs c.insertion_index-index.result new) c.self.view_is
     ∙ ap (λ i. insert c.args.self.now i new) index ∙ insert_is new c.args.self.now none in
     same

@@ -10,7 +10,7 @@ use Rattle.kds_defs.specs.PutCommands.{enforce, put, put_many}
 use Rattle.kds_defs.specs.ScaleCommands.{scale_stream}
 use Rattle.kds_defs.specs.StreamCommands.{keep, merge, split_where}
 use Rattle.kds_stream.proofs.Serving.{full_so, over_so, serves, tells}
-use Rattle.kds_stream.specs.Serving.{token_of}
+use Rattle.kds_stream.specs.Serving.{token_stream}
 use Rattle.kds_stream.specs.Showing.{is_full}
 use Rattle.kds_stream.specs.Steps.{is_over, scale_where}
 use Rattle.kds_stream.proofs.stream.Stream.serve.Goals as goal
@@ -53,7 +53,7 @@ returns-in-GetIterator-clause-answered c =
     (λ log by told. with_some _ _ _ v.no (told.named _ refl).1) c.iterator.ensures
 
 pub records-requires-clause-stream : goal.records-requires-clause-stream
-records-requires-clause-stream c = c.requires.token _ (ap token_of c.in-Records.is)
+records-requires-clause-stream c = c.requires.token _ (ap token_stream c.in-Records.is)
 
 pub returns-in-Records-clause-answered : goal.returns-in-Records-clause-answered
 returns-in-Records-clause-answered c =
@@ -118,7 +118,7 @@ returns-in-Shards-clause-answered c =
     (λ log by told. with_some _ _ _ v.no (told.named _ refl).1) c.shards.ensures
 
 pub more-requires-clause-stream : goal.more-requires-clause-stream
-more-requires-clause-stream c = c.requires.token _ (ap token_of c.in-More.is)
+more-requires-clause-stream c = c.requires.token _ (ap token_stream c.in-More.is)
 
 pub returns-in-More-clause-answered : goal.returns-in-More-clause-answered
 returns-in-More-clause-answered c =

@@ -31,9 +31,9 @@ invariant_of-self-2 c =
     let starts : AreStarts ss xs =
     subst (AreStarts ss) (ap (λ (t : TreeValue). t.shards) c.self.view_is) c.self.invariant.starts in
     let away = one_more (filter (stays c.args.shard c.args.other) ss) c.remove_starts.new.starts.items
-    c.push_reserved.new.self.items c.start.result (own_start born)
+    c.push_reserved.new.self.items c.open_start.result (own_start born)
     (c.remove_starts.ensures.left ∙ ap (filter (stays c.args.shard c.args.other)) c.reserve.ensures.items)
-    c.push_reserved.ensures.items c.start.ensures in
+    c.push_reserved.ensures.items c.open_start.ensures in
     let tree = subst IsTree (ap (λ (t : TreeValue). t.shards) c.self.view_is) c.self.invariant.tree in
     let firsts = c.self.inside.first_children.items in
     let families : AreFamilies firsts xs =

@@ -30,10 +30,11 @@ invariant_of-self-2 c =
     let starts : AreStarts ss xs =
     subst (AreStarts ss) (ap (λ (t : TreeValue). t.shards) c.self.view_is) c.self.invariant.starts in
     let away = two_more (filter (stays c.args.shard c.args.shard) ss) c.remove_starts.new.starts.items
-    c.push_reserved.new.self.items c.push_reserved-2.new.self.items c.start.result c.start-2.result (own_start low)
+    c.push_reserved.new.self.items c.push_reserved-2.new.self.items c.open_start.result c.open_start-2.result
+    (own_start low)
     (own_start high)
     (c.remove_starts.ensures.left ∙ ap (filter (stays c.args.shard c.args.shard)) c.reserve.ensures.items)
-    c.push_reserved.ensures.items c.push_reserved-2.ensures.items c.start.ensures c.start-2.ensures in
+    c.push_reserved.ensures.items c.push_reserved-2.ensures.items c.open_start.ensures c.open_start-2.ensures in
     let tree = subst IsTree (ap (λ (t : TreeValue). t.shards) c.self.view_is) c.self.invariant.tree in
     let firsts = c.self.inside.first_children.items in
     let families : AreFamilies firsts xs =

@@ -3,7 +3,7 @@ use Rattle.kds_token.specs.Tokens.{iter_text, iter_token}
 use Rattle.kds_reply_texts.specs.Bodies.{iterator_data}
 use Rattle.kds_reply_texts.proofs.Joined.{added, begun, iterator_tokens}
 use Rattle.kds_reply_texts.proofs.TokenTexts.{encoded_is_text}
-use Rattle.kds_reply_texts.proofs.tokens.iterator_text.Goals as goal
+use Rattle.kds_reply_texts.proofs.tokens.iterator_body.Goals as goal
 
 pub text_of-requires : goal.text_of-requires
 text_of-requires c =

@@ -1,5 +1,5 @@
 use Rattle.std.proofs.Common.{rules}
-use Rattle.kcl_consumer.proofs.ahead.Ahead.is_filled.Goals as goal
+use Rattle.kcl_consumer.proofs.ahead.Ahead.stops_filling.Goals as goal
 
 pub returns-else-f : goal.returns-else-f
 returns-else-f c = search rules

@@ -1,5 +1,5 @@
 use Rattle.std.proofs.Common.{length, ◌-◌}
-use Rattle.kds_tree.proofs.front.expired_parents.Given as goal
+use Rattle.kds_tree.proofs.front.first_with_unexpired_parent.Given as goal
 
 -- The number of shards from the index `child` on, which falls with each pass of the loop.
 abbrev pub decreases-loop-child : goal.decreases-loop-child

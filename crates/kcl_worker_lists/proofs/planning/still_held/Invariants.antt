@@ -1,7 +1,7 @@
 use Rattle.std.proofs.Common.{◌≡◌, ◌++◌, drop}
 use Rattle.std.specs.List.{filter}
 use Rattle.kcl_defs.specs.Workers.{still_stands}
-use Rattle.kcl_worker_lists.proofs.planning.standing.Given as goal
+use Rattle.kcl_worker_lists.proofs.planning.still_held.Given as goal
 
 -- The leases that were kept so far, followed by those that still stand among the leases that weren't looked at yet, are
 -- all leases that still stand.

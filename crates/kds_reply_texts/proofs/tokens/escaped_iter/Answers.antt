@@ -1,7 +1,7 @@
 use Rattle.std.proofs.Common.{sym, ◌∙◌, rules}
 use Rattle.kds_token.specs.Tokens.{IsIter}
 use Rattle.kds_reply_texts.proofs.TokenTexts.{token_plain}
-use Rattle.kds_reply_texts.proofs.tokens.quoted_iter.Goals as goal
+use Rattle.kds_reply_texts.proofs.tokens.escaped_iter.Goals as goal
 
 pub returns : goal.returns
 returns c =
