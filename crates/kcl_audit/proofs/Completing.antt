@@ -30,8 +30,8 @@ pub completes : (s : Status) (all held now : Option (List ℕ)) → (s ≡ statu
 completes s None held now read write t = tt
 completes s (Some bytes) held now read write t = by_bytes s bytes held now read write t
 
--- The sink has had `a` faults before the lines, `b` after them and `c` at the end. If a write failed along the lines or
--- after them, it has had more faults at the end than before the lines.
+-- The sink has had `a` faults before the lines, `b` after the lines and `c` at the end. If a write failed along the
+-- lines or after them, the sink has had more faults at the end than before the lines.
 pub rose_since : (o : Outcome) (a b c : ℕ) → a ≤ b → b ≤ c → (o ≡ outcome.Write → Rose a b) → (o ≡ outcome.Write)
     ⊎ Rose b c → Rose a c
 rose_since o a b c ab bc along (inl w) = let r : Rose a b = along w in omega arith

@@ -18,7 +18,8 @@ stays : (n : ℕ) (r : Rule) (texts : List (List ℕ)) → progress_from (found 
 stays n r [] = refl
 stays n r (text ∷ texts) = stays n r texts
 
--- The progress after two lists of lines is the one after the second list, from the progress after the first on.
+-- The progress after the lines `texts` and then the lines `rest` is the progress after `rest`, from the progress after
+-- `texts` on.
 pub appended : (p : Progress) (texts rest : List (List ℕ))
     → progress_from p (texts ++ rest) ≡ progress_from (progress_from p texts) rest
 appended p [] rest = refl
@@ -38,7 +39,8 @@ pub unreported : (p : Progress) → is_bad p ≡ false → report p ≡ []
 unreported (found n r) h = absurd cc
 unreported _ h = refl
 
--- If a bad entry was found along the first lines `texts` of the bytes, it is the result of the audit of all bytes.
+-- If a bad entry was found along the first lines `texts` of the bytes, the result of the audit of all bytes is this bad
+-- entry.
 pub found_in : (bytes : List ℕ) (texts rest : List (List ℕ)) (n : ℕ) (r : Rule) → (lined bytes).texts ≡ texts ++ rest
     → progress texts ≡ found n r
     → audit_of bytes ≡ unsound n r
@@ -48,8 +50,8 @@ found_in bytes texts rest n r parts is =
 
 -- ---- The result at the end of the lines
 
--- If `texts` are all lines of the bytes, the result of the audit follows from the progress after them and from how the
--- bytes end.
+-- If `texts` are all lines of the bytes, the result of the audit follows from the progress after these lines and from
+-- how the bytes end.
 pub ended : (bytes : List ℕ) (texts rest : List (List ℕ)) (end : End) → (lined bytes).texts ≡ texts ++ rest → rest ≡ []
     → (lined bytes).end ≡ end
     → audit_of bytes ≡ finish (progress texts) end
@@ -62,8 +64,8 @@ pub sound_is : (end : AuditEnd) → is_sound end ≡ true → (n : ℕ) × (end 
 sound_is (sound n) h = (n, refl)
 sound_is _ h = absurd cc
 
--- If the lines end without the result that every entry is good, and the input isn't too long, then the result is a bad
--- entry.
+-- If the result at the end of the lines isn't that every entry is good, and the input isn't too long, then the result
+-- is a bad entry.
 pub unsound_is : (p : Progress) (b : Bool) → is_sound (finish p (end_by b)) ≡ false → (n : ℕ) × (r : Rule)
     × (finish p (end_by b) ≡ unsound n r)
 unsound_is fresh true h = (next 0, rule.Form, refl)

@@ -76,16 +76,17 @@ IsFine n x = (x ≡ over) ⊎ (x ≡ sound n)
 abbrev Ends : Progress → List ℕ → ℕ → Type 0
 Ends p bytes n = (used : ℕ) → IsFine n (ends p (lined_from used (pieces bytes)))
 
--- If the audit goes on well (`IsFine`) after the line `text`, it goes on well with this line. `b` says whether a length
--- is too great at it.
+-- Suppose that the result at the progress `p` is `over` if a line or the input is too long. If the result from the
+-- progress after the line `text` on is fine, the result from `p` on, with this line, is fine too. `b` says whether a
+-- length is too great at this line.
 past_by : (b : Bool) (p : Progress) (text : List ℕ) (l : Lined) (n : ℕ) → finish p too_long ≡ over
     → IsFine n (ends (step p text) l)
     → IsFine n (ends p (if b then ended too_long else preceded text l))
 past_by true p text l n stops later = inl stops
 past_by false p text l n stops later = later
 
--- If an audit of `z` ends well from the progress after the line `text` on, then an audit of this line and `z` ends well
--- (`Ends`).
+-- Suppose that the result at the progress `p` is `over` if a line or the input is too long. If an audit of `z` ends
+-- well from the progress after the line `text` on, then an audit of this line and `z` ends well from `p` on (`Ends`).
 past : (p : Progress) (text z : List ℕ) (n : ℕ) → finish p too_long ≡ over → Lacks 10 text → Ends (step p text) z n
     → Ends p (text ++ 10 ∷ z) n
 past p text z n stops lacks later used =
@@ -162,8 +163,9 @@ module _ (again : (v : ℕ) (line : EntryLine) → IsEntryLine v line → entry_
       ∙ ap (after_other log count) (end_again end in_time)
       ∙ ap (λ b. after_end count (if b then Err rule.Clock else Ok tt)) (not_below (last_clock log) end order)
 
-  -- An audit of the text of the entries `es` and of the last line ends well (`Ends`) from the progress `p` on. `p` must
-  -- go on with each line as the progress after the `count` entries of `log` does.
+  -- Suppose that the entries `es` after the journal `log` make a legal journal. Suppose also that `p` goes on with each
+  -- line as the progress after the `count` entries of `log` does. Then an audit of the text of `es` and of the last
+  -- line ends well from `p` on (`Ends`).
   rest_ends : (v : ℕ) (log : Journal) (count : ℕ) (es : List EntryLine) (end : ℕ) (p : Progress) → end < 2 ^ 62
       → AllByRecursion (IsEntryLine v) es
       → IsLegal (with_lines (map line_of es) log) → last_clock (with_lines (map line_of es) log) ≤ end
@@ -187,7 +189,8 @@ module _ (again : (v : ℕ) (line : EntryLine) → IsEntryLine v line → entry_
       past p (entry_spelling v e) (rest_text v es end) (counted (next count) es) stops (one_line v e lines.0)
       (subst (λ q. Ends q (rest_text v es end) (counted (next count) es)) (sym goes) later))
 
-  -- At the first line of a text of the first version, which isn't the heading, the progress is the one after this line.
+  -- The first line of a text of the first version isn't the heading. So the first step of an audit of this text is that
+  -- of an entry or of the last line (`line_step`).
   fresh_by : (text : List ℕ) (b : Bool) → bytes_eq text heading ≡ b → IsTold FIRST_VERSION text
       → (if b then going VERSION [] 0 else line_step FIRST_VERSION [] 0 text) ≡ line_step FIRST_VERSION [] 0 text
   fresh_by text true is told =

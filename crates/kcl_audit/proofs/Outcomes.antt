@@ -31,11 +31,11 @@ module _ (v : TakerValue) (bytes : List ℕ) (left start mid : Option (List ℕ)
   abbrev Reads : Outcome → Type 0
   Reads o = Told o (Took v) (Broke v) IsOver texts_report bytes left start mid
 
-  -- If the sink failed, what the status Write says is true, whatever the outcome is.
+  -- Whatever the outcome is, what the status Write says is true.
   pub told_write : (o : Outcome) → Reads o → TellsAudit status.Write bytes start mid
   told_write o t = write_tells bytes t.texts t.rest t.front t.back start mid t.parts t.output_is t.written
 
-  -- If memory ran out, what the status Memory says is true, whatever the outcome is.
+  -- Whatever the outcome is, what the status Memory says is true.
   pub told_memory : (o : Outcome) → Reads o → TellsAudit status.Memory bytes start mid
   told_memory o t = memory_tells bytes t.texts t.rest t.front t.back start mid t.parts t.output_is t.written
 
@@ -60,8 +60,8 @@ module _ (v : TakerValue) (bytes : List ℕ) (left start mid : Option (List ℕ)
     told_stopped n s t = absurd (is_bad_found (progress t.texts) t.because.3 (good t.texts t.taken))
 
   module _ (now : Option (List ℕ)) (s : Status) where
-    -- If the input ended after a line feed, and the end of the audit did what the status `s` says (`TellsEnd`), then
-    -- what this status says of the whole audit is true.
+    -- Suppose that the input ended after a line feed, and that the end of the audit did what the status `s` says
+    -- (`TellsEnd`). Then what this status says of the whole audit is true.
     pub told_whole : ((texts : List (List ℕ)) → Took v texts
         → TellsEnd s (finish (progress texts) (end_by false)) (report (progress texts)) mid now)
         → Reads outcome.Whole → TellsAudit s bytes start now
@@ -70,8 +70,8 @@ module _ (v : TakerValue) (bytes : List ℕ) (left start mid : Option (List ℕ)
         t.because.1 t.because.0 s
         (ends t.texts t.taken)
 
-    -- If the input ended inside a line, and the end of the audit did what the status `s` says (`TellsEnd`), then what
-    -- this status says of the whole audit is true.
+    -- Suppose that the input ended inside a line, and that the end of the audit did what the status `s` says
+    -- (`TellsEnd`). Then what this status says of the whole audit is true.
     pub told_unfinished : (n : ℕ) → ((texts : List (List ℕ)) → Took v texts
         → TellsEnd s (finish (progress texts) (end_by true)) (report (progress texts)) mid now)
         → Reads (outcome.Unfinished n) → TellsAudit s bytes start now

@@ -1,4 +1,4 @@
--- An audit that ends with Done shows that the state after the text's journal is safe, and one that ends with Unsound
+-- An audit that ends with Done shows that the state after the text's journal is safe. An audit that ends with Unsound
 -- shows that the text is that of no legal journal.
 use Rattle.std.proofs.Common.{◌≡◌, ℕ, List, Option, Some, None, sym, ◌∙◌}
 use Rattle.std.specs.Option.{IfSome}

@@ -39,7 +39,7 @@ by_over : (b : Bool) → (if b then too_long else unfinished) ≡ whole → ⊥
 by_over true h = cc
 by_over false h = cc
 
--- If the bytes after the last line feed end a line, they are none.
+-- If the bytes end after a line feed, the last piece of the bytes is the text of its lines: both are empty.
 last_whole : (used : ℕ) (piece : List ℕ) → (last_of used piece).end ≡ whole
     → piece ≡ lines_text (last_of used piece).texts
 last_whole used [] h = refl
@@ -69,8 +69,8 @@ whole_text bytes h = sym (join_with_byte-slice_split 10 bytes) ∙ whole_from 0 
 
 -- ---- The end of an audit that finds every entry good
 
--- If the result is that all `n` entries are good, the last line was read after them, and the input ended after its line
--- feed.
+-- If the result is that all `n` entries are good, the last line was read after these entries, and the input ended with
+-- the line feed of this line.
 finish_so : (p : Progress) (end : End) (n : ℕ) → finish p end ≡ sound n → (p ≡ closed n) × (end ≡ whole)
 finish_so (closed count) whole n h = grind (arith, h)
 finish_so _ _ n h = absurd (grind (arith, h))
@@ -89,8 +89,8 @@ closed_so count (t ∷ ts) n h = absurd (found_stays (next (next count)) rule.Fo
 -- ---- The lines of an audit that finds every entry good
 
 -- The lines `texts` are those of the entries `entries`, followed by the last line. The journal `log` with these entries
--- added is legal, and the last line's clock isn't below its clock. `n` is the number of all entries, if `count` came
--- before these lines.
+-- added is legal, and the last line's clock isn't below the clock of this journal. `n` is the number of all entries, if
+-- `count` entries came before these lines.
 record AreSound (v : ℕ) (log : Journal) (count : ℕ) (texts : List (List ℕ)) (n : ℕ) : Type 0 where
   entries : List EntryLine
   end : ℕ
@@ -101,21 +101,23 @@ record AreSound (v : ℕ) (log : Journal) (count : ℕ) (texts : List (List ℕ)
   legal : IsLegal (with_lines (map line_of entries) log)
   order : last_clock (with_lines (map line_of entries) log) ≤ end
 
--- A journal with lines added one by one has them in reverse order in front.
+-- If lines are added to a journal one by one, they stand in front of it in reverse order.
 pub lines_are : (xs : List Line) (log : Journal) → with_lines xs log ≡ reverse xs ++ log
 lines_are [] log = refl
 lines_are (x ∷ xs) log = lines_are xs (x ∷ log) ∙ sym (append_assoc (reverse xs) (x ∷ []) log)
     ∙ ap (λ ys. ys ++ log) (sym (reverse-append (x ∷ []) xs))
 
--- In this module, three laws are taken as given: what is read as an entry is the entry's text, what is read as the last
--- line is its text, and a line with a good verdict is good (`IsGood`).
+-- In this module, three laws are taken as given. A text that is read as an entry is the text of this entry. A text that
+-- is read as the last line is the text of this line. The line of an entry is good (`IsGood`) if the verdict on it is
+-- good.
 module _ (reads : (v : ℕ) (text : List ℕ) (line : EntryLine) → entry_of v text ≡ Some line → IsEntryLine v line
     × (text ≡ entry_spelling v line))
     (end_reads : (text : List ℕ) (clock : ℕ) → end_of text ≡ Some clock → (clock < 2 ^ 62)
     × (text ≡ end_spelling clock))
     (ok : (log : Journal) (c by : ℕ) (what : Entry) → IsFit what → verdict log (entry_line c by what) ≡ Ok tt
     → IsGood log (entry_line c by what)) where
-  -- If the first line is read as the entry `e`, and `AreSound` holds for the lines after it, then it holds for all.
+  -- If the first line is read as the entry `e`, and `AreSound` holds for the lines after the first, then it holds for
+  -- all lines.
   entry_sound : (v : ℕ) (log : Journal) (count : ℕ) (text : List ℕ) (texts : List (List ℕ)) (n : ℕ) (e : EntryLine)
       (x : Verdict) → entry_of v text ≡ Some e
       → verdict log (line_of e) ≡ x → IsLegal log
@@ -144,8 +146,9 @@ module _ (reads : (v : ℕ) (text : List ℕ) (line : EntryLine) → entry_of v 
       }
   entry_sound v log count text texts n e (Err r) read is legal later h = absurd (found_stays (next count) r texts n h)
 
-  -- If the first line is read as the last line of a journal, `AreSound` holds for it. `b` says whether its clock is
-  -- below that of the journal, which can't be.
+  -- If the first line is read as the last line of a journal, and the progress after all lines is `closed`, then
+  -- `AreSound` holds for these lines. `b` says whether the clock of the last line is below that of the journal, which
+  -- can't be.
   end_sound : (v : ℕ) (log : Journal) (count : ℕ) (text : List ℕ) (texts : List (List ℕ)) (n c : ℕ) (b : Bool)
       → end_of text ≡ Some c
       → nat_lt c (last_clock log) ≡ b → IsLegal log
@@ -166,7 +169,8 @@ module _ (reads : (v : ℕ) (text : List ℕ) (line : EntryLine) → entry_of v 
         order = not_past (last_clock log) c is;
       }
 
-  -- If the first line isn't an entry, it is the last line of a journal, and `AreSound` holds.
+  -- Suppose that the first line isn't an entry, and that the progress after all lines is `closed`. Then the first line
+  -- is the last line of a journal, and `AreSound` holds for these lines.
   other_sound : (v : ℕ) (log : Journal) (count : ℕ) (text : List ℕ) (texts : List (List ℕ)) (n : ℕ) (o : Option ℕ)
       → end_of text ≡ o → IsLegal log
       → progress_from (after_other log count o) texts ≡ closed n → AreSound v log count (text ∷ texts) n
@@ -174,8 +178,8 @@ module _ (reads : (v : ℕ) (text : List ℕ) (line : EntryLine) → entry_of v 
   other_sound v log count text texts n (Some c) read legal h =
       end_sound v log count text texts n c (nat_lt c (last_clock log)) read refl legal h
 
-  -- If `AreSound` holds for the lines after the first one, from the progress after it on, then it holds for all. `o` is
-  -- the entry as which the first line is read, if it is one.
+  -- If `AreSound` holds for the lines after the first one, from the progress after this line on, then it holds for all
+  -- lines. `o` is the entry that the first line has, or None if this line isn't an entry.
   line_sound : (v : ℕ) (log : Journal) (count : ℕ) (text : List ℕ) (texts : List (List ℕ)) (n : ℕ)
       (o : Option EntryLine) → entry_of v text ≡ o → IsLegal log
       → ((log' : Journal) (count' : ℕ) → IsLegal log' → progress_from (going v log' count') texts ≡ closed n
@@ -186,8 +190,8 @@ module _ (reads : (v : ℕ) (text : List ℕ) (line : EntryLine) → entry_of v 
   line_sound v log count text texts n (Some e) read legal later h =
       entry_sound v log count text texts n e (verdict log (line_of e)) read refl legal later h
 
-  -- If the progress after the lines `texts` is `closed`, from that of the legal journal `log` on, then `AreSound` holds
-  -- for them.
+  -- If the lines `texts` lead from the progress after the legal journal `log` to `closed`, then `AreSound` holds for
+  -- these lines.
   sound_from : (v : ℕ) (log : Journal) (count : ℕ) (texts : List (List ℕ)) (n : ℕ) → IsLegal log
       → progress_from (going v log count) texts ≡ closed n
       → AreSound v log count texts n
@@ -195,8 +199,8 @@ module _ (reads : (v : ℕ) (text : List ℕ) (line : EntryLine) → entry_of v 
   sound_from v log count (t ∷ ts) n legal h = line_sound v log count t ts n (entry_of v t) refl legal
       (λ log' count' legal' h'. sound_from v log' count' ts n legal' h') h
 
-  -- If `AreSound` holds for the lines `texts`, and the bytes are the heading of the version `v` and these lines, then
-  -- the bytes are the text of a legal journal.
+  -- Let `AreSound` hold for the lines `texts`, and let the bytes be the heading of the version `v` and these lines.
+  -- Then the bytes are the text of a legal journal.
   journal_by : (bytes : List ℕ) (n v : ℕ) (texts : List (List ℕ)) → IsVersion v → AreSound v [] 0 texts n
       → bytes ≡ heading_text v ++ lines_text texts
       → IsJournal bytes n
@@ -217,8 +221,8 @@ module _ (reads : (v : ℕ) (text : List ℕ) (line : EntryLine) → entry_of v 
         many = s.many;
       }
 
-  -- If the first line is the heading or not (`b`), and the audit goes on to the last line from there, then the bytes
-  -- are the text of a legal journal.
+  -- `b` says whether the first line is the heading. If the lines lead from the progress after this line to `closed`,
+  -- then the bytes are the text of a legal journal.
   first_by : (bytes : List ℕ) (n : ℕ) (t : List ℕ) (ts : List (List ℕ)) (b : Bool) → bytes_eq t heading ≡ b
       → bytes ≡ lines_text (t ∷ ts)
       → progress_from (if b then going VERSION [] 0 else step (going FIRST_VERSION [] 0) t) ts ≡ closed n

@@ -16,7 +16,7 @@ use Rattle.kcl_audit.specs.Stages.{texts_report}
 use Rattle.kcl_audit.specs.Text.{named_text, report, rule_name}
 use Rattle.kcl_audit.proofs.Ends.{appended}
 
--- What the progress says was written is what the stage says.
+-- The progress and the stage that represents it say the same about what was written.
 pub report_at : (s : Stage) (a : JudgeValue) (p : Progress) → IsAt s a p → report p ≡ stage_report s
 report_at stage.Fresh a p h = ap report h.0
 report_at (stage.Going version count) a p h = ap report h.1.1.0
@@ -30,17 +30,18 @@ nothing _ h = refl
 
 -- ---- After an entry
 
--- In this module, `e` is an entry of a text in the version `v`, after the `count` entries of the journal `log`, and `a`
--- is the judge after it.
+-- In this module, `e` is an entry of a text in the version `v`, after the `count` entries of the journal `log`. `a` is
+-- the judge after `e`.
 module _ (v : ℕ) (version : IsVersion v) (log : Journal) (count : ℕ) (e : EntryLine) (a : JudgeValue) where
-  -- If the verdict on the entry is that it breaks the rule with the name `name`, the progress says so (`IsNamed`).
+  -- If the verdict is that the entry breaks the rule with the name `name`, the progress after the entry says so
+  -- (`IsNamed`).
   pub named_by : (x : Verdict) (name : List ℕ) → Some name ≡ name_in x
       → IsNamed (next count) name (after_entry v log count e x)
   named_by (Ok u) name h = absurd cc
   named_by (Err r) name h = let same : name ≡ rule_name r = cc in (r, (refl, same))
 
-  -- If the verdict is that the entry is good, and the judge represents the journal with it, then the stage with one
-  -- more entry represents the progress.
+  -- Suppose that the verdict is that the entry is good, and that the judge represents the journal with this entry. Then
+  -- the stage with one more entry represents the progress after the entry.
   pub good_by : (x : Verdict) → None ≡ name_in x → Stands a (line_of e ∷ log)
       → IsAt (stage.Going v (next count)) a (after_entry v log count e x)
   good_by (Ok u) h st = (version, (line_of e ∷ log, (refl, st)))
@@ -64,7 +65,8 @@ module _ (old new : TakerValue) (texts : List (List ℕ)) (text : List ℕ) (bef
       ∙ ap (λ r. r ++ stage_report new.stage)
       (sym (report_at old.stage old.judge (progress texts) took ∙ nothing old.stage before))
 
-  -- If what the stage of `new` says was added to the output, the audit goes on with this line (`Goes`).
+  -- If the report of the stage of `new` (`stage_report`) was added to the output, then the audit took the line `text`,
+  -- and exactly what this line adds to the report was written (`Goes`).
   pub goes_on : (from to : List ℕ) → to ≡ from ++ stage_report new.stage
       → Goes (Took new) texts_report texts text from to
   goes_on from to wrote = record { taken = takes; added = stage_report new.stage; grows = grows; wrote = wrote }

@@ -15,7 +15,7 @@ use Rattle.kcl_audit.proofs.Ends.{bad_is, ended, found_in, sound_is, unreported,
 
 -- ---- Known bytes
 
--- If nothing is two lists together, the first of them is empty.
+-- If two lists together are empty, the first of them is empty.
 empty_front : (xs ys : List ℕ) → [] ≡ xs ++ ys → xs ≡ []
 empty_front [] ys h = refl
 empty_front (x ∷ xs) ys h = absurd cc
@@ -23,7 +23,7 @@ empty_front (x ∷ xs) ys h = absurd cc
 -- ---- Along the lines
 
 -- In this module, `texts` are the lines of the bytes that were taken, and `rest` those that weren't. Of the output
--- along the lines, `front` was written and `back` wasn't. The sink held `held` before and `mid` after it.
+-- along the lines, `front` was written and `back` wasn't. The sink held `held` before this output and `mid` after it.
 module _ (bytes : List ℕ) (texts rest : List (List ℕ)) (front back : List ℕ) (held mid : Option (List ℕ))
     (parts : (lined bytes).texts ≡ texts ++ rest) (output : report (progress texts) ≡ front ++ back)
     (written : Appends held mid front) where
@@ -80,7 +80,8 @@ module _ (bytes : List ℕ) (texts rest : List (List ℕ)) (front back : List �
 
     -- In this module, all lines of the bytes were taken. `b` says whether the bytes end inside a line.
     module _ (b : Bool) (now : Option (List ℕ)) (none : rest ≡ []) (is : (lined bytes).end ≡ end_by b) where
-      -- The result of the audit of the bytes is that of the progress after the lines.
+      -- The result of the audit of the bytes is what `finish` gives for the progress after all lines and for how the
+      -- bytes end.
       said : audit_of bytes ≡ finish (progress texts) (end_by b)
       said = ended bytes texts rest (end_by b) parts none is
 

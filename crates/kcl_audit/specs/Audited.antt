@@ -13,7 +13,7 @@ use Rattle.kcl_audit.specs.Stages.{is_sound}
 
 -- What is true if an audit of `bytes` ended with the status. The sink held `held` before the audit, and holds `now`
 -- after it. Done: every entry is good. Unsound: an entry is bad. In both cases, the whole text of the audit was
--- written. TooLong: a line or the input is too long, and nothing was written. Read: the source failed, and nothing was
+-- written. TooLong: a line or the input is too long, and nothing was written. Read (the source failed): nothing was
 -- written. Write, Memory: a prefix of the audit's text was written. An audit ends with no other status.
 abbrev pub TellsAudit : Status → List ℕ → Option (List ℕ) → Option (List ℕ) → Type 0
 TellsAudit Done bytes held now = (n : ℕ) × (audit_of bytes ≡ sound n) × Appends held now (audit_text (audit_of bytes))
@@ -35,13 +35,13 @@ IsAuditStatus Write = Unit {0}
 IsAuditStatus Memory = Unit {0}
 IsAuditStatus _ = ⊥
 
--- The status of an audit that ends as `audit_of` says, if no source and no sink fails and memory doesn't run out.
+-- The status of an audit with this result, if no source and no sink fails and memory doesn't run out.
 abbrev pub audit_status : AuditEnd → Status
 audit_status (sound n) = Done
 audit_status (unsound n r) = Unsound
 audit_status over = TooLong
 
--- The status is the one that the audit of the bytes has by its result (`audit_status`), or it is Memory.
+-- The status is the one that belongs to the result of the audit of the bytes (`audit_status`), or it is Memory.
 abbrev pub AuditsAs : List ℕ → Status → Type 0
 AuditsAs bytes status = (status ≡ audit_status (audit_of bytes)) ⊎ (status ≡ Memory)
 
@@ -56,9 +56,9 @@ pub record IsSafely (bytes : List ℕ) : Type 0 where
 abbrev pub IsNoJournal : List ℕ → Type 0
 IsNoJournal bytes = (n : ℕ) → IsJournal bytes n → ⊥
 
--- What is written after the lines of an audit whose result is `end`, if `along` was written along the lines. With Done
--- and Unsound, which say whether every entry is good, it is the rest of the audit's text. With Write it is a prefix of
--- this rest, and with Memory nothing.
+-- What is written after the lines of an audit with the result `end`, if `along` was written along the lines. With Done,
+-- every entry is good, and with Unsound, not every entry is good. In both cases, the rest of the audit's text is
+-- written. With Write, a prefix of this rest is written, and with Memory nothing.
 abbrev pub TellsEnd : Status → AuditEnd → List ℕ → Option (List ℕ) → Option (List ℕ) → Type 0
 TellsEnd Done end along held now =
     (is_sound end ≡ true) × ((added : List ℕ) × (along ++ added ≡ audit_text end) × Appends held now added)

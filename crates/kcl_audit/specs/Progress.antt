@@ -26,49 +26,50 @@ pub data Progress : Type 0 where
   closed : ℕ → Progress
   found : ℕ → Rule → Progress
 
--- The number after `n`. It never exceeds the greatest `u64`, at which a count stays.
+-- The number after `n`, but at most 2^64 - 1, the greatest `u64`. At this number, a count stays.
 abbrev pub next : ℕ → ℕ
 next n = min (n + 1) (2 ^ 64 - 1)
 
--- The progress after the entry `e`, on which the verdict is the last argument. `count` entries came before it, those of
--- the journal `log`.
+-- The progress after the entry `e`, before which the `count` entries of the journal `log` came. The last argument is
+-- the verdict on `e`.
 abbrev pub after_entry : ℕ → Journal → ℕ → EntryLine → Verdict → Progress
 after_entry version log count e (Ok u) = going version (line_of e ∷ log) (next count)
 after_entry version log count e (Err r) = found (next count) r
 
--- The progress after the last line of the text, on which the verdict is the last argument, and before which `count`
--- entries came.
+-- The progress after the last line of the text, before which `count` entries came. The last argument is the verdict on
+-- this line.
 abbrev pub after_end : ℕ → Verdict → Progress
 after_end count (Ok u) = closed count
 after_end count (Err r) = found (next count) r
 
--- The progress after a line that isn't an entry. It must be the last line of the text, and then its clock is given.
--- Otherwise (None), it breaks the rule `Form`.
+-- The progress after a line that isn't an entry, before which the `count` entries of the journal `log` came. If the
+-- line has the form of a last line, it is judged by its clock, the last argument. Otherwise (None), the line breaks the
+-- rule `Form`.
 abbrev pub after_other : Journal → ℕ → Option ℕ → Progress
 after_other log count None = found (next count) rule.Form
 after_other log count (Some clock) = after_end count (end_verdict log clock)
 
 -- The progress after the line `text`, before which the `count` entries of the journal `log` came. The last argument is
--- the entry as which the line is read, if it is one.
+-- the entry that this line has, or None if the line isn't an entry.
 abbrev pub after_line : ℕ → Journal → ℕ → List ℕ → Option EntryLine → Progress
 after_line version log count text (Some e) = after_entry version log count e (verdict log (line_of e))
 after_line version log count text None = after_other log count (end_of text)
 
 -- The progress after the line `text` of a text in the version `version`. The `count` entries of the journal `log` came
--- before it.
+-- before this line.
 abbrev pub line_step : ℕ → Journal → ℕ → List ℕ → Progress
 line_step version log count text = after_line version log count text (entry_of version text)
 
 -- The progress after one more line, `text`. The first line of a text may be the heading of the second version. A line
--- after the last line (`closed`) breaks the rule `Form`, and counts as an entry after the last line, which counts as
--- one too. After a bad entry, nothing changes.
+-- after the last line (`closed`) breaks the rule `Form`, and its number counts the entries, the last line and this
+-- line. After a bad entry, nothing changes.
 abbrev pub step : Progress → List ℕ → Progress
 step fresh text = if bytes_eq text heading then going VERSION [] 0 else line_step FIRST_VERSION [] 0 text
 step (going version log count) text = line_step version log count text
 step (closed count) text = found (next (next count)) rule.Form
 step (found n r) text = found n r
 
--- The progress after the lines `texts`, if it was `p` before them.
+-- The progress after the lines `texts`, if the progress before these lines was `p`.
 abbrev pub progress_from : Progress → List (List ℕ) → Progress
 progress_from p [] = p
 progress_from p (text ∷ texts) = progress_from (step p text) texts
@@ -91,8 +92,9 @@ abbrev pub without_end : ℕ → End → AuditEnd
 without_end count input.too_long = over
 without_end count _ = unsound (next count) rule.Form
 
--- The result if the input ends after the last line of a journal, before which `count` entries came. The text must end
--- with this line and its line feed, as `whole` says. Otherwise something follows, or the input is too long.
+-- The result if the last line of a journal was read, before which `count` entries came. `whole`: the input ends with
+-- this line. `unfinished`: an unfinished line follows, which breaks the rule `Form`. `too_long`: what follows is too
+-- long.
 abbrev pub behind_end : ℕ → End → AuditEnd
 behind_end count input.whole = sound count
 behind_end count input.unfinished = unsound (next (next count)) rule.Form

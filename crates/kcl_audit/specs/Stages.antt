@@ -25,7 +25,7 @@ pub record TakerValue : Type 0 where
 abbrev pub HasJournal : JudgeValue → Type 0
 HasJournal a = (log : Journal) × Stands a log
 
--- If the stage says that entries may follow, it has a version of the text that exists.
+-- If the stage says that entries may follow, its version of the text is one that exists.
 abbrev pub HasVersion : Stage → Type 0
 HasVersion (stage.Going version count) = IsVersion version
 HasVersion _ = Unit {0}
@@ -43,7 +43,7 @@ IsAt (stage.Going version count) a p =
 IsAt (stage.Closed count) a p = p ≡ closed count
 IsAt (stage.Found n name) a p = IsNamed n name.now p
 
--- The audit `v` has taken the lines `texts`: its stage represents the progress after them.
+-- The audit `v` has taken the lines `texts`: its stage represents the progress after these lines.
 abbrev pub Took : TakerValue → List (List ℕ) → Type 0
 Took v texts = IsAt v.stage v.judge (progress texts)
 
@@ -86,7 +86,7 @@ abbrev pub is_sound : AuditEnd → Bool
 is_sound (sound n) = true
 is_sound _ = false
 
--- What an audit with the progress `p` does if the input ends as `end` says. `says` is whether every entry is good. The
+-- What an audit with the progress `p` does if the input ends as `end` says. `says` is true if every entry is good. The
 -- part of the audit's text that wasn't written along the lines is added to the output, which was `before` and is now
 -- `after`.
 pub record Finishes (p : Progress) (end : End) (says : Bool) (before after : List ℕ) : Type 0 where

@@ -20,8 +20,8 @@ journal_of es = reverse (map line_of es)
 abbrev pub with_feed : List ℕ → List ℕ
 with_feed text = text ++ 10 ∷ []
 
--- The first line of a text in the version `version`, with its line feed. The first version has no such line, so it is
--- empty.
+-- The first line of a text in the version `version`, with its line feed. The first version has no such line, so the
+-- list is empty.
 abbrev pub heading_text : ℕ → List ℕ
 heading_text version = if is_first version then [] else with_feed heading
 
@@ -31,13 +31,14 @@ abbrev pub entries_text : ℕ → List EntryLine → ℕ → List ℕ
 entries_text version es end =
     heading_text version ++ (flat_map (λ e. with_feed (entry_spelling version e)) es ++ with_feed (end_spelling end))
 
--- The number `n` plus the number of the entries, counted up to the greatest `u64`.
+-- The count that `n` becomes after the entries of a list: each entry adds 1, but no count goes above 2^64 - 1, the
+-- greatest `u64` (`next`).
 abbrev pub counted : ℕ → List EntryLine → ℕ
 counted n [] = n
 counted n (e ∷ es) = counted (next n) es
 
 -- The bytes are the text of a legal journal in one of the versions, and its last line has a clock that isn't below that
--- of the newest entry. `count` is the number of the entries, counted up to the greatest `u64`.
+-- of the newest entry. `count` is the number of the entries (`counted`).
 pub record IsJournal (bytes : List ℕ) (count : ℕ) : Type 0 where
   pub version : ℕ
   pub entries : List EntryLine
@@ -52,8 +53,8 @@ pub record IsJournal (bytes : List ℕ) (count : ℕ) : Type 0 where
 
 -- ---- What an audit writes
 
--- The name of a rule as an audit writes it. For the rule that the machine would refuse a command, it is the name of the
--- refusal.
+-- The name of a rule as an audit writes this name. If the rule is that the machine accepts the entry's command (`By`),
+-- the name is that of the refusal.
 abbrev pub rule_name : Rule → List ℕ
 rule_name rule.Form = codes "Form"
 rule_name rule.Clock = codes "Clock"
@@ -72,7 +73,7 @@ entry_text n r = named_text n (rule_name r)
 abbrev pub sound_text : ℕ → List ℕ
 sound_text n = codes "sound " ++ with_feed (decimal n)
 
--- The whole text that an audit with this result writes. If a line or the input is too long, it is empty.
+-- The whole text that an audit with this result writes. If a line or the input is too long, the text is empty.
 abbrev pub audit_text : AuditEnd → List ℕ
 audit_text (sound n) = sound_text n
 audit_text (unsound n r) = entry_text n r

@@ -1,5 +1,6 @@
--- The verdict on a line (`verdict`) is Ok exactly if the line is good (`IsGood`): its clock isn't below that of the
--- line before, and its command is accepted and leads to just this line.
+-- If a line is good (`IsGood`), the verdict on it (`verdict`) is Ok. Conversely, a line with the verdict Ok is good if
+-- it is the line of its entry (`entry_line`) and the entry's numbers are in the ranges that the judge relies on
+-- (`IsFit`).
 use Rattle.std.proofs.Common.{◌≡◌, ℕ, ◌-◌, ◌≤◌, Bool, true, false, List, [], ◌∷◌, refl, ap, ◌∙◌, arith}
 use Rattle.std.specs.Prelude.{nat_lt, if◌then◌else◌, Ok, Err}
 use Rattle.std.specs.List.{AllByRecursion}
@@ -70,7 +71,8 @@ in_range (entry.Put s sh n hash bytes key_bytes) h = h.0
 in_range (entry.Kept s hours) h = h
 in_range _ h = tt
 
--- If a line is that of its entry, and the test says that its entry is `what`, then the line is that of `what`.
+-- If a line is the line of its entry, and this entry passes the test of being `what`, then the line is the line of
+-- `what`.
 one_line : (line : Line) (c by : ℕ) (what : Entry) → line ≡ entry_line c by line.what → same_entry line.what what ≡ true
     → line ≡ entry_line c by what
 one_line line c by what is same = is ∙ ap (entry_line c by) (same_so line.what what same)
@@ -79,11 +81,11 @@ one_line line c by what is same = is ∙ ap (entry_line c by) (same_so line.what
 abbrev meets : Bool → Verdict
 meets b = if b then Ok tt else Err rule.Entry
 
--- If this verdict is Ok, the command leads to just this entry.
+-- If the verdict `meets` is Ok, the command leads to just this entry.
 by_test : (b : Bool) → meets b ≡ Ok tt → b ≡ true
 by_test b h = grind arith
 
--- If an accepted command leads to just the entry `what`, then its one line is that of `what`.
+-- If an accepted command leads to just the entry `what`, then it adds one line, and this is the line of `what`.
 by_lines : (c by : ℕ) (what : Entry) (lines : List Line) (reply : Reply)
     → AllByRecursion (λ (l : Line). l ≡ entry_line c by l.what) lines → gives lines what ≡ true
     → Accepted lines reply ≡ Accepted (entry_line c by what ∷ []) reply

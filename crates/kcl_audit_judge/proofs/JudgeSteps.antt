@@ -1,5 +1,5 @@
--- After a judgement of an entry of a stream, the judge's verdict is the right one, and the judge represents the journal
--- with the entry's line if the entry is good.
+-- After a judgement of an entry of a stream, the judge's verdict is the right one. If the entry is good, the judge
+-- represents the journal with the entry's line.
 use Rattle.std.proofs.Common.{◌≡◌, ℕ, List, ◌∷◌, sym, subst, ◌∙◌}
 use Rattle.std.specs.Prelude.{is_some, true, Result, Ok, Err, IfOk, OnOk}
 use Rattle.kds_defs.proofs.Elsewhere.{of_some}

@@ -53,8 +53,8 @@ GivesLine (Accepted lines reply) line = lines ≡ line ∷ []
 
 -- ---- Each command
 
--- The list with the line that the command of a lease adds if it is accepted. For a command that adds no line or no line
--- known beforehand, it is `lines`.
+-- The list with the one line that a command on leases adds if it is accepted. For a command that adds no line, or whose
+-- line isn't known beforehand, the list is `lines`.
 abbrev its_lines : Journal → ℕ → ℕ → Command → List Line → List Line
 its_lines log c by (command.MakeLease key from) lines =
     plain_line c by (entry.LeaseMade key (counting_origin log key from)) ∷ []
@@ -90,7 +90,7 @@ gives_line log c by what line is = of_decision (decide log c by what) refl
 
 -- ---- The judgement
 
--- If the decision gives the line `line`, whose entry is another one than `what`, then `what` breaks the rule `Entry`.
+-- If the decision gives the line `line`, and the entry of `line` isn't `what`, then `what` breaks the rule `Entry`.
 pub judged_other : (d : Decision) (line : Line) (what : Entry) (r : Reply) → GivesLine d line → answer_of d ≡ Ok r
     → same_entry line.what what ≡ false → Err rule.Entry ≡ judged d what
 judged_other (Refused q) line what r h is differ = absurd cc
@@ -98,7 +98,7 @@ judged_other (Accepted lines reply) line what r h is differ =
     let one : judged (Accepted (line ∷ []) reply) what ≡ Err rule.Entry = rw differ refl in
     sym (ap (λ (ls : List Line). judged (Accepted ls reply) what) h ∙ one)
 
--- If the decision is the refusal `r`, the entry breaks the rule that its command is refused with `r`.
+-- If the decision is the refusal `r`, the entry breaks the rule that the machine accepts its command (`By r`).
 pub judged_refused : (d : Decision) (what : Entry) (r : Refusal) → Err r ≡ answer_of d → Err (rule.By r) ≡ judged d what
 judged_refused (Refused q) what r is = let same : r ≡ q = cc in ap (λ (x : Refusal). Err (rule.By x)) same
 judged_refused (Accepted lines reply) what r is = absurd cc
@@ -115,16 +115,16 @@ judged_line (Accepted lines reply) line h =
     let one : judged (Accepted (line ∷ []) reply) line.what ≡ Ok tt = rw (same_refl line.what) refl in
     sym (ap (λ (ls : List Line). judged (Accepted ls reply) line.what) h ∙ one)
 
--- The decision is a refusal or gives just the line `line`. If the model `new` represents the journal with the lines of
--- the decision, then `new` is right after the verdict on `line` (`After`).
+-- Suppose that the decision is a refusal or gives just the line `line`. If the model `new` represents the journal with
+-- the lines of the decision, then `new` is correct after the verdict on `line` (`After`).
 pub after_line : (d : Decision) (line : Line) (new : LeasesValue) (log : Journal) → GivesLine d line
     → Stands new (with_lines (lines_of d) log) → After (answer_verdict (answer_of d)) new line log
 after_line (Refused r) line new log h st = (tt, st)
 after_line (Accepted lines reply) line new log h st =
     (subst (λ (ls : List Line). Stands new (with_lines ls log)) h st, tt)
 
--- The command `what` led from `old` to `new` with the answer `answer`. If it gives just `line` whenever it is accepted,
--- then the verdict by the answer is right, and so is the model `new` after it.
+-- The command `what` led from `old` to `new` with the answer `answer`. If the command gives just `line` whenever it is
+-- accepted, then the verdict by the answer is correct, and so is the model `new` after this verdict.
 pub leads_entry : (old new : LeasesValue) (by : ℕ) (what : Command) (answer : Result Reply Refusal) (line : Line)
     (log : Journal) → Leads old new by what answer
     → GivesLine (decide log old.shards.clock by what) line → Stands old log
@@ -140,8 +140,8 @@ leads_entry old new by what answer line log leads h st =
 
 -- ---- Each entry to which its command leads whenever it is accepted
 
--- The lemma `leads_entry` for the entry `e`: if the command of `e` is `cmd`, and it gives just the line of `e` whenever
--- it is accepted, the judgement by its answer is right (`Judges`).
+-- The lemma `leads_entry` for the entry `e`, whose command is `cmd`. If `cmd` gives just the line of `e` whenever it is
+-- accepted, then the judgement by the answer to `cmd` is right (`Judges`).
 entry_by : (old new : LeasesValue) (by : ℕ) (cmd : Command) (answer : Result Reply Refusal) (e : Entry) (v : Verdict)
     (log : Journal) → v ≡ answer_verdict answer → Leads old new by cmd answer → Stands old log
     → told log (entry_line old.shards.clock by e) e ≡ decide log old.shards.clock by cmd
@@ -166,39 +166,44 @@ module _ (old new : LeasesValue) (by : ℕ) (answer : Result Reply Refusal) (v :
       entry_by old new by cmd answer e v log is leads st tells
       (gives_line log old.shards.clock by cmd (entry_line old.shards.clock by e) gives)
 
-  -- If the entry has the origin that the machine would give the row, the judgement by the answer to MakeLease is right.
+  -- Let `answer` be the answer to MakeLease with the origin `from`, and let `from` be the origin that the machine gives
+  -- the row. Then `v` is the right verdict on the entry LeaseMade with this origin (`Judges`).
   pub made_entry : (key : ShardRef) (from : Origin) → counting_origin log key from ≡ from
       → Leads old new by (command.MakeLease key from) answer → Judges old new by (entry.LeaseMade key from) v log
   made_entry key from counts leads = given_by (command.MakeLease key from) (entry.LeaseMade key from) leads refl
       (λ ls. ap (λ (o : Origin). plain_line old.shards.clock by (entry.LeaseMade key o) ∷ []) counts)
 
-  -- If the entry's counter is at least 1, the judgement of a renewal by the answer to Renew is right.
+  -- Let `answer` be the answer to Renew with the counter `n - 1`, where `n` is at least 1. Then `v` is the right
+  -- verdict on the entry Renewed with the counter `n` (`Judges`).
   pub renewed_entry : (t n : ℕ) → 1 ≤ n → Leads old new by (command.Renew t (n - 1)) answer
       → Judges old new by (entry.Renewed t n) v log
   renewed_entry t n some leads = given_by (command.Renew t (n - 1)) (entry.Renewed t n) leads refl
       (λ ls. ap (λ (m : ℕ). plain_line old.shards.clock by (entry.Renewed t m) ∷ []) (one_less n some))
 
-  -- If the entry's counter is at least 1, the judgement of a freeing by the answer to Free is right.
+  -- Let `answer` be the answer to Free with the counter `n - 1`, where `n` is at least 1. Then `v` is the right verdict
+  -- on the entry Freed with the counter `n` (`Judges`).
   pub freed_entry : (t n : ℕ) → 1 ≤ n → Leads old new by (command.Free t (n - 1)) answer
       → Judges old new by (entry.Freed t n) v log
   freed_entry t n some leads = given_by (command.Free t (n - 1)) (entry.Freed t n) leads refl
       (λ ls. ap (λ (m : ℕ). plain_line old.shards.clock by (entry.Freed t m) ∷ []) (one_less n some))
 
-  -- The judgement of an opening by the answer to OpenShard is right.
+  -- Let `answer` be the answer to OpenShard. Then `v` is the right verdict on the entry Opened (`Judges`).
   pub opened_entry : (t : ℕ) → Leads old new by (command.OpenShard t) answer → Judges old new by (entry.Opened t) v log
   opened_entry t leads = given_by (command.OpenShard t) (entry.Opened t) leads refl (λ ls. refl)
 
-  -- The judgement of a give by the answer to Give is right.
+  -- Let `answer` be the answer to Give. Then `v` is the right verdict on the entry Given (`Judges`).
   pub given_entry : (t : ℕ) → Leads old new by (command.Give t) answer → Judges old new by (entry.Given t) v log
   given_entry t leads = given_by (command.Give t) (entry.Given t) leads refl (λ ls. refl)
 
-  -- If the entry's counter is at least 1, the judgement of a mark by the answer to Mark is right.
+  -- Let `answer` be the answer to Mark with the counter `n - 1`, where `n` is at least 1. Then `v` is the right verdict
+  -- on the entry Marked with the counter `n` (`Judges`).
   pub marked_entry : (t n : ℕ) (to : Target) → 1 ≤ n → Leads old new by (command.Mark t (n - 1) to) answer
       → Judges old new by (entry.Marked t n to) v log
   marked_entry t n to some leads = given_by (command.Mark t (n - 1) to) (entry.Marked t n to) leads refl
       (λ ls. ap (λ (m : ℕ). plain_line old.shards.clock by (entry.Marked t m to) ∷ []) (one_less n some))
 
-  -- The judgement of the removal of a row by the answer to CutLease is right.
+  -- Let `answer` be the answer to CutLease. Then `v` is the right verdict on the entry LeaseCut, which removes a row
+  -- (`Judges`).
   pub cut_entry : (key : ShardRef) (n : ℕ) → Leads old new by (command.CutLease key n) answer
       → Judges old new by (entry.LeaseCut key n) v log
   cut_entry key n leads = given_by (command.CutLease key n) (entry.LeaseCut key n) leads refl (λ ls. refl)
@@ -223,7 +228,8 @@ module _ (s : Facing) (rs : List Row) (ts : List TenureValue) (by : ℕ) (key : 
   made_by = then_refuse _ _ _ _ _
       (then_refuse _ _ _ _ _ (ap agrees (same_lease key (counting_origin log key from) from)))
 
-  -- If the key's shard isn't listed, the entry breaks the rule that its command is refused with ShardGone.
+  -- If the key's shard isn't listed, the entry breaks the rule that the machine accepts its command: the refusal is
+  -- ShardGone.
   pub made_gone : is_listed_key log s.clock key ≡ false
       → Judges (leases s rs ts) (leases s rs ts) by (entry.LeaseMade key from) (Err (rule.By refusal.ShardGone)) log
   made_gone gone = (
@@ -232,8 +238,8 @@ module _ (s : Facing) (rs : List Row) (ts : List TenureValue) (by : ℕ) (key : 
     (tt, st),
   )
 
-  -- If the key's shard is listed and the key has a row already, the entry breaks the rule that its command is refused
-  -- with LeaseThere.
+  -- If the key's shard is listed and the key has a row already, the entry breaks the rule that the machine accepts its
+  -- command: the refusal is LeaseThere.
   pub made_there : is_listed_key log s.clock key ≡ true → is_some (row_of rs key) ≡ true
       → Judges (leases s rs ts) (leases s rs ts) by (entry.LeaseMade key from) (Err (rule.By refusal.LeaseThere)) log
   made_there listed there =
@@ -283,7 +289,7 @@ module _ (s : Facing) (rs : List Row) (ts : List TenureValue) (by : ℕ) (key : 
       (λ ls. ap (λ (m : ℕ). plain_line s.clock by (entry.Taken key (taken_count log + 1) m owner) ∷ [])
       (one_less n some))
 
-  -- If the take is refused with `r`, the entry breaks the rule that its command is refused with `r`.
+  -- If the take is refused with `r`, the entry breaks the rule that the machine accepts its command (`By r`).
   pub taken_refused : (r : Refusal) → Err r ≡ start_answer (row_of rs key) (n - 1) (length ts == last_number)
       → Judges (leases s rs ts) (leases s rs ts) by (entry.Taken key t n owner) (Err (rule.By r)) log
   taken_refused r h = (

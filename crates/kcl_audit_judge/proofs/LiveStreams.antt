@@ -22,14 +22,15 @@ use Rattle.kcl_audit_streams.proofs.StreamTold.{swapped, then_refuse}
 abbrev live_from : Journal → ℕ → ℕ → List ℕ
 live_from log n count = filter (is_live log) (numbers_from n count)
 
--- The open shards of these live streams of the journal are as many as those of the live streams in the list `vs`, whose
--- first stream has the number `n`.
+-- The list `vs` has the models of streams from the number `n` on. The live streams of the journal with these numbers
+-- have as many open shards as the live streams in `vs`.
 open_from : (log : Journal) (n : ℕ) (vs : List StreamValue) → AreStreams log n vs
     → open_of log (live_from log n (length vs)) ≡ open_in vs
 open_from log n [] h = refl
 open_from log n (v ∷ vs) h = grind (arith, h.0.lives, h.0.shards_are, open_from log (n + 1) vs h.1)
 
--- There are as many such live streams as in the list `vs`, whose first stream has the number `n`.
+-- The journal has as many live streams with the numbers of the list `vs` as `vs` has live streams. The first stream of
+-- `vs` has the number `n`.
 count_from : (log : Journal) (n : ℕ) (vs : List StreamValue) → AreStreams log n vs
     → length (live_from log n (length vs)) ≡ live_count vs
 count_from log n [] h = refl
@@ -39,7 +40,8 @@ count_from log n (v ∷ vs) h = grind (arith, h.0.lives, count_from log (n + 1) 
 abbrev named_in : Journal → List ℕ → List ℕ → Bool
 named_in log name ss = is_some (find (λ s. same_name (name_of log s) name) ss)
 
--- One of these live streams of the journal has the name exactly if one of the live streams in the list `vs` has it.
+-- The first stream of the list `vs` has the number `n`. One of the journal's live streams with the numbers of `vs` has
+-- the name exactly if one of the live streams in `vs` has this name.
 named_from : (log : Journal) (name : List ℕ) (n : ℕ) (vs : List StreamValue) → AreStreams log n vs
     → named_in log name (live_from log n (length vs)) ≡ is_named vs name
 named_from log name n [] h = refl
@@ -59,7 +61,8 @@ module _ (log : Journal) (vs : List StreamValue) (sh : ShowsAll vs log) where
   pub named_are : (name : List ℕ) → is_some (stream_named log name) ≡ is_named vs name
   named_are name = ap (λ count. named_in log name (live_from log 1 count)) sh.made ∙ named_from log name 1 vs sh.streams
 
-  -- By the list, no further shard may be open exactly if the journal has at least `OPEN_SHARDS` open ones.
+  -- By the list, one more open shard would exceed the limit exactly if the journal has at least `OPEN_SHARDS` open
+  -- shards.
   pub full_is : exceeds_open_limit vs 1 ≡ nat_le OPEN_SHARDS (open_count log)
   full_is = above (open_in vs) ∙ ap (nat_le OPEN_SHARDS) (sym open_are)
     where

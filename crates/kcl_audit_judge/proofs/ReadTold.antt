@@ -55,7 +55,7 @@ module _ (w : StreamsValue) (rs : List Row) (ts : List TenureValue) (by t limit 
   tells = ap (λ p. decide log w.clock by (command.Read t p limit)) (reach_same (tenure log t)
       ∙ ap reach_of (st.tenure_is t) ∙ sym reach)
 
-  -- If this Read is refused with `r`, the entry breaks the rule that its command is refused with `r`.
+  -- If this Read is refused with `r`, the entry breaks the rule that the machine accepts its command (`By r`).
   pub read_refused_entry : (r : Refusal)
       → Leads (leases (facing w.clock (Shows w)) rs ts) (leases (facing w.clock (Shows w)) rs ts) by
       (command.Read t position limit) (Err r)
@@ -67,7 +67,8 @@ module _ (w : StreamsValue) (rs : List Row) (ts : List TenureValue) (by t limit 
     (tt, st),
   )
 
-  -- The entry is the same as one with the end `e` and the numbers `ms` exactly if its end and its numbers are these.
+  -- The entry is the same as one with the end `e` and the numbers `ms` exactly if `ended` is `e` and `ns` are the
+  -- numbers `ms`.
   same_read : (e : Bool) (ms : List ℕ) → same_entry (entry.Read t limit e ms) (entry.Read t limit ended ns)
       ≡ (same_flag e ended && same_list ms ns)
   same_read e ms = rw (is_itself t, is_itself limit) refl

@@ -31,8 +31,8 @@ use Rattle.kcl_audit_judge.proofs.LiveStreams.{full_is, made_told}
 
 -- ---- The verdict on an entry of a stream
 
--- The verdict on an entry of the stream `o` that doesn't make it is the one that the judge computes from this stream,
--- if it is live. If it isn't, the entry's command is refused.
+-- Let an entry of the stream `o` be one that doesn't make this stream. If the stream is live, the verdict on the entry
+-- is the one that the judge computes from the model of this stream. Otherwise the entry's command is refused.
 later_told : (w : StreamsValue) (log : Journal) (by : ℕ) (what : Entry) → Shows w log → IsLater what → (o : Option ℕ)
     → stream_of what ≡ o → o ≢ None
     → judged (told log (entry_line w.clock by what) what) what
@@ -69,18 +69,18 @@ length-changed i g [] = refl
 length-changed zero g (v ∷ vs) = refl
 length-changed (suc i) g (v ∷ vs) = ap suc (length-changed i g vs)
 
--- In this module, `line` is a line of the stream `s`, whose clock isn't below that of the journal `log`.
+-- In this module, `line` is a line of the stream `s`, and the clock of `line` isn't below that of the journal `log`.
 module _ (log : Journal) (line : Line) (s : ℕ) (order : last_clock log ≤ line.clock) (of : stream_of line.what
     ≡ Some s) where
-  -- The models of streams with greater numbers than `s` are still right after the line.
+  -- The models of streams with greater numbers than `s` are still correct after the line.
   above : (n : ℕ) (vs : List StreamValue) → s < n → AreStreams log n vs → AreStreams (line ∷ log) n vs
   above n [] lt h = tt
   above n (v ∷ vs) lt h =
       let apart : s ≢ n = λ e. omega arith in
       (stream_other log line n v order (of_other line.what s n of apart) h.0, above (n + 1) vs (omega arith) h.1)
 
-  -- If `g` changes the model of the stream `s` as the line changes the stream, then the list with this change is right
-  -- after the line. Its first stream has the number `n`.
+  -- If `g` changes the model of the stream `s` as the line changes the stream, then the list with this change is
+  -- correct after the line. The first stream of the list has the number `n`.
   changed_streams : (n i : ℕ) (vs : List StreamValue) (v : StreamValue) (g : StreamValue → StreamValue) → s ≡ n + i
       → slice_get vs i ≡ Some v
       → IsStream (line ∷ log) s (g v) → AreStreams log n vs
@@ -101,8 +101,8 @@ module _ (log : Journal) (line : Line) (s : ℕ) (order : last_clock log ≤ lin
         changed_streams (n + 1) i vs v g on is next h.1,
       )
 
-  -- If the line makes the stream `s`, the list with its model at the end is right after the line. The first stream of
-  -- the list has the number `n`.
+  -- If the line makes the stream `s`, the list with the model of `s` at the end is correct after the line. The first
+  -- stream of the list has the number `n`.
   last_stream : (n : ℕ) (vs : List StreamValue) (v : StreamValue) → s ≡ n + length vs → IsStream (line ∷ log) s v
       → AreStreams log n vs
       → AreStreams (line ∷ log) n (vs ++ v ∷ [])
@@ -115,7 +115,7 @@ module _ (log : Journal) (line : Line) (s : ℕ) (order : last_clock log ≤ lin
 
   -- ---- All streams
 
-  -- If `g` changes the model of the stream `s` as the line changes the stream, then the list of all streams with this
+  -- Let `g` change the model of the stream `s` as the line changes the stream. Then the list of all streams with this
   -- change represents the journal with the line.
   pub shows_changed : (vs : List StreamValue) (f : StreamValue → Verdict) (g : StreamValue
       → StreamValue) (o : IsOf vs s f)
@@ -159,7 +159,8 @@ module _ (log : Journal) (line : Line) (s : ℕ) (order : last_clock log ≤ lin
 
 -- ---- The model after each good entry
 
--- The stream that is live and for which the verdict is Ok is the model of the stream with the number `s`.
+-- Let the list have a live stream with the number `s`, on which the verdict `f` is Ok. Then it is the model of the
+-- journal's stream `s`.
 its_stream : (vs : List StreamValue) (log : Journal) (s : ℕ) (f : StreamValue → Verdict) (o : IsOf vs s f)
     → ShowsAll vs log → IsStream log s o.value
 its_stream vs log s f o sh =
@@ -167,8 +168,8 @@ its_stream vs log s f o sh =
     let at : 1 + (s - 1) ≡ s = omega arith in
     subst (λ m. IsStream log m o.value) at (stream_get log 1 (s - 1) vs o.value sh.streams o.at)
 
--- After a good entry of the stream `o` that doesn't make it, the changed list represents the journal with the entry's
--- line.
+-- After a good entry of the stream `o` that doesn't make this stream, the changed list represents the journal with the
+-- entry's line.
 all_later : (vs : List StreamValue) (log : Journal) (d by : ℕ) (what : Entry) → ShowsAll vs log → last_clock log ≤ d
     → IsLater what
     → (o : Option ℕ) → stream_of what ≡ o → o ≢ None → in_its vs o (entry_verdict (exceeds_open_limit vs 1) d what)

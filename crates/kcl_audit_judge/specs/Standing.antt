@@ -22,13 +22,13 @@ HoldBeside w rows ts log = holding.Stands (over w.clock (Shows w) rows ts) log
 abbrev pub Keeps : StreamsValue → List Row → List TenureValue → List Row → List TenureValue → Type 0
 Keeps w rows ts rows' ts' = (log : Journal) → HoldBeside w rows ts log → HoldBeside w rows' ts' log
 
--- The model `new` is right after a judgement with the verdict `v`: it represents the journal with the line added if the
--- line is good, and otherwise the journal `log` without it.
+-- The model `new` is correct after a judgement with the verdict `v`. If `v` is Ok, `new` represents the journal `log`
+-- with the line `line` added, and otherwise `log` itself.
 abbrev pub After : Verdict → LeasesValue → Line → Journal → Type 0
 After v new line log = OnOk v (holding.Stands new (line ∷ log)) × OnErr v (holding.Stands new log)
 
--- `v` is the right verdict on the entry `what` of the actor `by` after the journal `log`, at the clock of the model
--- `old`. The model `new` is right after this judgement (`After`).
+-- `v` is the correct verdict on the entry `what` of the actor `by` after the journal `log`, at the clock of the model
+-- `old`. The model `new` is correct after this judgement (`After`).
 abbrev pub Judges : LeasesValue → LeasesValue → ℕ → Entry → Verdict → Journal → Type 0
 Judges old new by what v log =
     (v ≡ judged (told log (entry_line old.shards.clock by what) what) what)
@@ -58,7 +58,7 @@ judge w rows ts = record { streams = w; rows = rows; tenures = ts }
 abbrev pub Holds : JudgeValue → Journal → Type 0
 Holds a log = HoldBeside a.streams a.rows a.tenures log
 
--- The judge represents the journal (`Holds`), and its clock is that of the journal's newest line, or 0 if there is
--- none.
+-- The judge represents the journal (`Holds`), and its clock is that of the journal's newest line, or 0 if the journal
+-- has no line.
 abbrev pub Stands : JudgeValue → Journal → Type 0
 Stands a log = (a.streams.clock ≡ last_clock log) × Holds a log

@@ -33,7 +33,8 @@ one_more n h le = grind (arith, nat_tests)
 
 -- ---- Streams and tenures
 
--- If an entry is accepted, and at most `last_number` streams were made before it, then this is still true after it.
+-- If an entry is accepted, and at most `last_number` streams were made before the entry, then this is still true after
+-- the entry.
 made_by : (log : Journal) (line : Line) (e : Entry) (reply : Reply) → told log line e ≡ Accepted (line ∷ []) reply
     → made_count log ≤ last_number
     → made_count_after e (made_count log) ≤ last_number
@@ -49,7 +50,8 @@ pub made_fits : (log : Journal) → IsLegal log → made_count log ≤ last_numb
 made_fits [] legal = omega arith
 made_fits (line ∷ log) legal = made_by log line line.what legal.0.reply legal.0.allowed (made_fits log legal.1)
 
--- If an entry is accepted, and at most `last_number` tenures began before it, then this is still true after it.
+-- If an entry is accepted, and at most `last_number` tenures began before the entry, then this is still true after the
+-- entry.
 taken_by : (log : Journal) (line : Line) (e : Entry) (reply : Reply) → told log line e ≡ Accepted (line ∷ []) reply
     → taken_count log ≤ last_number
     → taken_count_after e (taken_count log) ≤ last_number
@@ -81,7 +83,8 @@ either_fits : (b : Bool) (xs ys : List ShardState) → (b ≡ true → length xs
 either_fits true xs ys h g = h refl
 either_fits false xs ys h g = g
 
--- If an entry is accepted, and a stream had at most 2^64 shards before it, then this is still true after it.
+-- If an entry with numbers in their ranges is accepted, and a stream had at most 2^64 shards before the entry, then
+-- this is still true after the entry.
 shards_by : (log : Journal) (line : Line) (e : Entry) (reply : Reply) (s start : ℕ) → IsInRange e
     → told log line e ≡ Accepted (line ∷ []) reply
     → length (shards log s) ≤ 2 ^ 64 → length (shards_after line e s start (shards log s)) ≤ 2 ^ 64
@@ -142,8 +145,8 @@ pub listed_fits : (log : Journal) (c s sh : ℕ) → IsLegal log → is_listed l
 listed_fits log c s sh legal h =
     omega (arith, there_below log c s sh (shard_at log s sh) refl h, shards_fit log legal s)
 
--- If the shards `xs` are numbered from `n` on, the number of a hash key's home among them is below `m`, which is above
--- 0 and at least `n` and their count together.
+-- Let the shards `xs` be numbered from `n` on, and let `m` be above 0 and at least `n` plus the number of these shards.
+-- Then the number of a hash key's home among them is below `m`.
 home_below : (xs : List ShardState) (n k m : ℕ) → AreNumbered n xs → n + length xs ≤ m → 0 < m
     → home_among (filter is_open xs) k < m
 home_below [] n k m numbers le some = some

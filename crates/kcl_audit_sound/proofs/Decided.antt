@@ -37,13 +37,13 @@ use Rattle.kcl_audit_streams.proofs.BatchSteps.{below, below_beginning, below_le
 use Rattle.kcl_audit_sound.proofs.Counts.{listed_fits, made_fits, named_fits, shards_fit, taken_fits}
 use Rattle.kcl_audit_sound.proofs.Streams.{AreTold, IsBy, line_told, plan_at, put_told, puts_told, steps_told}
 
--- If a command names the counter `n` of a row, which isn't the last number, then the counter after the write is at
--- least 1 and fits into 64 bits. Here for the counter in the command.
+-- Let a command name the counter `n` of a row as `counter`, and let `n` not be the last number. Then the counter after
+-- the write is at least 1 and fits into 64 bits. Here this is said of `counter` + 1.
 next_counter : (n counter : ℕ) → not (n == counter) ≡ false → (n == last_number) ≡ false → counter < 2 ^ 64
     → (1 ≤ counter + 1) × (counter + 1 < 2 ^ 64)
 next_counter n counter same free fits = (omega arith, grind (arith, nat_tests))
 
--- The lemma `next_counter`, here for the counter of the row.
+-- The lemma `next_counter`, here said of `n` + 1.
 row_counter : (n counter : ℕ) → not (n == counter) ≡ false → (n == last_number) ≡ false → counter < 2 ^ 64
     → (1 ≤ n + 1) × (n + 1 < 2 ^ 64)
 row_counter n counter same free fits = (omega arith, grind (arith, nat_tests))
@@ -84,8 +84,8 @@ numbers_fit m (r ∷ rs) le h = (omega (arith, le, h.0), numbers_fit m rs le h.1
 
 -- ---- The lines of each command
 
--- In this module, three laws are taken as given: a stream's shards are numbered from 0 on, the sequence numbers of a
--- shard's records rise and stay below the stream's next one, and this next one is at most `last_number`.
+-- In this module, three laws are taken as given. A stream's shards are numbered from 0 on. The sequence numbers of a
+-- shard's records rise and stay below the stream's next sequence number. This next number is at most `last_number`.
 module _
     (numbered : (log : Journal) (s : ℕ) → AreNumbered 0 (shards log s))
     (drawn : (log : Journal) → IsLegal log → (s sh : ℕ) → AreDrawn log s sh)
@@ -102,7 +102,8 @@ module _
       (below_left next (trim_floor log c s) reach (records log s sh)
       (below_next (start_of (shard_at log s sh)) (records log s sh) next (drawn log legal s sh)))))
 
-  -- If a command adds just the line `line`, this line can be written as text (`IsEntryLine`).
+  -- If a command after a legal journal adds just the line `line`, this line can be written as text (`IsEntryLine`). The
+  -- command's numbers must be in the ranges of the API and fit into their types.
   told_one : (log : Journal) (c by : ℕ) (what : Command) (line : Line) (r : Reply) → Tells log c by what line r
       → IsLegal log → IsBy c by
       → IsLawfulCommand what → AreNumbers what → IsEntryLine VERSION (told_by line)
@@ -162,7 +163,8 @@ module _
       )
   told_one log c by _ _ _ (Cuts key counter) legal is lawful bits = line_told c by _ is (bits.0, bits.1)
 
-  -- Each line that a command adds can be written as text (`AreTold`). A refused command adds none.
+  -- Each line that a command after a legal journal adds can be written as text (`AreTold`). The command's numbers must
+  -- be in the ranges of the API and fit into their types. A refused command adds no line.
   told_of : (log : Journal) (c by : ℕ) (what : Command) (lines : List Line) (answer : Result Reply Refusal)
       → Outcome log c by what lines answer
       → IsLegal log → IsBy c by → IsLawfulCommand what → AreNumbers what → AreTold lines

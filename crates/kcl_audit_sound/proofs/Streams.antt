@@ -69,8 +69,8 @@ key_sizes key is =
 pub sizes : (item : NewItem) → IsItem item → AreSizes VERSION (length item.payload) (length item.key)
 sizes item is = (key_sizes item.key is.key, is.bytes)
 
--- The line of a put can be written as text, if the item is in its ranges, the stream has at most 2^64 shards, and its
--- next sequence number is at most `last_number`.
+-- Let an item be in its ranges, and let its stream have at most 2^64 shards and a next sequence number of at most
+-- `last_number`. Then the line of a put of this item can be written as text.
 pub put_told : (log : Journal) (c by s : ℕ) (item : NewItem) → IsBy c by → s < 2 ^ 64 → AreNumbered 0 (shards log s)
     → length (shards log s) ≤ 2 ^ 64
     → next_number log s ≤ last_number → IsItem item
@@ -81,7 +81,7 @@ put_told log c by s item is stream numbers few next lawful =
       (home_fits log s item.hash numbers few, (omega arith, (lawful.hash, sizes item lawful))),
     )
 
--- The line of a put of the item `item`, which takes the next sequence number of the stream `s`.
+-- The line of a put of the item `item` into the stream `s`, with the stream's next sequence number.
 abbrev next_line : Journal → ℕ → ℕ → ℕ → NewItem → Line
 next_line log c by s item = put_line log c by s (next_number log s) item
 
@@ -93,8 +93,8 @@ lines_from back log c by s item items =
     then put_lines log c by s items
     else next_line log c by s item ∷ put_lines (next_line log c by s item ∷ log) c by s items
 
--- If the lines of the items after `item` can be written as text, and so can that of `item` if it isn't held back, then
--- all of them can.
+-- Suppose that the lines of the items after `item` can be written as text, and so can the line of `item` unless this
+-- item is held back. Then all these lines can be written as text.
 item_told : (back : Bool) (item : NewItem) (items : List NewItem) (log : Journal) (c by s : ℕ)
     → next_number log s + length (lines_from back log c by s item items) ≤ last_number
     → (next_number log s + length (put_lines log c by s items) ≤ last_number → AreTold (put_lines log c by s items))
@@ -142,8 +142,8 @@ many_cut : (log : Journal) (c by s b : ℕ) → length (shards (step_line log c 
 many_cut log c by s b = rw (is_itself s) (length_split _ _ _ _ (shards log s))
 
 module _ (numbered : (log : Journal) (s : ℕ) → AreNumbered 0 (shards log s)) where
-  -- The lines of the steps of a scaling can be written as text (`AreTold`), if the splits are at hash keys, and the
-  -- sequence numbers and shard numbers last for all steps.
+  -- Suppose that the splits of a scaling are at hash keys, and that the sequence numbers and shard numbers last for all
+  -- steps. Then the lines of the steps can be written as text (`AreTold`).
   pub steps_told : (steps : List ScaleStep) (log : Journal) (c by s : ℕ) → IsBy c by → s < 2 ^ 64
       → AllByRecursion IsAtKey steps
       → next_number log s + length steps ≤ last_number → length (shards log s) + made_by steps ≤ last_number
@@ -177,7 +177,7 @@ module _ (numbered : (log : Journal) (s : ℕ) → AreNumbered 0 (shards log s))
 abbrev AreBelow : List ℕ → Type 0
 AreBelow bs = AllByRecursion (λ b. b < 2 ^ 128) bs
 
--- Splits at hash keys below 2^128 are at hash keys (`IsAtKey`).
+-- If the keys of splits are below 2^128, `IsAtKey` holds for these splits.
 cuts_at : (bs : List ℕ) → AreBelow bs → AllByRecursion IsAtKey (map Cut bs)
 cuts_at [] h = tt
 cuts_at (b ∷ bs) h = (h.0, cuts_at bs h.1)
@@ -188,8 +188,8 @@ joins_at : (bs : List ℕ) (steps : List ScaleStep) → AllByRecursion IsAtKey s
 joins_at [] steps h = h
 joins_at (b ∷ bs) steps h = (tt, joins_at bs steps h)
 
--- The splits of the plan that leads to `target` uniform ranges are at hash keys, because they are where such ranges
--- begin.
+-- The splits of the plan that leads to `target` uniform ranges are at hash keys, because uniform ranges begin at these
+-- keys.
 pub plan_at : (starts : List ℕ) (target : ℕ) → 1 ≤ target → target ≤ 500 → AllByRecursion IsAtKey (scale starts target)
 plan_at starts target least most =
     let wanted = uniform_starts target in

@@ -1,4 +1,5 @@
--- The text of the journal of every history is that of a legal journal, so an audit finds every entry good.
+-- If the numbers of a history's turns fit into their types, the text of its journal is that of a legal journal. So an
+-- audit finds every entry good.
 use Rattle.std.proofs.Common.{◌≡◌, ◌≢◌, ℕ, ◌^◌, ◌<◌, ◌≤◌, max, List, [], ◌∷◌, ◌++◌, map, reverse, refl, sym, ap, subst}
 use Rattle.std.proofs.Common.{◌∙◌, arith, inr}
 use Rattle.std.specs.Prelude.{flat_map}
@@ -47,14 +48,16 @@ TellsLines = (log : Journal) (c by : ℕ) (what : Command) (lines : List Line) (
     → decide log c by what ≡ Accepted lines reply → AreTold lines
 
 module _ (tells : TellsLines) (reached : (h : List Turn) → IsHistory h → IsReached (journal h) (clock h)) where
-  -- Each line of a decision on a command after a legal journal can be written as text.
+  -- Each line of a decision on a command after a legal journal can be written as text. The command's numbers must be in
+  -- the ranges of the API and fit into their types.
   by_decision : (log : Journal) (c by : ℕ) (what : Command) (d : Decision) → decide log c by what ≡ d → IsLegal log
       → IsBy c by → IsLawfulCommand what → AreNumbers what → AreTold (lines_of d)
   by_decision log c by what (Refused r) h legal is lawful bits = tt
   by_decision log c by what (Accepted lines reply) h legal is lawful bits =
       tells log c by what lines reply legal is lawful bits h
 
-  -- Each line of the journal of a history can be written as text.
+  -- If the numbers of a history's turns fit into their types (`HaveBits`), each line of its journal can be written as
+  -- text.
   told_journal : (h : List Turn) → IsHistory h → HaveBits h → AreTold (journal h)
   told_journal [] lawful bits = tt
   told_journal (turn ∷ h) lawful bits =
@@ -82,8 +85,8 @@ oldest_first (line ∷ log) are =
     subst AreLines (sym (reverse-append (told_by line ∷ []) (map told_by log)))
     (push_line (reverse (map told_by log)) (told_by line) (oldest_first log are.1) are.0)
 
--- The journal of the entries as the text shows them is the journal `log` as its text shows it: zero bytes stand for the
--- keys and payloads.
+-- The lines of the journal `log`, as its text shows them, make the journal `shown_journal log`, in which zero bytes
+-- stand for the keys and payloads.
 each_shown : (log : Journal) → map line_of (map told_by log) ≡ shown_journal log
 each_shown [] = refl
 each_shown (line ∷ log) = ap (λ ls. shown_line line ∷ ls) (each_shown log)
@@ -100,7 +103,7 @@ map_reverse (e ∷ es) =
     ∙ reverse-append (map line_of (reverse es)) (line_of e ∷ [])
     ∙ ap (λ ls. line_of e ∷ ls) (map_reverse es)
 
--- The journal of the entries of a history's text is the journal of the history as its text shows it.
+-- The entries of a history's text make the history's journal as its text shows it (`shown_journal`).
 told_journal_is : (h : List Turn) → journal_of (history_entries h) ≡ shown_journal (journal h)
 told_journal_is h = map_reverse (map told_by (journal h)) ∙ each_shown (journal h)
 
@@ -109,18 +112,19 @@ text_is : (h : List Turn) → journal_text h ≡ entries_text VERSION (history_e
 text_is h = sym (append_assoc heading (10 ∷ [])
     (flat_map (λ e. with_feed (entry_spelling VERSION e)) (history_entries h) ++ with_feed (end_spelling (clock h))))
 
--- In this module, four laws are taken as given: `TellsLines`; the journal of a history is reached at its clock; so is
--- the journal as its text shows it; and an audit finds the text of a legal journal good.
+-- In this module, four laws are taken as given. The first is `TellsLines`. The journal of a history is reached at the
+-- clock of this history. A journal that is reached at a clock is also reached as its text shows it. An audit finds the
+-- text of a legal journal good, unless a length is too great.
 module _
     (tells : TellsLines)
     (reached : (h : List Turn) → IsHistory h → IsReached (journal h) (clock h))
     (shown : (log : Journal) (c : ℕ) → IsReached log c → IsReached (shown_journal log) c)
     (complete : (bytes : List ℕ) (n : ℕ) → IsJournal bytes n → audit_of bytes ≢ over → audit_of bytes ≡ sound n) where
-  -- Each entry of a history's journal can be written as text.
+  -- If the numbers of a history's turns fit into their types, each entry of its journal can be written as text.
   pub all_lines : (h : List Turn) → IsHistory h → HaveBits h → AllByRecursion (IsEntryLine VERSION) (history_entries h)
   all_lines h lawful bits = oldest_first (journal h) (told_journal tells reached h lawful bits)
 
-  -- The text of a history's journal is the text of a legal journal.
+  -- If the numbers of a history's turns fit into their types, the text of its journal is the text of a legal journal.
   pub is_journal : (h : List Turn) → IsHistory h → HaveBits h
       → IsJournal (journal_text h) (counted 0 (history_entries h))
   is_journal h lawful bits =
@@ -139,7 +143,8 @@ module _
         many = refl;
       }
 
-  -- An audit finds every entry of the text of a history's journal good, unless a line or the whole text is too long.
+  -- If the numbers of a history's turns fit into their types, an audit finds every entry in the text of its journal
+  -- good. This holds unless a line or the whole text is too long.
   pub is_sound : (h : List Turn) → IsHistory h → HaveBits h → audit_of (journal_text h) ≢ over
       → audit_of (journal_text h) ≡ sound (counted 0 (history_entries h))
   is_sound h lawful bits within =

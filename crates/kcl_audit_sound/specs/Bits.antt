@@ -4,8 +4,8 @@ use Rattle.std.specs.List.{AllByRecursion}
 use Rattle.kds_defs.specs.declared.command.Turn.{Turn}
 use Rattle.kcl_script_fields.specs.Commands.{AreNumbers}
 
--- The actor of the turn fits into 32 bits, and the numbers of its command, if it is one on leases, fit into the bits of
--- their types.
+-- The actor of the turn fits into 32 bits. If the turn's command is on leases, the numbers of this command fit into the
+-- bits of their types.
 abbrev pub HasBits : Turn → Type 0
 HasBits turn = (turn.by < 2 ^ 32) × AreNumbers turn.what
 

@@ -88,8 +88,8 @@ put_one shards all item sh false e apart lt =
     other_shard : (n m : ℕ) → (n == m) ≡ false → n ≡ m → ⊥
     other_shard n m e same = grind (arith, nat_tests)
 
--- `AreApart` still holds after a put: the record is added at the end of `all`, and at the end of the list of its shard,
--- if there is such a list.
+-- Let the record `item` be added at the end of `all`, and at the end of the list of its shard, which exists. Then
+-- `AreApart` still holds.
 pub apart_put : (shards : List (List Sized)) (all : List Sized) (item : Sized) → AreApart shards all
     → item.shard < length shards
     → AreApart (slice_set shards item.shard (records_at shards item.shard ++ item ∷ [])) (all ++ item ∷ [])
@@ -97,7 +97,7 @@ apart_put shards all item apart lt = λ sh.
     put_one shards all item sh (is_in sh item) refl apart lt
     ∙ sym (filter-append (is_in sh) all (item ∷ []))
 
--- If the index `n` is within the list, reading there gives the list of the shard `n`.
+-- If the index `n` is within the list, reading at this index gives the list of the shard `n`.
 pub at_index : (shards : List (List Sized)) (n : ℕ) (d : List Sized) → n < length shards
     → get_or shards n d ≡ records_at shards n
 at_index [] n d lt = absurd (omega arith)

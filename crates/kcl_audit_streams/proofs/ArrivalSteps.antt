@@ -1,5 +1,5 @@
--- To find the first untrimmed record that arrived at or after a moment, the judge may skip the records that arrived too
--- early, if the records are in the order of arrival.
+-- The judge looks for the first untrimmed record that arrived at or after a moment. If the records are in the order of
+-- their arrival, it may skip those that arrived too early.
 use Rattle.std.proofs.Common.{◌≡◌, ℕ, zero, suc, ◌-◌, ◌<◌, ◌≤◌, Bool, true, false, List, [], ◌∷◌, length, get_or, max}
 use Rattle.std.proofs.Common.{drop, take, refl, sym, ap, ◌∙◌, arith, ltb-true}
 use Rattle.std.specs.Prelude.{nat_le, nat_lt, cond, ◌&&◌}
@@ -12,7 +12,7 @@ use Rattle.kcl_audit_streams.specs.Standing.{is_in, logged}
 use Rattle.kcl_audit_streams.proofs.BatchSteps.{left_by, left_in}
 
 -- The sequence number of the first of `xs` that is one of the shard `sh`, is untrimmed, and arrived at or after the
--- moment. It is `otherwise` if there is none.
+-- moment. It is `otherwise` if there is no such record.
 abbrev first_in : ℕ → ℕ → ℕ → ℕ → List Sized → ℕ
 first_in sh floor moment otherwise xs = first_at (left_in sh floor 0 xs) moment otherwise
 
@@ -24,7 +24,7 @@ skipped true false c r rs moment otherwise e never = refl
 skipped true true false r rs moment otherwise e never = rw e refl
 skipped true true true r rs moment otherwise e never = absurd (never refl refl)
 
--- A record that arrived before the floor or before the moment is trimmed, or arrived before the moment.
+-- No record that arrived before the floor or before the moment is untrimmed and arrived at or after the moment.
 too_early : (floor moment : ℕ) (x : Sized) → x.arrival < max floor moment → is_left floor 0 (logged x) ≡ true
     → nat_le moment x.arrival ≡ true → ⊥
 too_early floor moment x lt left le = grind (arith, nat_tests)
@@ -49,8 +49,8 @@ first_behind sh floor moment otherwise (x ∷ xs) (suc i) h =
     first_behind sh floor moment otherwise xs i (λ k d low lt. h (suc k) d (omega arith) (omega arith))
     ∙ sym (past_one sh floor moment otherwise x xs (h 0 x (omega arith) (omega arith)))
 
--- Let `least` be the greater of the floor and the moment. If the records before the index `i` arrived before `least`,
--- and those from `i` on didn't, then `first_in` finds the same in those from `i` on as in all.
+-- Let `least` be the greater of the floor and the moment. Let the records before the index `i`, and no others, have
+-- arrived before `least`. Then `first_in` finds the same among the records from `i` on as among all records.
 pub first_from : (sh floor moment otherwise least : ℕ) (xs : List Sized) (i : ℕ) → max floor moment ≡ least
     → IsPartitionPoint (λ (y : Sized). nat_lt y.arrival least ≡ true)
     (λ (y : Sized). nat_lt y.arrival least ≡ false) xs i

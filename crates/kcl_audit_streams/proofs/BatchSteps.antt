@@ -1,5 +1,6 @@
 -- The sequence numbers of a batch can be collected by going over the records one by one. A record of the shard is left
--- if it is untrimmed (it arrived at or above the floor) and its sequence number is at or above the position.
+-- if it is untrimmed and its sequence number is at or above the position. It is untrimmed if it arrived at or after the
+-- trim floor, which is a time.
 use Rattle.std.proofs.Common.{◌≡◌, ℕ, zero, suc, ◌+◌, ◌-◌, ◌<◌, ◌≤◌, Bool, true, List, [], ◌∷◌, ◌++◌, length, get_or}
 use Rattle.std.proofs.Common.{drop, refl, sym, ap, ◌∙◌, arith}
 use Rattle.std.specs.Prelude.{◌==◌, ◌&&◌, cond}
@@ -44,8 +45,8 @@ ahead_more sh floor position xs i x b lt is t =
     ∙ left_by sh floor position x (drop (i + 1) xs) (is_in sh x) (is_left floor position (logged x)) refl refl
     ∙ ap (λ (c : Bool). cond c (logged x ∷ ahead sh floor position xs (i + 1)) (ahead sh floor position xs (i + 1))) t
 
--- `whole` are the sequence numbers of a whole batch, of which `numbers` are the first. The others are those of the
--- batch that is taken from `rest`, with at most `left` records and `room` bytes.
+-- The list `whole` is `numbers` followed by the sequence numbers of the batch from `rest` that has at most `left`
+-- records and at most `room` bytes.
 abbrev pub Grows : List ℕ → ℕ → ℕ → List Logged → List ℕ → Type 0
 Grows numbers left room rest whole = numbers ++ numbers_of (beginning left room rest) ≡ whole
 
@@ -66,7 +67,7 @@ module _ (sh floor position : ℕ) (xs : List Sized) (i : ℕ) (x : Sized) (with
       append_assoc numbers (x.seq ∷ []) (numbers_of (beginning (left - 1) (room - x.bytes) rest))
       ∙ ap (λ taken. numbers ++ numbers_of taken) (sym one) ∙ h
 
--- If no records come after the index `i`, the numbers so far are those of the whole batch.
+-- If there is no record at the index `i` or after it, the numbers so far are those of the whole batch.
 pub grows_all : (sh floor position : ℕ) (xs : List Sized) (i : ℕ) (numbers : List ℕ) (left room : ℕ) (whole : List ℕ)
     → length xs ≤ i
     → Grows numbers left room (ahead sh floor position xs i) whole → numbers ≡ whole

@@ -20,7 +20,8 @@ use Rattle.kcl_audit_streams.specs.Standing.{IsStream, StreamValue, floor_in, re
 
 -- ---- The shard of a live stream
 
--- The records of the journal that are left in a shard are those that are left in the model, without keys and payloads.
+-- Without their keys and payloads, the records of the journal that are left in a shard are those that are left in the
+-- model.
 left_is : (log : Journal) (c s sh p : ℕ) (v : StreamValue) → IsStream log s v → v.live ≡ true → last_clock log ≤ c
     → map bare (left_from log c s sh p) ≡ left_among (floor_in v c) p (records_in v.records sh)
 left_is log c s sh p v st live order =

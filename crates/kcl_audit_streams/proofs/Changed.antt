@@ -1,4 +1,4 @@
--- A good entry of a stream has a live stream. This is the one that the judge reads and changes in its list of streams.
+-- The stream of a good entry is live, and is the one that the judge reads and changes in its list of streams.
 use Rattle.std.proofs.Common.{◌≡◌, ◌≢◌, ℕ, zero, suc, ◌-◌, ◌≤◌, Bool, true, false, List, [], ◌∷◌, slice_get, slice_set}
 use Rattle.std.proofs.Common.{slice_index_or, Option, Some, None, refl, sym, ap, ◌∙◌, arith}
 use Rattle.std.specs.Prelude.{if◌then◌else◌, Result, Ok, Err, OnOk}
@@ -71,8 +71,8 @@ module _ (vs : List StreamValue) (s : ℕ) (f : StreamValue → Verdict) (good :
         ∙ ap (slice_set vs (s - 1)) (e ∙ ap g same_value)
         ∙ changed_get vs (s - 1) g o.value o.at
 
-    -- If a call changed the stream that was read by `g` and returned Ok, writing it back gives the list with `g`
-    -- applied to the stream with the number `s`. If the call failed, nothing is said.
+    -- Let a call return Ok and apply `g` to the stream that was read. Then writing the stream back gives the list with
+    -- `g` applied to the stream with the number `s`. If the call failed, nothing is claimed.
     pub changed_if : {E : Type 0} (r : Result (Unit {0}) E) (g : StreamValue → StreamValue) (new : StreamValue)
         → OnOk r (new ≡ g old) → OnOk r (slice_set vs (i - 1) new ≡ changed_at (s - 1) g vs)
     changed_if (Ok u) g new e = changed_there g new e
@@ -80,17 +80,18 @@ module _ (vs : List StreamValue) (s : ℕ) (f : StreamValue → Verdict) (good :
 
 -- ---- What follows from a good entry
 
--- If an entry is good by `agrees`, it is the one to which its command leads.
+-- If the verdict `agrees b` is Ok, then `b` is true: the command leads to the entry.
 pub agrees_so : (b : Bool) → agrees b ≡ Ok tt → b ≡ true
 agrees_so true h = refl
 agrees_so false h = absurd cc
 
--- If a verdict with a possible refusal is Ok, there is no refusal, and the verdict after it is Ok.
+-- If a verdict that first looks at a possible refusal `o` is Ok, then there is no refusal, and the rest of the verdict
+-- (`next`) is Ok.
 pub past_by : (o : Option Refusal) (next : Verdict) → refused_by o next ≡ Ok tt → (o ≡ None) × (next ≡ Ok tt)
 past_by (Some r) next h = absurd cc
 past_by None next h = (refl, h)
 
--- The entry takes the next sequence number of the stream `v`, which isn't the last possible one.
+-- The sequence number `number` is the next one of the stream `v`, and isn't the last possible one.
 abbrev pub Draws : StreamValue → ℕ → Type 0
 Draws v number = (number ≡ v.next) × (v.next ≢ last_number)
 

@@ -15,8 +15,8 @@ use Rattle.kcl_audit_streams.specs.Standing.{AreStreams, IsStream, Shows, Stream
 use Rattle.kcl_audit_streams.specs.Standing.{is_listed_in, live_at, lists, stream_at}
 use Rattle.kcl_audit_streams.proofs.StreamTold.{listed_is}
 
--- If the list has the models of all streams from the number `n` on, the stream at the index `i` is the model of the one
--- with the number `n` + `i`.
+-- If the list has the models of all streams from the number `n` on, the stream at the index `i` is the model of the
+-- stream with the number `n + i`.
 pub stream_get : (log : Journal) (n i : ℕ) (vs : List StreamValue) (v : StreamValue) → AreStreams log n vs
     → slice_get vs i ≡ Some v → IsStream log (n + i) v
 stream_get log n i [] v h is = absurd cc
@@ -34,7 +34,8 @@ get_none i [] h = omega arith
 get_none zero (v ∷ vs) h = absurd cc
 get_none (suc i) (v ∷ vs) h = let r = get_none i vs h in omega arith
 
--- If the model has a stream with the number `s`, it is the model of this stream in the journal (`IsStream`).
+-- If the model has a stream `v` with the number `s`, then `v` is the model of the journal's stream with this number
+-- (`IsStream`).
 pub stream_found : (w : StreamsValue) (log : Journal) (s : ℕ) (v : StreamValue) → Shows w log
     → stream_at w.streams s ≡ Some v → IsStream log s v
 stream_found w log zero v sh is = absurd cc
@@ -48,12 +49,12 @@ pub stream_none : (w : StreamsValue) (log : Journal) (s : ℕ) → Shows w log �
 stream_none w log zero sh is = sh.all.none
 stream_none w log (suc i) sh is = let r = get_none i w.streams is in sh.all.others (suc i) (omega arith)
 
--- If the journal says nothing of the number `s`, no shard of such a stream is listed.
+-- If the journal says nothing of the number `s`, no shard of a stream with this number is listed.
 unmade_unlisted : (log : Journal) (c s sh : ℕ) → IsFresh log s → is_listed log c s sh ≡ false
 unmade_unlisted log c s sh un = ap (λ (xs : List ShardState). is_listed_state log c s (slice_get xs sh)) un.no_shards
 
--- It doesn't matter for whether a shard is listed whether its stream `v` is looked up among the live streams or among
--- all. `b` says whether `v` is live.
+-- Whether a shard is listed doesn't depend on where its stream `v` is looked up: among the live streams alone, or among
+-- all streams. `b` says whether `v` is live.
 gone_unlisted : (w : StreamsValue) (key : ShardRef) (v : StreamValue) (b : Bool) → v.live ≡ b
     → is_listed_in (if b then Some v else None) w.clock key.shard ≡ is_listed_in (Some v) w.clock key.shard
 gone_unlisted w key v true live = refl

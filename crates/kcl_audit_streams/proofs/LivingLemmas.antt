@@ -57,7 +57,7 @@ named_from us n [] name h = refl
 named_from us n (v ∷ vs) name h =
     named_by us n v vs name v.live refl h (named_from us (n + 1) vs name (at_tail us n v vs h))
 
--- A live stream has the name `name` exactly if one with a number in `live_numbers` has it.
+-- A live stream has the name `name` exactly if a stream with a number in `live_numbers` has this name.
 pub named_live : (vs : List StreamValue) (name : List ℕ) → is_named_among vs name (live_numbers 1 vs) ≡ is_named vs name
 named_live vs name = named_from vs 1 vs name (at_all vs)
 
@@ -115,7 +115,7 @@ made_live n (u ∷ us) v e =
 
 -- ---- One stream changes
 
--- If the change `g` of a stream keeps it live or not live, the numbers of the live streams stay the same.
+-- If the change `g` doesn't change whether a stream is live, the numbers of the live streams stay the same.
 pub same_live : (n p : ℕ) (g : StreamValue → StreamValue) (vs : List StreamValue)
     → ((v : StreamValue) → (g v).live ≡ v.live) → live_numbers n (changed_at p g vs) ≡ live_numbers n vs
 same_live n p g [] h = refl
@@ -169,7 +169,7 @@ gone_live n (suc p) q (v ∷ vs) e =
 
 -- ---- An entry
 
--- An entry that isn't a deletion, and doesn't make a stream, keeps each stream live or not live.
+-- An entry that isn't a deletion doesn't change whether a stream is live.
 stays : (clock : ℕ) (what : Entry) → is_deletion what ≡ false → (v : StreamValue)
     → (with_entry clock what v).live ≡ v.live
 stays clock (entry.Gone s) h v = absurd cc
@@ -180,7 +180,7 @@ stays clock (entry.Kept s hours) h v = refl
 stays clock (entry.Enforced s on) h v = refl
 stays clock _ h v = refl
 
--- An entry of a stream that isn't its deletion leaves the numbers of the live streams as they are.
+-- If an entry of a stream doesn't delete this stream, the numbers of the live streams stay the same.
 pub later_live : (clock p : ℕ) (what : Entry) (vs : List StreamValue) → is_deletion what ≡ false
     → live_numbers 1 (changed_at p (with_entry clock what) vs) ≡ live_numbers 1 vs
 later_live clock p what vs h = same_live 1 p (with_entry clock what) vs (stays clock what h)

@@ -27,8 +27,8 @@ left_behind sh floor position (x ∷ xs) (suc i) h =
     left_behind sh floor position xs i (λ k d low lt. h (suc k) d (omega arith) (omega arith))
     ∙ sym (past_one sh floor position x xs (is_in sh x) refl (h 0 x (omega arith) (omega arith)))
 
--- If the records before the index `i` are below the position, and those from `i` on aren't, then what is left of the
--- records from `i` on is what is left of all.
+-- Let the records before the index `i`, and no others, be below the position. Then what is left of the records from `i`
+-- on is what is left of all records.
 pub left_from : (sh floor position : ℕ) (xs : List Sized) (i : ℕ)
     → IsPartitionPoint (λ (y : Sized). nat_lt y.seq position ≡ true) (λ (y : Sized). nat_lt y.seq position ≡ false) xs i
     → left_in sh floor position (take (length xs - i) (drop i xs)) ≡ left_in sh floor position xs

@@ -8,8 +8,8 @@ use Rattle.kds_defs.specs.Subjects.{stream_of}
 use Rattle.kcl_laws.specs.Recorded.{bare}
 use Rattle.kcl_audit_streams.specs.Standing.{AreStreams, IsStream, Shows, StreamValue, StreamsValue}
 
--- If `v` is the model of the stream `s`, it still is after a line that isn't of this stream and whose clock isn't below
--- the journal's.
+-- Let `v` be the model of the stream `s`. It still is after a line that isn't of this stream, if the line's clock isn't
+-- below that of the journal's newest line.
 pub stream_other : (log : Journal) (line : Line) (s : ℕ) (v : StreamValue) → last_clock log ≤ line.clock
     → stream_of line.what ≢ Some s → IsStream log s v
     → IsStream (line ∷ log) s v

@@ -10,8 +10,9 @@ use Rattle.kcl_audit_streams.specs.Standing.{is_in, puts_from, puts_in}
 abbrev pub sized : Sized → SizedPut
 sized r = record { clock = r.arrival; bytes = r.bytes }
 
--- The records before the index `i` have been counted. `before` are the puts of the shard `sh` among them. `count` of
--- these are in the second of the clock `c`, and have `held` bytes together, or 2^64 - 1 if they have more.
+-- The records before the index `i` have been counted, and `before` are the puts of the shard `sh` among them. Of these
+-- puts, `count` are in the second of the clock `c`. `held` is the number of bytes that they have together, or 2^64 - 1
+-- if they have more.
 pub record IsTaken (sh c : ℕ) (xs : List Sized) (i count held : ℕ) : Type 0 where
   pub before : List SizedPut
   pub all : puts_from before (drop i xs) sh ≡ puts_in xs sh
@@ -20,8 +21,8 @@ pub record IsTaken (sh c : ℕ) (xs : List Sized) (i count held : ℕ) : Type 0 
   pub few : count ≤ i
 
 module _ (sh c : ℕ) (xs : List Sized) (i : ℕ) (x : Sized) (within : i < length xs) (is : x ≡ get_or xs i x) where
-  -- Adding the puts of the records from the index `i` on to `before` is the same as adding first the put of the record
-  -- `x` at `i`, if it is one of the shard (`b`), and then those of the records after it.
+  -- The puts of the records from the index `i` on may be added to `before` in two steps. The first adds the put of the
+  -- record `x` at `i`, if `x` is one of the shard (`b`), and the second adds the puts of the records after it.
   more : (before : List SizedPut) (b : Bool) → is_in sh x ≡ b
       → puts_from before (drop i xs) sh ≡ puts_from (if b then sized x ∷ before else before) (drop (i + 1) xs) sh
   more before b in_it =

@@ -38,7 +38,7 @@ pub made_kept : (what : Entry) (n : ℕ) → IsLater what → made_count_after w
 made_kept (entry.Made s name count) n later = absurd later
 made_kept _ n later = refl
 
--- If the stream of the entry is `a` and it is also `s`, the two numbers are equal as the code tests it.
+-- If the number of the entry's stream is both `a` and `s`, the test whether `a` and `s` are equal is true.
 its : (a s : ℕ) → Some a ≡ Some s → (a == s) ≡ true
 its a s of = is_equal a s (same_some a s of)
 
@@ -58,8 +58,8 @@ in_last sh [] r true h = rw h refl
 in_last sh [] r false h = rw h refl
 in_last sh (x ∷ rs) r b h = grind (arith, in_last sh rs r b h)
 
--- If the journal's records of the shard `q` are those of the model, they still are after one more record. It is `x` in
--- the journal and `r` in the model, which are the same but for the key and the payload.
+-- If the journal's records of the shard `q` are those of the model, they still are after one more record. The new
+-- record is `x` in the journal and `r` in the model, which are the same but for the key and the payload.
 record_more : (q : ℕ) (before : List Logged) (x : Logged) (rs : List Sized) (r : Sized) → bare x ≡ logged r
     → map bare before ≡ records_in rs q
     → map bare (if is_in q r then before ++ x ∷ [] else before) ≡ records_in (rs ++ r ∷ []) q
@@ -181,8 +181,8 @@ module _ (d by s : ℕ) (v : StreamValue) where
   floor_step log what later of st order c after =
       floor_same log (entry_line d by what) s c after refl ∙ st.trims c (omega arith)
 
-  -- If the entry is good, and `v` is the model of the stream `s` in the journal `log`, then `with_entry d what v` is
-  -- its model in the journal with the entry's line.
+  -- Let the entry be good, and let `v` be the model of the stream `s` in the journal `log`. Then `with_entry d what v`
+  -- is the model of this stream in the journal with the entry's line.
   pub stream_step : (log : Journal) (full : Bool) (what : Entry) → IsLater what → stream_of what ≡ Some s
       → entry_verdict full d what v ≡ Ok tt
       → last_clock log ≤ d → IsStream log s v → IsStream (entry_line d by what ∷ log) s (with_entry d what v)
@@ -207,8 +207,8 @@ module _ (d by s : ℕ) (v : StreamValue) where
 
 -- ---- A stream that is made
 
--- If the journal says nothing of the number `s`, then after the line that makes the stream `s`, the model of it is
--- `new_stream`.
+-- If the journal says nothing of the number `s`, then after the line that makes the stream `s`, the model of this
+-- stream is `new_stream`.
 pub made_step : (log : Journal) (d by s count : ℕ) (name : List ℕ) → IsFresh log s
     → IsStream (entry_line d by (entry.Made s name count) ∷ log) s (new_stream name count)
 made_step log d by s count name fresh =

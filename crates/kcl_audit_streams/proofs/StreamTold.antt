@@ -43,8 +43,8 @@ unfolding refuse◌if◌else◌
 then_refuse r true d what x h = refl
 then_refuse r false d what x h = h
 
--- The verdict on an entry whose command needs a live stream. `live` says whether the stream `s` is live. If it isn't,
--- the command is refused with NoStream.
+-- The verdict on an entry whose command needs a live stream is the one by `d` if the stream `s` is live, and otherwise
+-- the refusal NoStream. `live` says whether the stream is live.
 judged_in : (log : Journal) (s : ℕ) (d : Decision) (what : Entry) (live : Bool) → is_live log s ≡ live
     → judged (in_stream log s d) what ≡ (if live then judged d what else refused refusal.NoStream)
 judged_in log s d what true is = then_refuse refusal.NoStream (not (is_live log s)) d what (judged d what) refl
@@ -166,9 +166,9 @@ merge_told log clock by s sh other m child v st order =
 
 -- ---- Each entry whose stream is live
 
--- The decision on the command of the entry `what` is first whether the stream `s` is live, and then `rest`. Each line
--- that `rest` gives is the line of its entry, and the verdict by `rest` is the one that the judge computes
--- (`entry_verdict`).
+-- The decision on the command of the entry `what` first tests whether the stream `s` is live, and then goes on with
+-- `rest`. Each line that `rest` gives is the line of its entry, and the verdict by `rest` is the one that the judge
+-- computes (`entry_verdict`).
 pub record Tells (log : Journal) (clock by : ℕ) (what : Entry) (s : ℕ) : Type 0 where
   pub rest : Decision
   pub told_is : told log (entry_line clock by what) what ≡ in_stream log s rest
@@ -177,7 +177,7 @@ pub record Tells (log : Journal) (clock by : ℕ) (what : Entry) (s : ℕ) : Typ
       → full ≡ nat_le OPEN_SHARDS (open_count log)
       → judged rest what ≡ entry_verdict full clock what v
 
--- `Tells` holds for each entry of a stream that isn't the one that makes the stream.
+-- `Tells` holds for each entry of a stream, except for an entry that makes a stream.
 each : (log : Journal) (clock by : ℕ) (what : Entry) → IsLater what
     → IfSome (stream_of what) (λ s. Tells log clock by what s)
 each log c by (entry.Made s name count) later = absurd later
@@ -236,7 +236,7 @@ module _ (log : Journal) (clock by s : ℕ) (what : Entry) (later : IsLater what
   tells = subst (λ o. IfSome o (λ m. Tells log clock by what m)) of (each log clock by what later)
 
   -- The verdict on the entry is that by `rest` of the lemma `tells` if the stream is live, and otherwise the refusal
-  -- NoStream. `live` says whether it is live.
+  -- NoStream. `live` says whether the stream is live.
   judged_so : (live : Bool) → is_live log s ≡ live
       → judged (told log (entry_line clock by what) what) what
       ≡ (if live then judged tells.rest what else refused refusal.NoStream)

@@ -52,7 +52,7 @@ put_verdict v clock sh number hash bytes =
     if v.next == last_number then refused refusal.Spent else
     agrees ((home_in v hash == sh) && (v.next == number))
 
--- Whether no sequence number is left for the stream, or no numbers are left for `more` further shards.
+-- Whether the stream has no sequence number left, or no numbers left for `more + 1` new shards.
 abbrev pub is_spent : StreamValue → ℕ → Bool
 is_spent v more = nat_lt last_number (length v.tree + more) || v.next == last_number
 
@@ -127,7 +127,8 @@ made_refusal vs name count =
 abbrev pub made_verdict : List StreamValue → ℕ → List ℕ → ℕ → Verdict
 made_verdict vs s name count = refused_by (made_refusal vs name count) (agrees (s == length vs + 1))
 
--- The verdict `next` on the live stream that was found. If none was found (None), the entry's command is refused.
+-- The verdict `next` on the live stream that was found. If none was found (None), the entry's command is refused with
+-- `NoStream`.
 abbrev pub in_live : Option StreamValue → (StreamValue → Verdict) → Verdict
 in_live None next = refused refusal.NoStream
 in_live (Some v) next = next v
@@ -167,12 +168,13 @@ new_stream name count = record {
   records = [];
 }
 
--- The stream `v` with the record `r` added as its newest. It took the next sequence number.
+-- The stream `v` after a put of the record `r`, which is added at the end of the records. The next sequence number
+-- rises by one.
 abbrev pub with_put : Sized → StreamValue → StreamValue
 with_put r v = record v { next = v.next + 1; records = v.records ++ r ∷ [] }
 
 -- The stream `v` after its shard `sh` was split at the hash key `at`, at the clock `clock`. The split has the sequence
--- number `number`.
+-- number `number`, and the stream's next sequence number rises by one.
 abbrev pub with_split : ℕ → ℕ → ℕ → ℕ → StreamValue → StreamValue
 with_split clock sh at number v =
     record v {
@@ -181,15 +183,15 @@ with_split clock sh at number v =
     }
 
 -- The stream `v` after its shards `sh` and `other` were merged at the clock `clock`. The merge has the sequence number
--- `number`.
+-- `number`, and the stream's next sequence number rises by one.
 abbrev pub with_merge : ℕ → ℕ → ℕ → ℕ → StreamValue → StreamValue
 with_merge clock sh other number v = record v {
   next = v.next + 1;
   tree = merged_shards sh other (record { number = number; clock = clock }) (number + 1) v.tree;
 }
 
--- The stream `v` after its retention became `hours` hours at the clock `clock`. Its floor is now the greater of those
--- that the old and the new retention give at this clock, so that both of them trim.
+-- The stream `v` after its retention became `hours` hours at the clock `clock`. Its floor is now the greater one of two
+-- floors at this clock: its trim floor so far (`floor_in`), and the floor that the new retention gives.
 abbrev pub with_hours : ℕ → ℕ → StreamValue → StreamValue
 with_hours clock hours v = record v { hours = hours; floor = max (floor_in v clock) (floor_at clock (hours * HOUR)) }
 
@@ -201,7 +203,7 @@ with_limits on v = record v { enforced = on }
 abbrev pub with_gone : StreamValue → StreamValue
 with_gone v = record v { live = false }
 
--- The list of streams with the one at the index `n` changed by `f`. If there is none, the list stays the same.
+-- The list of streams with the stream at the index `n` changed by `f`. If the list has no index `n`, it stays the same.
 abbrev pub changed_at : ℕ → (StreamValue → StreamValue) → List StreamValue → List StreamValue
 changed_at n f [] = []
 changed_at zero f (v ∷ vs) = f v ∷ vs
@@ -218,7 +220,8 @@ with_entry clock (entry.Kept s hours) = with_hours clock hours
 with_entry clock (entry.Enforced s on) = with_limits on
 with_entry clock _ = λ v. v
 
--- The list of streams with the one of the number `s` changed by `f`. Without a number (None), it stays the same.
+-- The list of streams with the stream of the number `s` changed by `f`. If no number is given (None), the list stays
+-- the same.
 abbrev pub changed_of : Option ℕ → (StreamValue → StreamValue) → List StreamValue → List StreamValue
 changed_of None f vs = vs
 changed_of (Some s) f vs = changed_at (s - 1) f vs

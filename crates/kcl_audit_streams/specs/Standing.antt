@@ -55,13 +55,13 @@ puts_from before (r ∷ rs) sh =
 abbrev pub puts_in : List Sized → ℕ → List SizedPut
 puts_in rs sh = puts_from [] rs sh
 
--- The trim floor of the stream `v` at the clock `clock`: records that arrived below it are trimmed. It is the greater
--- of the floor that the model keeps and the floor by the present retention.
+-- The trim floor of the stream `v` at the clock `clock`: records that arrived before this time are trimmed. It is the
+-- greater of the floor that the model keeps and the floor by the present retention.
 abbrev pub floor_in : StreamValue → ℕ → ℕ
 floor_in v clock = max v.floor (floor_at clock (v.hours * HOUR))
 
--- The stream with the number `s` was made in the journal `log`, and each field of `v` is what the journal says of it.
--- The records are those of the journal without their keys and payloads.
+-- The stream with the number `s` was made in the journal `log`, and the fields of `v` hold what the journal says of
+-- this stream. The records are those of the journal without their keys and payloads.
 pub record IsStream (log : Journal) (s : ℕ) (v : StreamValue) : Type 0 where
   pub was : was_made log s ≡ true
   pub named : name_of log s ≡ v.name
@@ -118,7 +118,7 @@ if_live (Some v) = if v.live then Some v else None
 abbrev pub live_at : List StreamValue → ℕ → Option StreamValue
 live_at vs s = if_live (stream_at vs s)
 
--- Whether a shard was found and is listed: it is open, or was closed at or above the trim floor `floor`.
+-- Whether a shard was found and is listed: it is open, or was closed at or after the trim floor `floor`, a time.
 abbrev pub is_listed_of : ℕ → Option ShardState → Bool
 is_listed_of floor None = false
 is_listed_of floor (Some x) = not (is_closed_below floor x)

@@ -70,8 +70,8 @@ shown t =
 abbrev pub with_read : ℕ → Bool → TenureValue → TenureValue
 with_read reach ended t = record t { reach = reach; pending = t.pending ++ record { reach = reach; end = ended } ∷ [] }
 
--- The tenure `t` after the first of its reads that aren't given, which are the first argument, was given. If there is
--- no such read, nothing changes.
+-- The tenure `t` after one more read was given. The first argument has the reads of `t` that aren't given, and the
+-- first of these is given. If there is no such read, nothing changes.
 abbrev pub given_of : List PendingRead → TenureValue → TenureValue
 given_of [] t = t
 given_of (r ∷ rs) t = record t { delivered = r.reach; pending = rs; at_end = r.end }
@@ -80,8 +80,8 @@ given_of (r ∷ rs) t = record t { delivered = r.reach; pending = rs; at_end = r
 abbrev pub with_given : TenureValue → TenureValue
 with_given t = given_of t.pending t
 
--- The tenure `number`, if the book `old` has it, has a read that isn't given. In the book `new`, the oldest such read
--- is given, and `delivered` is the position that this read reached.
+-- If the book `old` has the tenure `number`, this tenure has a read that isn't given. The book `new` is `old` with the
+-- oldest such read given, and `delivered` is the position that this read reached.
 abbrev pub HasGiven : ℕ → ℕ → BookValue → BookValue → Type 0
 HasGiven number delivered old new =
     IfSome (tenure_at old.tenures number) (λ t. (are_none t.pending ≡ false)

@@ -1,5 +1,5 @@
--- After a call of a consumer's functions, the consumer stands for its record (the list of its events) with what the
--- call adds. `stands` says which processor calls a processor stands for.
+-- After a call of a consumer's functions, the consumer stands for its record with what the call adds. The record is the
+-- list of the consumer's events. `stands` says which processor calls a processor stands for.
 use Rattle.std.proofs.Common.{◌≡◌, ℕ, Bool, false, List, ◌∷◌, Option, None, Ok, Err, refl, sym, ap, subst, ◌∙◌}
 use Rattle.std.specs.Prelude.{Result}
 use Rattle.kds_defs.specs.declared.command.Target.{Target}
@@ -20,7 +20,8 @@ use Rattle.kcl_consumer.specs.declared.stage.ConsumerStage.TheVariants as stage
 use Rattle.kcl_consumer.specs.Stages.{stage_of}
 use Rattle.kcl_consumer.specs.Standing.{HasCalled, IsAsBefore, ConsumerValue, StandsFor}
 
--- After its due processor call has returned, a consumer stands for its record with this call added.
+-- `new` is the consumer `old` after its due processor call has returned. If `old` stands for the record `past`, `new`
+-- stands for `past` with this call added.
 pub called : {P : Type 0} (stands : P → List Call → Type 0) (asks : P → List Stored → Ask
     → Type 0) (asked : Ask) (old new : ConsumerValue P) (past : Past) → HasCalled stands asks asked old new
     → StandsFor stands old past → StandsFor stands new (Called asked ∷ past)
@@ -34,7 +35,7 @@ called stands asks asked old new past h s = record {
       (h.calls (calls_after old.made past) s.calls));
 }
 
--- If the consumer `new` is as `old` was (`IsAsBefore`), it stands for each record for which `old` stands.
+-- If the consumer `new` is as `old` was (`IsAsBefore`), then `new` stands for each record for which `old` stands.
 pub kept : {P : Type 0} (stands : P → List Call → Type 0) (asks : P → List Stored → Ask
     → Type 0) (old new : ConsumerValue P)
     (past : Past) → IsAsBefore stands asks old new → StandsFor stands old past → StandsFor stands new past
@@ -45,8 +46,8 @@ kept stands asks old new past h s = record {
       (h.calls (calls_after old.made past) s.calls);
 }
 
--- If the consumer `new` is `old` after it took the answer `answer`, it stands for the record of `old` with this answer
--- added.
+-- `new` is the consumer `old` after the answer `answer`. If `old` stands for the record `past`, `new` stands for `past`
+-- with this answer added.
 pub answered : {P : Type 0} (stands : P → List Call → Type 0) (answer : Result Reply Refusal)
     (old new : ConsumerValue P)
     (past : Past) → new.made ≡ old.made → new.stage ≡ after_answer old.made answer old.stage
@@ -62,8 +63,8 @@ answered stands answer old new past made stage given processor s = record {
       (subst (λ m. stands old.processor (calls_after m (Answered answer ∷ past))) (sym made) s.calls);
 }
 
--- If the consumer `new` is `old` after it has learnt that its lease is lost, it stands for the record of `old` with
--- this loss added.
+-- `new` is the consumer `old` after it has learnt that its lease is lost. If `old` stands for the record `past`, `new`
+-- stands for `past` with this loss added.
 pub lost : {P : Type 0} (stands : P → List Call → Type 0) (old new : ConsumerValue P) (past : Past)
     → new.made ≡ old.made
     → new.stage ≡ after_loss old.stage → new.given ≡ old.given → new.processor ≡ old.processor

@@ -26,7 +26,8 @@ full r = r ∷ r ∷ []
 abbrev waits : List Stored → Fetched
 waits batch = record { batch = batch; ended = false }
 
--- The answer to a Read that didn't end the shard: the batch `batch`, and the position `position` after the batch.
+-- The event of the answer to a Read that didn't end the shard. The answer has the batch `batch`, and the position
+-- `position` after the batch.
 abbrev read : List Stored → ℕ → Event
 read batch position = Answered (Ok (reply.Read batch position false))
 

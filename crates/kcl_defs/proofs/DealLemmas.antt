@@ -101,17 +101,17 @@ command_leaves log c by what h = record {
 -- ---- An actor's reads and gives are those of its tenures
 
 -- The commands `deals` of the actor `by` agree with the tenure `t`. If the tenure is the actor's, its reads are the
--- accepted reads among `deals`, and as many are given as Gives were accepted. If it is another actor's, `deals` has no
--- accepted read and no accepted Give of it. If there is no tenure `t`, `deals` has neither, and no command in `deals`
--- began it.
+-- accepted reads of `t` among `deals`, and as many of them are given as Gives of `t` were accepted. If the tenure is
+-- another actor's, `deals` has no accepted read and no accepted Give of `t`. If there is no tenure `t`, `deals` has
+-- none of these either, and no command in `deals` began `t`.
 abbrev pub AgreeWith : ℕ → ℕ → List Deal → Option TenureState → Type 0
 AgreeWith by t deals None = (was_taken t deals ≡ false) × (reads_in t deals ≡ []) × (gives_in t deals ≡ 0)
 AgreeWith by t deals (Some T) =
     ((T.by == by) ≡ true → (map read_done (reads_in t deals) ≡ T.reads) × (gives_in t deals ≡ T.given))
     × ((T.by == by) ≡ false → (reads_in t deals ≡ []) × (gives_in t deals ≡ 0))
 
--- If the commands of the actor `by` agree with the tenure `t` (`AgreeWith`), they still do with the command `deal`
--- added, if `deal` didn't begin this tenure and reports no read and no give of it.
+-- Suppose that the commands of the actor `by` agree with the tenure `t` (`AgreeWith`). They still do with the command
+-- `deal` added, if `deal` didn't begin this tenure and reports no read and no give of it.
 agree_still : (by t : ℕ) (deal : Deal) (deals : List Deal) (o : Option TenureState) → begins t deal.answer ≡ false
     → reads_of t deal.what deal.answer ≡ []
     → gives_of t deal.what deal.answer ≡ 0 → AgreeWith by t deals o → AgreeWith by t (deal ∷ deals) o
@@ -137,8 +137,8 @@ none_of : {o : Option TenureState} (f : TenureState → TenureState) (b : Bool) 
     → cond b (option_map f o) o ≡ None
 none_of f b h = ap (λ o. cond b (option_map f o) o) h ∙ same_none b
 
--- If the commands of the actor `by` agree with the existing tenure `t` (`AgreeWith`), they still do with the command
--- `deal` added, if `deal` reports no read and no give of this tenure.
+-- Suppose that the commands of the actor `by` agree with the existing tenure `t` (`AgreeWith`). They still do with the
+-- command `deal` added, if `deal` reports no read and no give of this tenure.
 agree_still_some : (by t : ℕ) (deal : Deal) (deals : List Deal) (T : TenureState)
     → reads_of t deal.what deal.answer ≡ [] → gives_of t deal.what deal.answer ≡ 0
     → AgreeWith by t deals (Some T) → AgreeWith by t (deal ∷ deals) (Some T)
@@ -151,7 +151,8 @@ agree_still_some by t deal deals T r g h =
       λ e. (same_reads ∙ (h.1 e).0, same_gives ∙ (h.1 e).1),
     )
 
--- If no tenure has a number above the count of tenures, this is still so after a further line.
+-- Let there be no tenure `t` if `t` is above the number of tenures that have begun. This is still so after a further
+-- line.
 unborn_at : (log : Journal) (line : Line) (what : Entry) (t : ℕ) → (taken_count log < t → tenure log t ≡ None)
     → taken_count_after what (taken_count log) < t
     → tenure_after log line what t (tenure log t) ≡ None
@@ -181,8 +182,8 @@ unborn (line ∷ log) t h = unborn_at log line line.what t (λ l. unborn log t l
 
 -- ---- One turn
 
--- The commands `deals` of the actor `by` agree with each tenure of the journal `log`, and have no read and no give of a
--- tenure that the journal doesn't have (`AgreeWith`).
+-- The commands `deals` of the actor `by` agree with each tenure of the journal `log`. They began no tenure that the
+-- journal doesn't have, and have no read and no give of such a tenure (`AgreeWith`).
 abbrev pub AllAgree : ℕ → List Deal → Journal → Type 0
 AllAgree by deals log = (t : ℕ) → AgreeWith by t deals (tenure log t)
 
@@ -190,8 +191,8 @@ AllAgree by deals log = (t : ℕ) → AgreeWith by t deals (tenure log t)
 abbrev with_answer : Command → Result Reply Refusal → List Deal → List Deal
 with_answer what answer deals = record { what = what; answer = answer } ∷ deals
 
--- The commands of the actor `by` agree with the tenure `t` (`AgreeWith`) after its own further command `what`, which
--- added the lines `lines` to the journal and was answered by `answer`.
+-- The commands of the actor `by` agree with the tenure `t` (`AgreeWith`) after a further command `what` of this actor,
+-- which added the lines `lines` to the journal and was answered by `answer`.
 abbrev OwnAgrees : ℕ → Command → List Deal → Journal → ℕ → List Line → Result Reply Refusal → Type 0
 OwnAgrees by what deals log t lines answer =
     AgreeWith by t (with_answer what answer deals) (tenure (with_lines lines log) t)
@@ -210,8 +211,8 @@ own_actor a b d h g = grind (arith, nat_tests)
 other_actor : (a b d : ℕ) → (a == b) ≡ true → (b == d) ≡ false → (a == d) ≡ false
 other_actor a b d h g = grind (arith, nat_tests)
 
--- The commands `deals` didn't begin the tenure that the next taking of a row will begin, and have no read and no give
--- of it.
+-- If the commands `deals` of the actor agree with the journal (`AllAgree`), none of them began, read or gave the tenure
+-- that the next taking of a row will begin.
 nothing_yet : (by : ℕ) (deals : List Deal) (log : Journal) → AllAgree by deals log
     → (was_taken (taken_count log + 1) deals ≡ false) × (reads_in (taken_count log + 1) deals ≡ [])
     × (gives_in (taken_count log + 1) deals ≡ 0)
@@ -222,7 +223,7 @@ nothing_yet by deals log h =
     above : (n : ℕ) → n < n + 1
     above n = omega arith
 
--- The commands of the actor `by` still agree with the tenure `t` after a refused command of its own, which adds no
+-- The commands of the actor `by` still agree with the tenure `t` after a refused command of this actor, which adds no
 -- line.
 own_refused : (by : ℕ) (what : Command) (deals : List Deal) (log : Journal) (t : ℕ) (r : Refusal)
     → reads_of t what (Err r) ≡ [] → gives_of t what (Err r) ≡ 0
@@ -233,7 +234,7 @@ own_refused by what deals log t r no_read no_give h =
 -- ---- Take
 
 -- The commands of the actor `by` agree with a tenure that has just begun (`AgreeWith`), if `deals` has no read and no
--- give of it.
+-- give of this tenure.
 agree_new : (by t actor : ℕ) (key : ShardRef) (start : Checkpoint) (deals : List Deal) → reads_in t deals ≡ []
     → gives_in t deals ≡ 0
     → AgreeWith by t deals (Some (new_tenure actor key start))
@@ -251,8 +252,8 @@ begun by actor key start t n deals before true e nothing same new =
     new refl (subst (λ m. reads_in m deals ≡ []) (sym u) nothing.1, subst (λ m. gives_in m deals ≡ 0) (sym u) nothing.2)
 begun by actor key start t n deals before false e nothing same new = same refl
 
--- The commands of the actor `by` agree with the tenure `t` (`AgreeWith`) after a command of its own that begins the
--- tenure `n`. `b` is true if `t` is `n`.
+-- The commands of the actor `by` still agree with the tenure `t` (`AgreeWith`) after a command of this actor that
+-- begins the tenure `n`, if none of `deals` began, read or gave the tenure `n`. `b` is true if `t` is `n`.
 begun_own : (by actor : ℕ) (key : ShardRef) (what : Command) (from start : Checkpoint) (t n counter : ℕ)
     (deals : List Deal) (before : Option TenureState)
     (b : Bool) → (t == n) ≡ b → IsQuiet what → (was_taken n deals ≡ false) × (reads_in n deals ≡ [])
@@ -284,8 +285,8 @@ take_own by actor c key counter owner deals log t h =
     (taken_count log + 1) (r.counter + 1) deals
     (tenure log t) (t == taken_count log + 1) refl (λ u x. (refl, refl)) (nothing_yet by deals log h) (h t)))))
 
--- The commands of the actor `by` agree with the tenure `t` (`AgreeWith`) after another actor's turn that begins the
--- tenure `n`. `b` is true if `t` is `n`.
+-- The commands of the actor `by` still agree with the tenure `t` (`AgreeWith`) after another actor's turn that begins
+-- the tenure `n`, if none of `deals` began, read or gave the tenure `n`. `b` is true if `t` is `n`.
 begun_other : (by actor : ℕ) (key : ShardRef) (start : Checkpoint) (t n : ℕ) (deals : List Deal)
     (before : Option TenureState) (b : Bool) → (t == n) ≡ b
     → (was_taken n deals ≡ false) × (reads_in n deals ≡ []) × (gives_in n deals ≡ 0) → AgreeWith by t deals before
@@ -347,7 +348,8 @@ map-append : (xs ys : List Fetched) → map read_done (xs ++ ys) ≡ map read_do
 map-append [] ys = refl
 map-append (x ∷ xs) ys = ap (λ l. read_done x ∷ l) (map-append xs ys)
 
--- The commands of the actor `by` agree with its own tenure `t` (`AgreeWith`) after its accepted read of this tenure.
+-- The commands of the actor `by` still agree with its own tenure `t` (`AgreeWith`) after a further accepted read of
+-- this tenure.
 agree_read : (by t : ℕ) (deals : List Deal) (T : TenureState) (rs : List Logged) (ended : Bool) (what : Command)
     (next : ℕ) → (T.by == by) ≡ true
     → reads_of t what (Ok (reply.Read (map stored rs) next ended)) ≡ record { batch = map stored rs; ended = ended }
@@ -423,8 +425,8 @@ read_own by actor c which position limit deals log t own h =
     (ends_at log c T.key.stream T.key.shard (position_after (reach T) (numbers_of rs))) (which == t) refl
     (λ x. same_tenure log which t T e x) (not-false (T.by == actor) a) own (h t)))))))
 
--- If the tenure `t` belongs to another actor, the commands of the actor `by` still agree with it (`AgreeWith`) after
--- its state has changed from `T` to `U`.
+-- If the tenure `t` belongs to another actor, the commands of the actor `by` still agree with this tenure (`AgreeWith`)
+-- after the tenure's state has changed from `T` to `U`.
 agree_other : (by t : ℕ) (deals : List Deal) (T U : TenureState) → U.by ≡ T.by → (T.by == by) ≡ false
     → AgreeWith by t deals (Some T)
     → AgreeWith by t deals (Some U)
@@ -575,13 +577,14 @@ agree_turn by turn h t true e all = turn_own by turn.by (clock (turn ∷ h)) tur
 agree_turn by turn h t false e all =
     turn_other by turn.by (clock (turn ∷ h)) turn.what (deals_of by h) (journal h) t e all
 
--- In each history, the commands of the actor `by` agree with each tenure of the journal: the accepted reads and Gives
--- among them are the reads and gives of the actor's own tenures (`AllAgree`).
+-- In each history, the commands of the actor `by` agree with each tenure of the journal (`AllAgree`). So the accepted
+-- reads and Gives among these commands are the reads and gives of the actor's own tenures.
 pub agree : (by : ℕ) (h : List Turn) → AllAgree by (deals_of by h) (journal h)
 agree by [] = λ t. (refl, refl, refl)
 agree by (turn ∷ h) = λ t. agree_turn by turn h t (turn.by == by) refl (agree by h)
 
--- If the answer begins a tenure, none of the earlier commands `deals` began, read or gave this tenure.
+-- Let the commands `deals` of the actor `by` agree with the journal (`AllAgree`). If the answer to a further command
+-- begins a tenure, none of `deals` began, read or gave this tenure.
 begins_new : (by actor c : ℕ) (deals : List Deal) (log : Journal) (what : Command) (lines : List Line)
     (answer : Result Reply Refusal)
     → Outcome log c actor what lines answer → AllAgree by deals log → IsNewTenure answer deals
@@ -605,8 +608,8 @@ pub new_tenures : (by : ℕ) (h : List Turn) → AreNewTenures (deals_of by h)
 new_tenures by [] = tt
 new_tenures by (turn ∷ h) = new_turns by turn h (turn.by == by) (new_tenures by h)
 
--- If the tenure `t` is the actor's, its reads in the journal are the accepted reads among the actor's turns, and as
--- many of them are given as Gives of this tenure were accepted.
+-- Let the tenure `t` be the actor's. Its reads in the journal are the accepted reads of `t` among the actor's turns,
+-- and as many of them are given as Gives of `t` were accepted.
 pub of_tenure : (by : ℕ) (h : List Turn) (t : ℕ) (T : TenureState) → tenure (journal h) t ≡ Some T → (T.by == by) ≡ true
     → AreOfTenure by h t T
 of_tenure by h t T begun own =

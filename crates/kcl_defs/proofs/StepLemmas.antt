@@ -1,5 +1,5 @@
--- A consumer's record has the same reads and gives of the consumer's tenure as the commands of its actor (`IsInStep`).
--- This stays so after each command and after each event of the consumer.
+-- If a consumer's record has the same reads and gives of the consumer's tenure as the commands of the actor
+-- (`IsInStep`), this stays so after each further command and after each event of the consumer.
 use Rattle.std.proofs.Common.{◌≡◌, ℕ, ◌+◌, false, List, [], ◌∷◌, ◌++◌, Some, refl, sym, ap, subst, ◌∙◌}
 use Rattle.std.specs.Prelude.{◌==◌, cond, if◌then◌else◌, Result}
 use Rattle.std.proofs.lemmas.List.{append-nil}
@@ -42,8 +42,8 @@ adds_as : (made : Tenancy) (stage : Stage) (given what : Command) (answer : Resu
     → Some given ≡ Some what → Adds made stage given answer → Adds made stage what answer
 adds_as made stage given what answer e h = subst (λ w. Adds made stage w answer) (same_command given what e) h
 
--- If `what` comes next in the stage `stage`, the read and the give of the consumer's tenure that `what` and `answer`
--- report are those that this answer adds to the consumer's record (`Adds`).
+-- Let `what` come next in the stage `stage`. Then the read and the give of the consumer's tenure that `what` and
+-- `answer` report are those that this answer adds to the consumer's record (`Adds`).
 pub adds : (made : Tenancy) (stage : Stage) (counter : ℕ) (what : Command) (answer : Result Reply Refusal)
     → next_command made stage counter ≡ Some what → Adds made stage what answer
 adds made Opening counter what answer e = adds_as made Opening _ what answer e (record { reads = refl; gives = refl })
@@ -63,8 +63,9 @@ adds made _ counter what answer e = absurd cc
 
 -- ---- Steps
 
--- If the record `past` of a consumer has the reads and gives of its tenure among `deals` (`IsInStep`), this is still so
--- with the command `deal` added, which reports no read and no give of this tenure.
+-- Suppose that the record `past` of a consumer has the reads and gives of the consumer's tenure among `deals`
+-- (`IsInStep`). If the command `deal` reports no read and no give of this tenure, this is still so with `deal` added to
+-- the commands.
 pub others_keep : (deal : Deal) (deals : List Deal) (made : Tenancy) (past : Past)
     → reads_of made.tenure deal.what deal.answer ≡ [] → gives_of made.tenure deal.what deal.answer ≡ 0
     → IsInStep deals made past → IsInStep (deal ∷ deals) made past
@@ -75,7 +76,7 @@ others_keep deal deals made past no_read no_give s =
     }
 
 -- If the record `past` of a consumer has the reads and gives of its tenure among `deals` (`IsInStep`), this is still so
--- after the consumer's next command: `deal` is added to the commands, and its answer to the record.
+-- after the consumer's next command: `deal` is added to the commands, and the answer in `deal` to the record.
 pub own_keeps : (deal : Deal) (deals : List Deal) (counter : ℕ) (made : Tenancy) (past : Past)
     → next_command made (stage_after made past) counter ≡ Some deal.what → IsInStep deals made past
     → IsInStep (deal ∷ deals) made (Answered deal.answer ∷ past)
@@ -120,8 +121,8 @@ lost_keeps deals made past s =
 
 -- ---- The calls of the processor
 
--- If the record of a consumer has the reads and gives of its tenure among `deals` (`IsInStep`), the calls of its
--- processor fit these reads and gives (`IsLife`).
+-- If the record of a consumer has the reads and gives of its tenure among `deals` (`IsInStep`), the calls of the
+-- consumer's processor fit these reads and gives (`IsLife`).
 pub life_among : (deals : List Deal) (made : Tenancy) (past : Past) → IsInStep deals made past
     → IsLifeAmong deals made (calls_after made past)
 life_among deals made past s =

@@ -108,8 +108,8 @@ abbrev pub IsBegunIn : List Deal → Tenancy → Type 0
 IsBegunIn [] made = ⊥
 IsBegunIn (deal ∷ deals) made = IsTaken made deal.what deal.answer ⊎ IsBegunIn deals made
 
--- If the answer says that the tenure in `made` has begun, the journal `log` with the lines `lines` has this tenure. It
--- is that of the actor `by`, and has the key `key` and the starting checkpoint in `made`.
+-- If the answer says that the tenure in `made` has begun, the journal `log` with the lines `lines` has this tenure.
+-- This tenure is that of the actor `by`, and has the key `key` and the starting checkpoint in `made`.
 abbrev TakesSo : ℕ → ShardRef → Journal → List Line → Result Reply Refusal → Type 0
 TakesSo by key log lines answer =
     (made : Tenancy) (now : ℕ) → made.key ≡ key → answer ≡ Ok (reply.Taken made.tenure now made.start)
@@ -178,7 +178,7 @@ tenure_is by [] made is = is
 tenure_is by (turn ∷ h) made is = begun_turn by turn h made (turn.by == by) refl (tenure_is by h made) is
 
 -- If an accepted Take of the actor `by` in the history `h` began the tenure in `made`, the journal of `h` has this
--- tenure. It is the actor's, and has the key and the starting checkpoint in `made`.
+-- tenure. This tenure is the actor's, and has the key and the starting checkpoint in `made`.
 pub of_tenancy : (by : ℕ) (h : List Turn) (made : Tenancy) → IsBegunIn (deals_of by h) made → IsOfTenure by h made
 of_tenancy by h made is = go (tenure (journal h) made.tenure) refl (tenure_is by h made is)
   where
@@ -197,13 +197,14 @@ abbrev pub IsTakeOf : Chore → Command → Type 0
 IsTakeOf (Taking step takes) what = (counter : ℕ) × (owner : ℕ) × (what ≡ command.Take step.key counter owner)
 IsTakeOf _ what = Unit {0}
 
--- If a command waits for its answer and its chore is a step of the take plan, the command is a Take of the step's key.
+-- If a command waits for its answer and the command's chore is a step of the take plan, the command is a Take of the
+-- step's key.
 abbrev pub IsTakeWaiting : Option Pending → Type 0
 IsTakeWaiting None = Unit {0}
 IsTakeWaiting (Some p) = IsTakeOf p.chore p.what
 
--- One of the commands `deals` began the tenure of each consumer of the worker, retired or not. If the command that
--- waits is for a step of the take plan, it is a Take of the step's key.
+-- For each consumer of the worker, retired or not, one of the commands `deals` began the consumer's tenure. If the
+-- command that waits is for a step of the take plan, it is a Take of the step's key.
 pub record AreBegun (deals : List Deal) (w : WorkerState) : Type 0 where
   pub live : AllByRecursion (IsBegun deals) w.consumers
   pub over : AllByRecursion (IsBegun deals) w.retired
@@ -357,8 +358,8 @@ release_begun deals (Some r) w b =
 
 -- ---- The record
 
--- If the worker's commands `deals` began the tenures of all its consumers before an event, they still did after the
--- event.
+-- If the worker's commands `deals` began the tenures of all consumers of the worker before an event (`AreBegun`), this
+-- is also so of the commands and the consumers after the event.
 pub state_begun : (made : WorkerMade) (event : WorkerEvent) (w : WorkerState) (deals : List Deal) → AreBegun deals w
     → AreBegun (deals_with event w deals) (after_worker_event made event w)
 state_begun made (Made_call asked) w deals b =
@@ -372,22 +373,22 @@ state_begun made Stopped w deals b =
     (all_event (IsBegun deals) (λ k. true) Losing w.consumers (λ k g. g) b.live) b.over b.waits
 state_begun made (Released key) w deals b = release_begun deals (released key w) w b
 
--- After each record of a worker, the answered commands of the record began the tenures of all its consumers
+-- After each record of a worker, the answered commands of the record began the tenures of all consumers of the worker
 -- (`AreBegun`).
 pub are_begun : (made : WorkerMade) (past : WorkerPast) → AreBegun (deals_after made past) (worker_after made past)
 are_begun made [] = record { live = tt; over = tt; waits = tt }
 are_begun made (event ∷ past) =
     state_begun made event (worker_after made past) (deals_after made past) (are_begun made past)
 
--- If the commands of the actor `by` in the history `h` began the tenures of all consumers in `xs`, each of these
--- consumers belongs to a tenure of the history (`IsOfTenure`).
+-- Let the commands of the actor `by` in the history `h` have begun the tenures of all consumers in `xs`. Then each of
+-- these consumers belongs to a tenure of the history (`IsOfTenure`).
 pub all_tenures : (by : ℕ) (h : List Turn) (xs : List Known) → AllByRecursion (IsBegun (deals_of by h)) xs
     → AllByRecursion (λ k. IsOfTenure by h k.made) xs
 all_tenures by h xs b =
     all_map (IsBegun (deals_of by h)) (λ k. IsOfTenure by h k.made) xs (λ k g. of_tenancy by h k.made g) b
 
--- If the turns of the actor `by` in the history `h` are the commands of the worker's record with their answers, the
--- actor's commands began the tenures of all consumers of the worker (`AreBegun`).
+-- Let the turns of the actor `by` in the history `h` be the commands of the worker's record with their answers. Then
+-- the actor's commands began the tenures of all consumers of the worker (`AreBegun`).
 pub begun_told : (by : ℕ) (h : List Turn) (made : WorkerMade) (past : WorkerPast) → IsToldIn by h made past
     → AreBegun (deals_of by h) (worker_after made past)
 begun_told by h made past told =

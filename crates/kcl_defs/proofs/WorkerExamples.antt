@@ -86,7 +86,7 @@ twice_from_two : List Row
 twice_from_two = row 0 (Some 1) 1 6 ∷ row 1 (Some 1) 1 7 ∷ row 2 (Some 2) 1 3 ∷ row 3 (Some 2) 1 4 ∷ row 4 (Some 2) 1 5
     ∷ []
 
--- The lease of shard `sh` with the tenure `tenure`, whose row has the counter 1.
+-- The lease of shard `sh` with the tenure `tenure`. The row of the lease has the counter 1.
 held : ℕ → ℕ → Held
 held sh tenure = record { key = key sh; tenure = tenure; counter = 1; since = 0 }
 
@@ -123,12 +123,12 @@ steal_from_least = refl
 first_seen : Option Seen
 first_seen = Some (record { key = key 0; counter = 1; since = 0 })
 
--- A row whose counter was first seen exactly the failover time ago isn't expired.
+-- If exactly the failover time has passed since a row's counter was first seen, the row isn't expired.
 not_expired : is_expired_since first_seen (row 0 (Some 2) 1 1) 10000 10000 ≡ false
 unfolding first_seen row key
 not_expired = refl
 
--- A row whose counter was first seen one millisecond more than the failover time ago is expired.
+-- Once one millisecond more than the failover time has passed since a row's counter was first seen, the row is expired.
 is_expired_now : is_expired_since first_seen (row 0 (Some 2) 1 1) 10001 10000 ≡ true
 unfolding first_seen row key
 is_expired_now = refl
@@ -196,8 +196,9 @@ turned made by now s w (Some p) =
       told = record { what = p.what; answer = a } ∷ s.told;
     }
 
--- The scene after one step of the worker at the moment `now`: at most two due calls return, and then its next command
--- becomes a turn of the actor `by`. `last` says which checkpoint the processors ask for after a batch (`asked_at`).
+-- The scene after one step of the worker at the moment `now`: at most two due calls return, and then the worker's next
+-- command becomes a turn of the actor `by`. `last` says which checkpoint the processors ask for after a batch
+-- (`asked_at`).
 stepped : WorkerMade → ℕ → Bool → ℕ → Scene → Scene
 stepped made by last now s =
     let w = after_asked made now (with_calls 2 made last s.worker) in turned made by now s w w.waiting
@@ -226,7 +227,8 @@ opening_scene = record { history = shard_of_two; worker = new_state; told = [] }
 commands_of : Scene → List Command
 commands_of s = reverse (map (λ t. t.what) s.told)
 
--- A worker makes the row of the shard, takes it, opens the shard, reads and gives, with a survey before each round.
+-- A worker makes the row of the shard, takes it, opens the shard, reads and gives. Each of its rounds begins with a
+-- survey.
 first_round : commands_of (steps 10 w1 1000 true 3000 opening_scene) ≡ (
     command.Survey ∷ command.MakeLease (key 0) origin.TrimHorizon
     ∷ command.Survey ∷ command.Take (key 0) 0 1 ∷ command.OpenShard 1
@@ -257,7 +259,7 @@ newest : List Told → Option Told
 newest [] = None
 newest (t ∷ ts) = Some t
 
--- If the processor asks for a checkpoint at its batch's first number, the worker's mark at this number is accepted.
+-- If the processor asks for a checkpoint at the first number of a batch, the worker's mark at this number is accepted.
 first_number_marked : newest (steps 11 w1 1000 false 3000 opening_scene).told
     ≡ Some (record { what = command.Mark 1 1 (target.At 1); answer = Ok (reply.Counter 2) })
 unfolding refuse◌if◌else◌ with◌or◌then◌ newest steps stepped turned with_calls call_if asked_at asked_by first_number

@@ -55,8 +55,8 @@ abbrev pub cuts : List ShardRef → List Row → List SyncStep
 cuts shards [] = []
 cuts shards (r ∷ rows) = if has_key shards r.key then cuts shards rows else Cut r.key r.counter ∷ cuts shards rows
 
--- The sync plan: first come the steps that make a row with the origin `from` for each of `shards` without a row among
--- `rows`, and then the steps that remove each of `rows` whose shard isn't among `shards`.
+-- The sync plan. First come the steps that make a row with the origin `from` for each of `shards` that has no row among
+-- `rows`. Then come the steps that remove each of `rows` whose shard isn't among `shards`.
 abbrev pub sync_plan : List ShardRef → List Row → Origin → List SyncStep
 sync_plan shards rows from = makes from rows shards ++ cuts shards rows
 
@@ -80,8 +80,8 @@ seen_at [] key = None
 seen_at (s ∷ seen) key = if same_key s.key key then Some s else seen_at seen key
 
 -- What is kept of the row `r` after `r` was seen at `now`: a counter of the row, and the moment at which this counter
--- was first seen. If what was kept before (the third argument) has the counter of `r`, it stays. Otherwise the counter
--- of `r` is kept with the moment `now`.
+-- was first seen. If the third argument, which was kept before, has the counter of `r`, it is kept on. Otherwise the
+-- counter of `r` is kept with the moment `now`.
 abbrev pub with_sight : Row → ℕ → Option Seen → Option Seen
 with_sight r now None = Some (record { key = r.key; counter = r.counter; since = now })
 with_sight r now (Some s) =
@@ -97,14 +97,15 @@ abbrev pub after_rows : List Row → ℕ → (ShardRef → Option Seen) → Shar
 after_rows [] now seen = seen
 after_rows (r ∷ rows) now seen = after_rows rows now (after_row r now seen)
 
--- Whether the row `r` is expired at `now`: its counter is the one that is kept (`s`), and this counter was first seen
--- longer ago than the failover time `failover`. If no counter is kept, the row isn't expired.
+-- Whether the row `r` is expired at `now`: its counter is the one that is kept (`s`), and more than the failover time
+-- `failover` has passed since this counter was first seen. If no counter is kept, the row isn't expired.
 abbrev pub is_expired_since : Option Seen → Row → ℕ → ℕ → Bool
 is_expired_since None r now failover = false
 is_expired_since (Some s) r now failover = (s.counter == r.counter) && nat_lt failover (now - s.since)
 
--- Whether the row `r` is expired at `now`, given what `seen` keeps of each key: the row still has the counter that is
--- kept of its key, and this counter was first seen longer ago than the failover time `failover`.
+-- Whether the row `r` is expired at `now`, given what `seen` keeps of each key. The row must still have the counter
+-- that is kept of its key, and more than the failover time `failover` must have passed since this counter was first
+-- seen.
 abbrev pub expiry : (ShardRef → Option Seen) → ℕ → ℕ → Row → Bool
 expiry seen now failover r = is_expired_since (seen r.key) r now failover
 
@@ -164,13 +165,13 @@ abbrev pub others : ℕ → List Row → List ℕ
 others me [] = []
 others me (r ∷ rows) = with_owner me r.owner (others me rows)
 
--- The fair share of the worker `me` of the candidates `rows`: their number divided by the number of workers, rounded
--- up. The workers are `me` and all others that own one of `rows`.
+-- The fair share of the worker `me` of the candidates `rows`: the number of candidates divided by the number of
+-- workers, rounded up. The workers are `me` and all others that own one of `rows`.
 abbrev pub target_of : ℕ → List Row → ℕ
 target_of me rows = (length rows + length (others me rows)) / (length (others me rows) + 1)
 
--- The one of the workers `w` and `v` with the greater load, or with the lower number if their loads are equal. Without
--- a worker `v`, it is `w`. `load` says how many rows each worker owns.
+-- The one of the workers `w` and `v` with the greater load, or with the lower number if their loads are equal. If there
+-- is no worker `v`, the result is `w`. `load` says how many rows each worker owns.
 abbrev pub busier : (ℕ → ℕ) → ℕ → Option ℕ → ℕ
 busier load w None = w
 busier load w (Some v) = if nat_lt (load v) (load w) || ((load v == load w) && nat_lt w v) then w else v
@@ -185,7 +186,7 @@ busiest load (w ∷ workers) = Some (busier load w (busiest load workers))
 abbrev pub take_step : Row → TakeStep
 take_step r = record { key = r.key; counter = r.counter }
 
--- The step that takes the first of `rows` that the worker `worker` owns, if it owns one.
+-- The step that takes the first of `rows` that the worker `worker` owns, if there is such a row.
 abbrev pub first_step : ℕ → List Row → Option TakeStep
 first_step worker rows = option_map take_step (find (loads worker) rows)
 
@@ -202,8 +203,8 @@ abbrev pub chosen : ℕ → List Row → ℕ → List Row → List TakeStep
 chosen me rows room [] = cons_option (stolen rows (target_of me rows) (busiest (load_of rows) (others me rows))) []
 chosen me rows room (r ∷ available) = map take_step (take room (r ∷ available))
 
--- The steps by which the worker `me`, which has the leases `held`, takes some of the candidates `rows`. It takes at
--- most as many as it lacks to its fair share. A worker that has its share takes none.
+-- The steps by which the worker `me`, which has the leases `held`, takes some of the candidates `rows`. The worker
+-- takes at most as many rows as it lacks to its fair share. A worker that has its share takes none.
 abbrev pub take_among : ℕ → List Held → List Row → List TakeStep
 take_among me held rows =
     if nat_le (target_of me rows) (count_by (is_mine held) rows) then [] else

@@ -1,4 +1,4 @@
--- When a worker's record fits a history: the worker's turns in the history are the commands of the record, its
+-- When a worker's record fits a history. The worker's turns in the history are the commands of the record. The worker's
 -- consumers belong to tenures of the history, and their processors are called for the given reads of these tenures.
 use Rattle.std.specs.Prelude.{ℕ, ◌≡◌, List, [], ◌∷◌, Some, None, map}
 use Rattle.std.specs.List.{AllByRecursion}
@@ -47,8 +47,9 @@ pub record IsOfTenure (by : ℕ) (h : List Turn) (made : Tenancy) : Type 0 where
 abbrev pub IsServed : ℕ → List Turn → Known → Type 0
 IsServed by h k = IsOfTenure by h k.made × IsLifeIn by h k.made (calls_after k.made k.past)
 
--- The consumer `k` belongs to a tenure of the actor `by` in the history `h`, its processor was called for the given
--- reads of this tenure, in order, and each batch that the processor was handed is given (`IsWholeLifeIn`).
+-- The consumer `k` belongs to a tenure of the actor `by` in the history `h` (`IsOfTenure`), and its processor was
+-- called for the given reads of this tenure, in order. Each batch that the processor was handed is given
+-- (`IsWholeLifeIn`).
 abbrev pub IsServedWhole : ℕ → List Turn → Known → Type 0
 IsServedWhole by h k = IsOfTenure by h k.made × IsWholeLifeIn by h k.made (calls_after k.made k.past)
 
@@ -61,7 +62,8 @@ pub record AreServed (by : ℕ) (h : List Turn) (made : WorkerMade) (past : Work
 
 -- ---- The reads among an actor's turns, and those of the journal
 
--- The read `f` as the journal has it: the sequence numbers of its records, and whether it ended the shard.
+-- The read `f` as the state of its tenure keeps it: the sequence numbers of its records, and whether it ended the
+-- shard.
 abbrev pub read_done : Fetched → ReadDone
 read_done f = record { numbers = map (λ r. r.seq) f.batch; ended = f.ended }
 

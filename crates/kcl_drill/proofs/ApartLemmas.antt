@@ -1,5 +1,6 @@
--- The lines on streams that a history leaves depend only on its commands for the stream service, if it turns no limits
--- on and its clock is below 24 hours. Clocks are put aside, and of an actor only what the function `f` gives matters.
+-- Let a history have only basic commands, and let its clock be below 24 hours. Then the lines on streams that it leaves
+-- depend only on its commands for the stream service. Clocks don't count here, and an actor counts only by the value of
+-- a function `f` for it.
 use Rattle.std.proofs.Common.{◌≡◌, ℕ, ◌+◌, ◌<◌, ◌≤◌, max, Bool, true, false, List, [], ◌∷◌, length, Option, Some, None}
 use Rattle.std.proofs.Common.{refl, sym, ap, subst, ◌∙◌, arith}
 use Rattle.std.specs.Prelude.{◌==◌, ◌&&◌, ◌||◌, not, nat_le, nat_lt, map, cond, is_some, if◌then◌else◌}
@@ -39,11 +40,12 @@ use Rattle.kcl_drill.proofs.Readings.{open_count_same, IsYoung, young_if_legal, 
 
 -- ---- Two decisions that add the same lines
 
--- The two decisions add the same lines, if clocks are put aside and actors are seen through `f`.
+-- The two decisions add the same lines, once each line has the clock 0 and the value of `f` for its actor (`forget`).
 pub AddsSame : (ℕ → ℕ) → Decision → Decision → Type 0
 AddsSame f d d' = map (forget f) (lines_of d) ≡ map (forget f) (lines_of d')
 
--- If two decisions add the same lines, they still do after a test that refuses in both cases or in none.
+-- Suppose that two decisions add the same lines, and that `b` and `b'` are equal. If both decisions are replaced by a
+-- refusal where `b` or `b'` is true, they still add the same lines.
 if_same : (f : ℕ → ℕ) (r r' : Refusal) (b b' : Bool) (d d' : Decision) → b ≡ b' → AddsSame f d d'
     → AddsSame f (refuse r if b else d) (refuse r' if b' else d')
 unfolding refuse◌if◌else◌ AddsSame
@@ -52,8 +54,8 @@ if_same f r r' true false d d' is so = absurd cc
 if_same f r r' false true d d' is so = absurd cc
 if_same f r r' false false d d' is so = so
 
--- If the decisions for a value add the same lines, they still do after a search for this value that gives the same in
--- both cases.
+-- If `d x` and `d' x` add the same lines for each `x`, this is also true of two decisions that take `x` from equal
+-- options. They refuse if there is no value.
 with_same : {A : Type 0} (f : ℕ → ℕ) (o o' : Option A) (r : Refusal) (d d' : A → Decision) → o ≡ o'
     → ((x : A) → AddsSame f (d x) (d' x))
     → AddsSame f (with o or r then d) (with o' or r then d')
@@ -63,13 +65,13 @@ with_same f None (Some x) r d d' is so = absurd cc
 with_same f (Some x) None r d d' is so = absurd cc
 with_same f (Some x) (Some y) r d d' is so = let e : x ≡ y = cc in so x ∙ ap (λ z. map (forget f) (lines_of (d' z))) e
 
--- If two accepted decisions have the same lines in this sense, they add the same lines.
+-- If the lines of two accepted decisions are the same after `forget`, the decisions add the same lines (`AddsSame`).
 lines_same : (f : ℕ → ℕ) (ls ls' : List Line) (r r' : Reply) → map (forget f) ls ≡ map (forget f) ls'
     → AddsSame f (Accepted ls r) (Accepted ls' r')
 unfolding AddsSame
 lines_same f ls ls' r r' is = is
 
--- Two queries add the same lines, since a query adds none.
+-- The decisions on a query after two journals add the same lines, since a query adds none.
 queries_same : (f : ℕ → ℕ) (log log' : Journal) (c c' by by' : ℕ) (what : Command) → is_query what ≡ true
     → AddsSame f (decide log c by what) (decide log' c' by' what)
 unfolding AddsSame
@@ -87,13 +89,13 @@ not_held : (log : Journal) (c s : ℕ) (item : NewItem) → IsCalm log → is_he
 not_held log c s item calm =
     ap (λ b. b && is_throttled (puts log s (home log s item.hash)) c (item_bytes item)) (calm s)
 
--- If no stream of a journal has its limits on, the same is true of the lines on streams alone.
+-- If no stream of a journal has its limits on, this is also true of the journal's lines on streams alone (`kept`).
 calm_kept : (f : ℕ → ℕ) (log : Journal) → IsCalm log → IsCalm (kept f log)
 calm_kept f log calm = λ s. sym (enforced_same f log s) ∙ calm s
 
 -- ---- Puts
 
--- The line of a put of the item `item` into the stream `s`, which takes the next sequence number.
+-- The line of a put of the item `item` into the stream `s`, with the stream's next sequence number.
 abbrev put_next : Journal → ℕ → ℕ → ℕ → NewItem → Line
 put_next log c by s item = put_line log c by s (next_number log s) item
 
@@ -108,8 +110,8 @@ bare_put by s sh n item = record {
   payload = item.payload;
 }
 
--- If no stream has its limits on, the lines of a put of several items are the line of the first item and then those of
--- the others.
+-- If no stream has its limits on, a put of several items adds the line of the first item, and then the lines of the
+-- other items after this line.
 taken : (log : Journal) (c by s : ℕ) (item : NewItem) (items : List NewItem) → IsCalm log
     → put_lines log c by s (item ∷ items) ≡ put_next log c by s item
     ∷ put_lines (put_next log c by s item ∷ log) c by s items
@@ -119,8 +121,8 @@ taken log c by s item items calm =
     (not_held log c s item calm)
 
 module _ (f : ℕ → ℕ) (c by by' : ℕ) (alike : f by ≡ by') (again : f by ≡ f by') where
-  -- The line that a put adds, with the clock 0 and the actor seen through `f` (`n`), follows from the lines on streams
-  -- alone.
+  -- After `forget`, the line of a put follows from the lines on streams alone. `n` is the value of `f` for the line's
+  -- actor.
   line_by : (log : Journal) (s n : ℕ) (item : NewItem) → f by ≡ n
       → forget f (put_next log c by s item)
       ≡ bare_put n s (home (kept f log) s item.hash) (next_number (kept f log) s) item
@@ -129,8 +131,8 @@ module _ (f : ℕ → ℕ) (c by by' : ℕ) (alike : f by ≡ by') (again : f by
       ∙ ap (λ m. bare_put (f by) s (home (kept f log) s item.hash) m item) (next_number_same f log s)
       ∙ ap (λ k. bare_put k s (home (kept f log) s item.hash) (next_number (kept f log) s) item) is
 
-  -- A put adds the same line to the journal as to its lines on streams alone, with the clock 0 and with the actor
-  -- `by'`.
+  -- After `forget`, a put's line is the same as the line of a put after the lines on streams alone, by the actor `by'`
+  -- at the clock 0.
   line_same : (log : Journal) (s : ℕ) (item : NewItem)
       → forget f (put_next log c by s item) ≡ put_next (kept f log) 0 by' s item
   line_same log s item = line_by log s by' item alike
@@ -139,7 +141,8 @@ module _ (f : ℕ → ℕ) (c by by' : ℕ) (alike : f by ≡ by') (again : f by
       → forget f (put_next log c by s item) ≡ forget f (put_next (kept f log) 0 by' s item)
   line_same_twice log s item = line_by log s (f by') item again
 
-  -- The puts of several items add the same lines to the journal as to its lines on streams alone.
+  -- If no stream has its limits on, the puts of several items add the same lines to the journal as to its lines on
+  -- streams alone, after `forget`.
   pub put_lines_same : (items : List NewItem) (log : Journal) (s : ℕ) → IsCalm log
       → map (forget f) (put_lines log c by s items) ≡ map (forget f) (put_lines (kept f log) 0 by' s items)
   put_lines_same [] log s calm = refl
@@ -157,13 +160,13 @@ same_length f ls ls' is = sym (length-map ls (forget f)) ∙ ap length is ∙ le
 
 -- ---- The commands that change streams
 
--- The journal with one line at the clock 0, which has the entry `e` of the actor `by`.
+-- The journal whose only line has the clock 0, the actor `by` and the entry `e`.
 abbrev line_of : ℕ → Entry → Journal
 line_of by e = plain_line 0 by e ∷ []
 
--- In this module, no stream of `log` has its limits on, and all clocks are below 24 hours. Each lemma says that a
--- command adds the same lines to `log` as to its lines on streams alone (`kept f log`), where it comes from the actor
--- `by'` at the clock 0.
+-- In this module, no stream of `log` has its limits on, and all clocks are below 24 hours. Each lemma with `AddsSame`
+-- says that a command adds the same lines to `log` as to the lines on streams alone (`kept f log`). There, the command
+-- comes from the actor `by'` at the clock 0.
 module _ (f : ℕ → ℕ) (log : Journal) (c by by' : ℕ) (young : IsYoung log) (calm : IsCalm log)
     (below : c < LEAST_RETENTION) (kept_by : f by ≡ by')
     (alike : f by ≡ f by') where
@@ -195,7 +198,7 @@ module _ (f : ℕ → ℕ) (log : Journal) (c by by' : ℕ) (young : IsYoung log
       ∙ ap (λ n. nat_lt last_number (next_number (kept f log) s + n)) (same_length f _ _ same))
       (lines_same _ _ _ _ _ same)
 
-  -- A shard is listed after `log` exactly if it is listed after its lines on streams alone.
+  -- A shard is listed in `log` at the clock `c` exactly if it is listed in the lines on streams alone at the clock 0.
   listed : (s sh : ℕ) → is_listed log c s sh ≡ is_listed (kept f log) 0 s sh
   listed s sh = listed_same f log c 0 s sh young below (omega arith)
 
@@ -247,7 +250,7 @@ module _ (f : ℕ → ℕ) (log : Journal) (c by by' : ℕ) (young : IsYoung log
       → AddsSame f (with_stream log name d) (with_stream (kept f log) name d')
   in_stream_same name d d' so = with_same _ (stream_named log name) _ _ d d' (named_same f log name) so
 
-  -- A basic command of the stream service adds the same lines in both cases.
+  -- A basic command of the stream service adds the same lines to `log` as to the lines on streams alone.
   pub decide_same : (what : Command) → is_service what ≡ true → is_basic what ≡ true
       → AddsSame f (decide log c by what) (decide (kept f log) 0 by' what)
   decide_same (command.Create name count) is basic = create_same name count
@@ -262,24 +265,24 @@ module _ (f : ℕ → ℕ) (log : Journal) (c by by' : ℕ) (young : IsYoung log
 
 -- ---- Which lines a command adds
 
--- `b` says whether the line is about a stream. The line doesn't switch limits on.
+-- `b` says whether the line is about a stream. The line turns no stream's limits on or off.
 abbrev IsOf : Bool → Line → Type 0
 IsOf b l = (is_stream_entry l.what ≡ b) × ((s : ℕ) (on : Bool) → enforced_after l.what s on ≡ on)
 
--- Each of the lines is of this kind (`IsOf`).
+-- `IsOf b` is true of each of the lines.
 abbrev AreOf : Bool → List Line → Type 0
 AreOf b ls = AllByRecursion (IsOf b) ls
 
--- A line that a basic command adds is about a stream exactly if the command is for the stream service, and it switches
--- no limits on.
+-- A line that a basic command adds is about a stream exactly if the command is for the stream service. The line turns
+-- no limits on or off.
 kind : (log : Journal) (c by : ℕ) (what : Command) (line : Line) → IsAdded log c by what line → is_basic what ≡ true
     → IsOf (is_service what) line
 kind log c by _ _ (Alone _ _ _ (Creates name count fits)) basic = (refl, λ s on. refl)
 kind log c by _ _ (Alone _ _ _ (Enforces name is s named)) basic = absurd cc
 kind log c by _ _ _ basic = (refl, λ s on. refl)
 
--- Each line that a basic command adds is about a stream if the command is for the stream service, and otherwise it is
--- about a lease. No line switches limits on.
+-- Each line that a basic command adds is about a stream if the command is for the stream service, and otherwise about a
+-- lease. No line turns limits on or off.
 adds_kind : (log : Journal) (c by : ℕ) (what : Command) → is_basic what ≡ true
     → AreOf (is_service what) (lines_of (decide log c by what))
 adds_kind log c by what basic =
@@ -295,7 +298,7 @@ lease_adds : (log : Journal) (c by : ℕ) (what : Command) → is_service what �
 lease_adds log c by what is =
     subst (λ b. AreOf b (lines_of (decide log c by what))) is (adds_kind log c by what (lease_basic what is))
 
--- If lines about streams are added to a journal, they are added to its lines on streams.
+-- If lines about streams are added to a journal, the same lines, after `forget`, are added to its lines on streams.
 adds_lines : (f : ℕ → ℕ) (ls : List Line) (log : Journal) → AreOf true ls
     → kept f (with_lines ls log) ≡ with_lines (map (forget f) ls) (kept f log)
 adds_lines f [] log are = refl
@@ -304,30 +307,31 @@ adds_lines f (line ∷ ls) log are =
     adds_lines f ls (line ∷ log) are.1
     ∙ ap (λ b. with_lines (map (forget f) ls) (map (forget f) (cond b (line ∷ rest) rest))) are.0.0
 
--- If lines about leases are added to a journal, its lines on streams stay the same.
+-- If lines about leases are added to a journal, the journal's lines on streams stay the same.
 adds_none : (f : ℕ → ℕ) (ls : List Line) (log : Journal) → AreOf false ls → kept f (with_lines ls log) ≡ kept f log
 adds_none f [] log are = refl
 adds_none f (line ∷ ls) log are =
     let rest = filter (λ l. is_stream_entry l.what) log in
     adds_none f ls (line ∷ log) are.1 ∙ ap (λ b. map (forget f) (cond b (line ∷ rest) rest)) are.0.0
 
--- If no stream has its limits on, the same is true after lines that switch no limits on.
+-- If no stream has its limits on, this is still so after lines that turn no limits on or off.
 calm_lines : (b : Bool) (ls : List Line) (log : Journal) → AreOf b ls → IsCalm log → IsCalm (with_lines ls log)
 calm_lines b [] log are calm = calm
 calm_lines b (line ∷ ls) log are calm = calm_lines b ls (line ∷ log) are.1 (λ s. are.0.1 s (is_enforced log s) ∙ calm s)
 
 -- ---- All turns of a history
 
--- A command, with what `f` gives for its actor.
+-- A command, with the value of a function `f` for the actor who sent it.
 pub record Asked : Type 0 where
   pub by : ℕ
   pub what : Command
 
--- The commands for the stream service in the history `h`, each with what `f` gives for its actor.
+-- The commands for the stream service in the history `h`, each with the value of `f` for the actor who sent it.
 abbrev pub asked : (ℕ → ℕ) → List Turn → List Asked
 asked f h = map (λ turn. record { by = f turn.by; what = turn.what }) (service_turns h)
 
--- The lines on streams that these commands leave if nothing else comes between them, at the clock 0.
+-- The lines that the commands leave after `forget`, if each command is decided at the clock 0 after the lines of the
+-- commands before it.
 abbrev left_by : (ℕ → ℕ) → List Asked → Journal
 left_by f [] = []
 left_by f (a ∷ more) = with_lines (map (forget f) (lines_of (decide (left_by f more) 0 a.by a.what))) (left_by f more)
@@ -337,7 +341,7 @@ left_by f (a ∷ more) = with_lines (map (forget f) (lines_of (decide (left_by f
 abbrev pub Reaches : Type 0
 Reaches = (h : List Turn) → IsHistory h → IsReached (journal h) (clock h)
 
--- After a turn with a basic command, no stream has its limits on, if none had them on before.
+-- If no stream has its limits on, this is still so after a turn with a basic command.
 calm_turn : (turn : Turn) (h : List Turn) → is_basic turn.what ≡ true → IsCalm (journal h) → IsCalm (journal (turn ∷ h))
 calm_turn turn h basic calm = either (is_service turn.what) refl
   where
@@ -362,8 +366,8 @@ module _ (reaches : Reaches) (f : ℕ → ℕ) (once : (n : ℕ) → f n ≡ f (
       let reached = reaches h lawful in
       young_if_legal (journal h) reached.legal (omega (arith, reached.order, below))
 
-  -- A turn of the stream service adds to the lines on streams what its command, with the actor seen through `f` and at
-  -- the clock 0, adds to these lines alone.
+  -- A turn for the stream service adds to the lines on streams what its command would add to these lines alone. There,
+  -- the command comes from the actor `f turn.by` at the clock 0.
   service_turn : (turn : Turn) (h : List Turn) → IsHistory h → AreBasic (turn ∷ h) → clock (turn ∷ h) < LEAST_RETENTION
       → is_service turn.what ≡ true
       → kept f (journal (turn ∷ h))
@@ -385,8 +389,8 @@ module _ (reaches : Reaches) (f : ℕ → ℕ) (once : (n : ℕ) → f n ≡ f (
       adds_none f (lines_of (decision (journal h) (clock (turn ∷ h)) turn)) (journal h)
       (lease_adds (journal h) (clock (turn ∷ h)) turn.by turn.what is)
 
-  -- The lines on streams in the journal of a history are those that its commands for the stream service leave
-  -- (`left_by`).
+  -- Let a history have only basic commands, and let its clock be below 24 hours. Then the lines on streams in its
+  -- journal are those that its commands for the stream service leave (`left_by`).
   pub left : (h : List Turn) → IsHistory h → AreBasic h → clock h < LEAST_RETENTION
       → kept f (journal h) ≡ left_by f (asked f h)
   left [] lawful basic below = refl
@@ -402,7 +406,8 @@ module _ (reaches : Reaches) (f : ℕ → ℕ) (once : (n : ℕ) → f n ≡ f (
           ∙ ap (λ S. with_lines (map (forget f) (lines_of (decide S 0 (f turn.by) turn.what))) S) so
       either false is so = lease_turn turn h is ∙ so
 
-  -- If two histories have the same commands for the stream service, they leave the same lines on streams.
+  -- If two histories with basic commands and with clocks below 24 hours have the same commands for the stream service
+  -- (`asked`), they leave the same lines on streams.
   pub same_left : (h h' : List Turn) → IsHistory h → IsHistory h' → AreBasic h → AreBasic h' → clock h < LEAST_RETENTION
       → clock h' < LEAST_RETENTION
       → asked f h ≡ asked f h' → kept f (journal h) ≡ kept f (journal h')
@@ -411,15 +416,15 @@ module _ (reaches : Reaches) (f : ℕ → ℕ) (once : (n : ℕ) → f n ≡ f (
 
 -- ---- The turns of the stream service alone
 
--- If all turns of a history are lawful, those of the stream service are.
+-- If all turns of a history are lawful, so are its turns for the stream service.
 pub lawful_service : (h : List Turn) → IsHistory h → IsHistory (service_turns h)
 lawful_service h lawful = all_filter IsLawful (λ turn. is_service turn.what) h lawful
 
--- If all turns of a history have basic commands, those of the stream service have.
+-- If all turns of a history have basic commands, so have its turns for the stream service.
 pub basic_service : (h : List Turn) → AreBasic h → AreBasic (service_turns h)
 basic_service h basic = all_filter (λ turn. is_basic turn.what ≡ true) (λ turn. is_service turn.what) h basic
 
--- The clock of the turns of the stream service isn't above the clock of all turns.
+-- The clock of a history's turns for the stream service isn't above the clock of all its turns.
 not_later : (h : List Turn) → clock (service_turns h) ≤ clock h
 not_later [] = omega arith
 not_later (turn ∷ h) =
@@ -439,8 +444,8 @@ services_twice (turn ∷ h) = either (is_service turn.what) refl (services_twice
         ∙ ap (λ b. cond b (turn ∷ service_turns (service_turns h)) (service_turns (service_turns h))) (sym is)
     either false is so = so
 
--- The lines on streams in the journal of a history are those of the journal of its turns for the stream service alone.
--- The turns must be basic, and the clock below 24 hours.
+-- Let a history have only basic commands, and let its clock be below 24 hours. Then its journal has the same lines on
+-- streams as the journal of its turns for the stream service alone.
 pub alone : Reaches → (h : List Turn) → IsHistory h → AreBasic h → clock h < LEAST_RETENTION
     → stream_lines (journal h) ≡ stream_lines (journal (service_turns h))
 alone reaches h lawful basic below =

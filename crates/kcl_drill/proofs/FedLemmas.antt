@@ -25,7 +25,8 @@ none_around xs x ys is =
     let n : length (xs ++ x ∷ ys) ≡ length xs + suc (length ys) = length-append xs (x ∷ ys) in
     (nil_from_length xs (omega arith), nil_from_length ys (omega arith))
 
--- If no element of a list passes a test, its first element `x` doesn't. `b` says whether `x` passes it.
+-- If no element of the list `x ∷ xs` passes the test `p`, then `x` doesn't, and no element of `xs` does. `b` says
+-- whether `x` passes `p`.
 none_by : (b : Bool) (p : Turn → Bool) (x : Turn) (xs : List Turn) → p x ≡ b
     → cond b (x ∷ filter p xs) (filter p xs) ≡ [] → (p x ≡ false) × (filter p xs ≡ [])
 none_by true p x xs is none = absurd cc
@@ -47,8 +48,8 @@ all_right : (P : Turn → Type 0) (xs ys : List Turn) → AllByRecursion P (xs +
 all_right P [] ys are = are
 all_right P (x ∷ xs) ys are = all_right P xs ys are.1
 
--- If none of the turns is the root's, and those of the feeder are for the stream service, then the turns for the stream
--- service are the feeder's.
+-- Suppose that none of the turns is the root's, that the feeder's turns are for the stream service, and that the turns
+-- of all others are on leases. Then the turns for the stream service are the feeder's.
 fed_alone : (root feeder : ℕ) (ts : List Turn) → turns_by root ts ≡ [] → AllByRecursion (OnLeases root feeder) ts
     → AllByRecursion (λ turn. is_service turn.what ≡ true) (turns_by feeder ts) → service_turns ts ≡ turns_by feeder ts
 fed_alone root feeder [] none others are = refl
@@ -91,8 +92,8 @@ services_of ts commands is are = by ts (subst (AllByRecursion IsInner) (sym is) 
 same_head : (a b : Command) → a ∷ [] ≡ b ∷ [] → a ≡ b
 same_head a b is = cc (is)
 
--- The lemma `in_order`, where the history consists of the turns `newer`, the root's turn `first`, and the turns `older`
--- before it.
+-- The lemma `in_order`, where the history consists of the turns `newer`, the root's turn `first` before them, and the
+-- turns `older` before this turn.
 ordered : (number records root feeder : ℕ) (newer older : List Turn) (first : Turn) → first.by ≡ root
     → commands_in (turns_by root (newer ++ first ∷ older)) ≡ command.Create drill_name FIRST_SHARDS ∷ []
     → commands_in (turns_by feeder (newer ++ first ∷ older)) ≡ reverse (from_record 0 records number first_open)
@@ -137,8 +138,8 @@ ordered number records root feeder newer older first of_root made fed after apar
     ∙ ap (λ xs. reverse (from_record 0 records number first_open) ++ xs) what
     ∙ sym (reverse-append (command.Create drill_name FIRST_SHARDS ∷ []) (from_record 0 records number first_open))
 
--- In the history of a drill, the commands for the stream service are those of the generator, in the same order. A
--- history has the newest first.
+-- In the history of a drill (`IsFed`), the commands for the stream service are those of the generator, in order. A
+-- history has its newest turn first, so these commands stand in reverse.
 pub in_order : (number records root feeder : ℕ) (h : List Turn) → (root == feeder) ≡ false
     → IsFed number records root feeder h → commands_in (service_turns h) ≡ reverse (generated number records)
 in_order number records root feeder h apart is =

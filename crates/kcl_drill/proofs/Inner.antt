@@ -24,8 +24,8 @@ IsInner (command.Split name sh at) = Unit {0}
 IsInner (command.Merge name sh other) = Unit {0}
 IsInner _ = ⊥
 
--- If the commands `more` are puts, splits and merges, they still are with the command of a plan, if there is one, in
--- front.
+-- If the commands `more` are puts, splits and merges, so are these commands with the command of a plan, if there is
+-- one, in front.
 plan_inner : (o : Option Plan) (more : List Command) → AllByRecursion IsInner more
     → AllByRecursion IsInner (with_plan o more)
 plan_inner None more are = are

@@ -27,7 +27,8 @@ key_lawful x fits =
       few = let short = short_key x fits in omega arith;
     }
 
--- The i-th record, for which a number below 2^64 was drawn, is one that the API allows.
+-- If a number below 2^64 was drawn for the i-th record, and the record's hash key is below 2^128, the record is one
+-- that the API allows.
 pub record_lawful : (i x : ℕ) → x < 2 ^ 64 → (record_of i x).hash < 2 ^ 128 → IsItem (record_of i x)
 record_lawful i x fits hash =
     record {

@@ -34,11 +34,11 @@ is_inner (entry.Split stream shard at seq low high) = true
 is_inner (entry.Merged stream shard other seq child) = true
 is_inner _ = false
 
--- Each of the lines is a put, a split or a merge.
+-- Each of the lines has the entry of a put, a split or a merge.
 abbrev AreInner : List Line → Type 0
 AreInner ls = AllByRecursion (λ l. is_inner l.what ≡ true) ls
 
--- A line that a put, a split or a merge adds is of this kind.
+-- A line that the command for a put, a split or a merge adds has the entry of a put, a split or a merge.
 inner_line : (log : Journal) (c by : ℕ) (what : Command) (line : Line) → IsAdded log c by what line → IsInner what
     → is_inner line.what ≡ true
 inner_line log c by _ _ (Alone _ _ _ (Puts name item s named fits)) is = refl
@@ -46,20 +46,20 @@ inner_line log c by _ _ (Alone _ _ _ (Splits name sh at s named listed fits)) is
 inner_line log c by _ _ (Alone _ _ _ (Merges name sh other s named listed fits)) is = refl
 inner_line log c by _ _ _ is = absurd is
 
--- Each line that a put, a split or a merge adds is of this kind.
+-- All lines that the command for a put, a split or a merge adds have entries of puts, splits and merges.
 adds_inner : (log : Journal) (c by : ℕ) (what : Command) → IsInner what → AreInner (lines_of (decide log c by what))
 adds_inner log c by what is =
     each_line (λ l. is_inner l.what ≡ true) log c by what (λ line added. inner_line log c by what line added is)
 
 -- ---- The drill's stream stays
 
--- In the journal, just one stream was made. It has the number 1 and the drill's name, and it is live.
+-- In the journal, just one stream was made. This stream has the number 1 and the drill's name, and is live.
 record HasDrill (log : Journal) : Type 0 where
   pub made : made_count log ≡ 1
   pub live : is_live log 1 ≡ true
   pub named : name_of log 1 ≡ drill_name
 
--- A line of a put, a split or a merge keeps the three parts of `HasDrill`.
+-- A line with the entry of a put, a split or a merge keeps the three parts of `HasDrill`.
 stays_by : (line : Line) (log : Journal) (e : Entry) → line.what ≡ e → is_inner e ≡ true → HasDrill log
     → (made_count_after e (made_count log) ≡ 1) × (is_live_after e 1 (is_live log 1) ≡ true)
     × (name_of_after e 1 (name_of log 1) ≡ drill_name)
@@ -112,8 +112,8 @@ drill_named number records =
     (sym (reverse-append (command.Create drill_name FIRST_SHARDS ∷ []) rest))
     (all_stay (reverse rest) (all_reverse rest (generated_inner 0 records number first_open))))
 
--- If the commands for the stream service in a history are a generator's, then after this history the live stream with
--- the drill's name is the stream 1.
+-- Suppose that the commands for the stream service in a history are a generator's and that the clock is below 24 hours.
+-- Then the live stream with the drill's name is the stream 1 after this history.
 pub live_alone : Reaches → (h : List Turn) (number count : ℕ) → IsHistory h → clock h < LEAST_RETENTION
     → map (λ turn. turn.what) (service_turns h) ≡ reverse (generated number count)
     → stream_named (journal h) drill_name ≡ Some 1

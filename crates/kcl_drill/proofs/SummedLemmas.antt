@@ -1,5 +1,5 @@
--- The summary of a drill, once each shard was read to its end, depends only on the commands for the stream service.
--- Which actors sent them, and when, doesn't matter below 24 hours.
+-- The summary of a drill, once each shard was read to its end, depends only on the commands for the stream service. As
+-- long as the clock is below 24 hours, it doesn't matter which actors sent these commands, and when.
 use Rattle.std.proofs.Common.{◌≡◌, ℕ, ◌+◌, ◌<◌, Bool, true, false, List, [], ◌∷◌, length, Option, Some, None, refl, sym}
 use Rattle.std.proofs.Common.{ap, ◌∙◌, arith}
 use Rattle.std.specs.Prelude.{◌==◌, ◌&&◌, not, map, reverse, cond, if◌then◌else◌}
@@ -36,7 +36,7 @@ use Rattle.kcl_drill.proofs.Readings.{both_none, forget, kept, no_stream, reads_
 use Rattle.kcl_drill.proofs.Readings.{untrimmed, young_if_legal}
 use Rattle.kcl_drill.proofs.Undated.{undated_shard, undated_all, open_undated}
 
--- ---- Records, with their arrivals put to 0
+-- ---- Records, with their arrivals set to 0
 
 -- The record with the arrival 0 in place of its own.
 abbrev undated_record : Logged → Logged
@@ -64,7 +64,7 @@ records_undated f line (entry.Put stream shard seq hash bytes key_bytes) s sh rs
     } ∷ [])) refl
 records_undated f line _ s sh rs = refl
 
--- The records of a shard, with their arrivals put to 0, are those of the lines on streams alone.
+-- The records of a shard, with their arrivals set to 0, are those of the lines on streams alone.
 records_same : (f : ℕ → ℕ) (log : Journal) (s sh : ℕ) → undated_records (records log s sh) ≡ records (kept f log) s sh
 records_same f log s sh =
     reads_same f (λ l. records l s sh) (λ line rs. records_after line line.what s sh rs) undated_records
@@ -85,11 +85,11 @@ last_records (r ∷ q ∷ rs) = last_records (q ∷ rs)
 
 -- ---- What the summary says of a shard that was read to its end
 
--- What a summary says of the shard `x` with the records `rs` once it was read to its end.
+-- What a summary says of the shard `x` with the records `rs` once this shard was read to its end.
 final : ShardState → List Logged → Summed
 final x rs = summed x.no rs (final_checkpoint x rs)
 
--- What a summary says of such a shard doesn't depend on clocks.
+-- What a summary says of a shard that was read to its end doesn't depend on clocks.
 final_undated : (x : ShardState) (rs : List Logged) → final (undated_shard x) (undated_records rs) ≡ final x rs
 unfolding final
 final_undated x rs =
@@ -121,7 +121,7 @@ final_undated x rs =
     })
     (open_undated (Some x))
 
--- What a summary says of such a shard is the same for the lines on streams alone.
+-- What a summary says of a shard that was read to its end is the same for the lines on streams alone.
 final_kept_at : (f : ℕ → ℕ) (log : Journal) (s : ℕ) (x : ShardState)
     → final_at (kept f log) s (undated_shard x) ≡ final_at log s x
 unfolding final
@@ -175,7 +175,8 @@ checkpoint_is : (o : Option Row) (at : Checkpoint) → option_map (λ r. r.check
 checkpoint_is None at is = absurd cc
 checkpoint_is (Some r) at is = cc (is)
 
--- If the row of each shard says that it was read to its end, the summary says the same of these shards as `final_at`.
+-- If the row of each shard says that the shard was read to its end, the summary says the same of these shards as
+-- `final_at`.
 drained_all : (log : Journal) (s : ℕ) (xs : List ShardState) → AllByRecursion (IsDrained log s) xs
     → map (summed_at log s) xs ≡ map (final_at log s) xs
 drained_all log s [] are = refl
@@ -184,8 +185,8 @@ drained_all log s (x ∷ xs) are =
     (checkpoint_is (row log (ref s x.no)) _ are.0)
     ∙ ap (λ ys. final_at log s x ∷ ys) (drained_all log s xs are.1)
 
--- If the row of each listed shard says that it was read to its end, and the trim floor is 0, then the summary is the
--- one that `final_of` defines.
+-- Suppose that the row of each listed shard says that the shard was read to its end, and that all trim floors are 0.
+-- Then the summary is the one that `final_of` defines.
 summary_final : (log : Journal) (c : ℕ) (o : Option ℕ) → stream_named log drill_name ≡ o → AreDrained log c
     → ((s : ℕ) → trim_floor log c s ≡ 0)
     → summary_of log c o ≡ final_of log o
@@ -216,7 +217,7 @@ bare_clock : (h : List Turn) → clock (map bare h) ≡ 0
 bare_clock [] = refl
 bare_clock (turn ∷ h) = both_none _ 0 (bare_clock h) refl
 
--- Choosing the turns of the stream service and putting actors and moments to 0 can be done in either order.
+-- Choosing the turns of the stream service and setting actors and moments to 0 can be done in either order.
 bare_services : (h : List Turn) → service_turns (map bare h) ≡ map bare (service_turns h)
 bare_services [] = refl
 bare_services (turn ∷ h) = either (is_service turn.what) (bare_services h)
@@ -239,8 +240,8 @@ bare_asked : (ts : List Turn) → map by_nobody (map bare ts) ≡ map by_nobody 
 bare_asked [] = refl
 bare_asked (turn ∷ ts) = ap (λ xs. by_nobody turn ∷ xs) (bare_asked ts)
 
--- A history has the same commands for the stream service as these commands alone, as turns of the actor 0 at the moment
--- 0.
+-- Take a history's commands for the stream service alone, as turns of the actor 0 at the moment 0. Apart from actors,
+-- these turns have the same commands for the stream service as the history.
 asks_same : (h : List Turn) → asked nobody h ≡ asked nobody (map bare (service_turns h))
 asks_same h =
     ap (map by_nobody) (services_twice h)
@@ -252,8 +253,9 @@ bare_turns : (ts : List Turn)
 bare_turns [] = refl
 bare_turns (turn ∷ ts) = ap (λ xs. bare turn ∷ xs) (bare_turns ts)
 
--- If the commands for the stream service in a history are a generator's, the history leaves the same lines on streams
--- as these commands alone, actors and clocks aside.
+-- Suppose that the commands for the stream service in a history are a generator's, and that the clock is below 24
+-- hours. Then the history leaves the same lines on streams as the generator's commands alone. Actors and clocks don't
+-- count here.
 pub asked_alone : Reaches → (h : List Turn) (number count : ℕ) → IsHistory h → clock h < LEAST_RETENTION
     → map (λ turn. turn.what) (service_turns h) ≡ reverse (generated number count)
     → kept nobody (journal h) ≡ kept nobody (journal (turns_of (generated number count)))
@@ -268,8 +270,9 @@ asked_alone reaches h number count lawful below are =
     bare_turns (service_turns h) ∙ ap (map (λ what. record { by = 0; at = 0; what = what })) are in
     same ∙ ap (λ ts. kept nobody (journal ts)) commands
 
--- The commands for the stream service in a history are a generator's. If each listed shard was read to its end
--- (`AreDrained`), then the history's summary is the text that the drill should print.
+-- Suppose that the commands for the stream service in a history are a generator's, and that the clock is below 24
+-- hours. If each listed shard was read to its end (`AreDrained`), the history's summary is the text that the drill
+-- should print.
 pub text_alone : Reaches → (h : List Turn) (number count : ℕ) → IsHistory h → clock h < LEAST_RETENTION
     → map (λ turn. turn.what) (service_turns h) ≡ reverse (generated number count) → AreDrained (journal h) (clock h)
     → summary_text (journal h) (clock h) ≡ drill_text number count

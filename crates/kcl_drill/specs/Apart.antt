@@ -1,5 +1,6 @@
--- The turns of the stream service, and the lines on streams that they leave in a journal, apart from the turns on
--- leases. A drill's summary depends only on these.
+-- The turns for the stream service in a history, without its turns on leases, and the lines on streams in a journal.
+-- Once each shard was read to its end, a drill's summary depends only on these lines, and the lines depend only on
+-- these turns.
 use Rattle.std.specs.Prelude.{ℕ, ◌≡◌, Bool, true, false, is_some, List, map}
 use Rattle.std.specs.List.{AllByRecursion, filter}
 use Rattle.kds_defs.specs.declared.command.Command.{Command}
@@ -10,8 +11,8 @@ use Rattle.kds_defs.specs.Journal.{Line, Journal}
 use Rattle.kds_defs.specs.Kinds.{is_service}
 use Rattle.kds_defs.specs.Subjects.{stream_of}
 
--- The shortest retention of a stream, 24 hours, in milliseconds. As long as the clock is below it, no record is trimmed
--- (Kinesis API Reference, DecreaseStreamRetentionPeriod).
+-- 24 hours in milliseconds: the shortest retention of a stream. As long as the clock is below this number, no record is
+-- trimmed (Kinesis API Reference, DecreaseStreamRetentionPeriod).
 abbrev pub LEAST_RETENTION : ℕ
 LEAST_RETENTION = 86400000
 
@@ -31,7 +32,8 @@ stream_lines log = map undated (filter (λ line. is_stream_entry line.what) log)
 abbrev pub service_turns : List Turn → List Turn
 service_turns h = filter (λ turn. is_service turn.what) h
 
--- Whether the command is neither UpdateShardCount nor the one that switches the limits on throughput on or off.
+-- Whether the command is neither UpdateShardCount (`Scale`) nor LocalEnforceLimits (`Enforce`), which turns the limits
+-- on writing on or off.
 abbrev pub is_basic : Command → Bool
 is_basic (command.Scale name target) = false
 is_basic (command.Enforce name on) = false

@@ -24,9 +24,9 @@ turns_by n h = filter (is_by n) h
 abbrev pub commands_in : List Turn → List Command
 commands_in ts = map (λ turn. turn.what) ts
 
--- In the history `h`, the actor `root` made just one turn, the CreateStream of a drill. The actor `feeder` made the
--- other commands of the drill with the number `number` and `records` records, in order, and all of them after the turn
--- of the root. All turns of other actors are on leases.
+-- In the history `h`, the actor `root` made just one turn, the CreateStream of a drill. All turns of the actor `feeder`
+-- come after this turn. Their commands are the further commands of the drill with the number `number` and with
+-- `records` records, in order. All turns of other actors are on leases.
 pub record IsFed (number records root feeder : ℕ) (h : List Turn) : Type 0 where
   pub newer : List Turn
   pub first : Turn
@@ -39,8 +39,9 @@ pub record IsFed (number records root feeder : ℕ) (h : List Turn) : Type 0 whe
   pub others : AllByRecursion (λ turn. (turn.by == root) ≡ false → (turn.by == feeder) ≡ false
       → is_service turn.what ≡ false) h
 
--- The turns of the history `h` are lawful, its clock is below 24 hours, and its commands for the stream service are
--- those of the drill's generator, in order. A history has the newest first, so they stand in reverse.
+-- The turns of the history `h` are lawful, and its clock is below 24 hours. Its commands for the stream service are
+-- those of the drill with the number `number` and with `records` records (`generated`). A history has its newest turn
+-- first, so these commands stand in reverse.
 pub record IsDrill (h : List Turn) (number records : ℕ) : Type 0 where
   pub lawful : IsHistory h
   pub below : clock h < LEAST_RETENTION

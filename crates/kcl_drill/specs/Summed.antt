@@ -20,8 +20,8 @@ use Rattle.kcl_drill.specs.Generated.{drill_name, generated}
 
 -- ---- The text of a summary
 
--- What a summary says of a shard: its number, the number of its records, the number of their payload bytes, and the
--- checkpoint of its row.
+-- What a summary says of a shard: the shard's number, the number of its records, the number of their payload bytes, and
+-- the checkpoint of the shard's row.
 pub record Summed : Type 0 where
   pub no : ℕ
   pub count : ℕ
@@ -46,7 +46,7 @@ text_of xs =
 
 -- ---- The summary of a journal
 
--- The number of payload bytes of the records together.
+-- The total number of payload bytes of the records.
 abbrev pub bytes_of : List Logged → ℕ
 bytes_of [] = 0
 bytes_of (r ∷ rs) = length r.payload + bytes_of rs
@@ -55,12 +55,13 @@ bytes_of (r ∷ rs) = length r.payload + bytes_of rs
 abbrev pub summed : ℕ → List Logged → Checkpoint → Summed
 summed n rs at = record { no = n; count = length rs; bytes = bytes_of rs; checkpoint = at }
 
--- What a summary says of the shard `x` of the stream `s`, with its records and the checkpoint of its row in the journal
--- `log`.
+-- What a summary of the journal `log` says of the shard `x` of the stream `s`. If the shard has no row, its checkpoint
+-- counts as TRIM_HORIZON.
 abbrev pub summed_at : Journal → ℕ → ShardState → Summed
 summed_at log s x = summed x.no (records log s x.no) (checkpoint_in (row log (ref s x.no)))
 
--- The summary of the listed shards of the stream `s` at the clock `c`. If there is no stream (None), it is empty.
+-- The summary of the shards of the stream `s` that are listed at the clock `c`. If there is no stream (None), the
+-- summary is empty.
 abbrev pub summary_of : Journal → ℕ → Option ℕ → List ℕ
 summary_of log c None = []
 summary_of log c (Some s) = text_of (map (summed_at log s) (listed_shards log c s))
@@ -77,8 +78,8 @@ last_checkpoint [] = checkpoint.TrimHorizon
 last_checkpoint (r ∷ []) = checkpoint.At r.seq
 last_checkpoint (r ∷ s ∷ rs) = last_checkpoint (s ∷ rs)
 
--- The checkpoint of the shard `x` once it was read to its end, where `rs` are its records. If it is closed, it is
--- SHARD_END, and if it is open, it is at the last record, or TRIM_HORIZON if there is none.
+-- The checkpoint of the shard `x` once this shard was read to its end, where `rs` are its records. For a closed shard,
+-- this is SHARD_END. For an open shard, it is the checkpoint at the last record, or TRIM_HORIZON if there is no record.
 abbrev pub final_checkpoint : ShardState → List Logged → Checkpoint
 final_checkpoint x rs = if is_open x then last_checkpoint rs else checkpoint.ShardEnd
 
@@ -86,14 +87,13 @@ final_checkpoint x rs = if is_open x then last_checkpoint rs else checkpoint.Sha
 abbrev pub final_at : Journal → ℕ → ShardState → Summed
 final_at log s x = summed x.no (records log s x.no) (final_checkpoint x (records log s x.no))
 
--- The summary of all shards of the stream `s` once each of them was read to its end. If there is no stream (None), it
--- is empty.
+-- The summary of all shards of the stream `s` once each of them was read to its end. If there is no stream (None), the
+-- summary is empty.
 abbrev pub final_of : Journal → Option ℕ → List ℕ
 final_of log None = []
 final_of log (Some s) = text_of (map (final_at log s) (shards log s))
 
--- The commands as turns of the actor 0 at the moment 0. The last command is the newest turn, which is the first of the
--- list.
+-- The commands as turns of the actor 0 at the moment 0. The last command is the newest turn, so it stands first.
 abbrev pub turns_of : List Command → List Turn
 turns_of commands = map (λ what. record { by = 0; at = 0; what = what }) (reverse commands)
 
@@ -112,6 +112,7 @@ abbrev pub IsDrained : Journal → ℕ → ShardState → Type 0
 IsDrained log s x = option_map (λ r. r.checkpoint) (row log (ref s x.no))
     ≡ Some (final_checkpoint x (records log s x.no))
 
--- Each shard of each stream that is listed at the clock `c` was read to its end, as its row says (`IsDrained`).
+-- For each shard of each stream that is listed at the clock `c`, the shard's row says that the shard was read to its
+-- end (`IsDrained`).
 abbrev pub AreDrained : Journal → ℕ → Type 0
 AreDrained log c = (s : ℕ) → AllByRecursion (IsDrained log s) (listed_shards log c s)

@@ -52,13 +52,13 @@ abbrev pub TakeLaw : Type 0
 TakeLaw = (log : Journal) (c by owner : ℕ) (key : ShardRef) (r : Row) → row log key ≡ Some r → MayTake log r
     → IsTakenSo log c by owner key r
 
--- The second of these laws: right after its take, the opening by a tenure whose shard may be opened (`MayOpen`) is
--- accepted (`IsOpenedSo`).
+-- The second of these laws: right after a row was taken, the opening of its shard is accepted (`IsOpenedSo`), if the
+-- shard may be opened (`MayOpen`).
 abbrev pub OpenLaw : Type 0
 OpenLaw = (log : Journal) (c d by owner : ℕ) (key : ShardRef) (r : Row) → row log key ≡ Some r
     → MayOpen (taken_line log d by key r owner ∷ log) c key → IsOpenedSo log c d by owner key r
 
--- The third of these laws: after its take and its opening, a tenure is as `begun_from` says.
+-- The third of these laws: after a row was taken and its shard was opened, the new tenure is as `begun_from` says.
 abbrev pub BegunLaw : Type 0
 BegunLaw = (log : Journal) (c d by owner : ℕ) (key : ShardRef) (r : Row) → row log key ≡ Some r
     → Holds (opened_line log d by ∷ taken_line log c by key r owner ∷ log) (begun_from log by key r)
@@ -67,8 +67,7 @@ BegunLaw = (log : Journal) (c d by owner : ℕ) (key : ShardRef) (r : Row) → r
 pub not_last : (n : ℕ) → n < 2 ^ 64 - 1 → (n == last_number) ≡ false
 not_last n below = grind (arith, nat_tests)
 
--- The two tests of whether a checkpoint is SHARD_END, the one of `kds_base` and the one of the definitions, give the
--- same.
+-- `kds_base` and the definitions each have a test of whether a checkpoint is SHARD_END. The two tests give the same.
 pub end_same : (cp : Checkpoint) → base_is_end cp ≡ is_end cp
 end_same TrimHorizon = refl
 end_same (At q) = refl
@@ -93,7 +92,8 @@ module _ (w : Spot) (at : ℕ) (spot : IsSpot w at) (laws : HasLaws w.history (c
 
   -- ---- The take of the row
 
-  -- If the rows of the keys before this one are drained and the others wait, this key's row is the one of the survey.
+  -- If the rows of the keys before this one are drained and the others wait, then this key's row is the one that the
+  -- survey showed. It is as a row can be before its drain (`IsFresh`).
   seen_row : (now : Journal) (r : Row) → AreDrainedTo w.history w.keys w.among w.index now
       → row_among w.among w.key ≡ Some r → (row now w.key ≡ Some r) × IsFresh w.history w.key r
   seen_row now r drained seen =
@@ -152,7 +152,7 @@ module _ (w : Spot) (at : ℕ) (spot : IsSpot w at) (laws : HasLaws w.history (c
   ends_so floor ShardEnd ends is =
       ap (λ b. if b then ShardEnd else last_checkpoint (records_of (journal w.history) w.key)) is
 
-  -- If the row of the key is at SHARD_END, it is drained without a turn.
+  -- If the survey showed the row of the key at SHARD_END, the row is drained without a turn.
   pub at_end : (stands : List Turn → Type 0) (by : ℕ) (r : Row) → row_among w.among w.key ≡ Some r
       → is_end r.checkpoint ≡ true → Leads stands by at w.history (AreDrainedTo w.history w.keys w.among w.index)
       → IsDrainedHere stands w by at
@@ -211,10 +211,10 @@ module _ (w : Spot) (at : ℕ) (spot : IsSpot w at) (laws : HasLaws w.history (c
       rises p n (x ∷ xs) is = let m = rises (x.seq + 1) n xs is.1 in omega (arith, is.0, m)
   below_next q p n (x ∷ xs) is (inr has) = below_next q (x.seq + 1) n xs is.1 has
 
-  -- What is true of a row with the floor `floor` and the checkpoint `cp` when its drain begins. The position of the
-  -- first read is the one after `cp`, since it isn't above the last number. If no record is left from this position on,
-  -- `cp` is at the shard's last record. The least number that may be marked isn't above this position or the shard's
-  -- start, whichever is greater.
+  -- What is true of a row with the floor `floor` and the checkpoint `cp` when its drain begins. The first read is at
+  -- the position after `cp`, which isn't above the last number. If no record is left from this position on, `cp` is the
+  -- checkpoint at the shard's last record. The least number that may be marked is at most the greater of this position
+  -- and the shard's start.
   record Begins (floor : ℕ) (cp : Checkpoint) : Type 0 where
     position : start_position cp ≡ first_position cp
     settled : left_of (journal w.history) (clock_at w at) w.key (start_position cp) ≡ []
@@ -241,8 +241,8 @@ module _ (w : Spot) (at : ℕ) (spot : IsSpot w at) (laws : HasLaws w.history (c
       small q n lt le = omega arith
   begins floor ShardEnd going is = absurd cc
 
-  -- If the newest line took the row, the opening of its shard is accepted, and the tenure is ready for its first read
-  -- (`ReadsOn`).
+  -- If the newest line took the key's row, and the row wasn't at SHARD_END, the opening of the key's shard is accepted.
+  -- Then the tenure is ready for its first read (`ReadsOn`).
   pub opened : (stands stands' : List Turn → Type 0) (by : ℕ) (r : Row) (held : DrainTenure) (a : Result Reply Refusal)
       → OpenLaw → BegunLaw → at < 2 ^ 62 → is_end r.checkpoint ≡ false
       → (l : Leads stands by at w.history (IsTaken w by r held))

@@ -31,7 +31,7 @@ all_of : {A : Type 0} (P : A → Type 0) (xs : List A) → ((i : ℕ) (x : A) �
 all_of P [] each = tt
 all_of P (x ∷ xs) each = (each zero x refl, all_of P xs (λ i y is. each (suc i) y is))
 
--- Choosing by a Boolean is the same as choosing the other way round by its opposite.
+-- A choice by the opposite of a Boolean is the choice by this Boolean with the two values exchanged.
 flipped : (b : Bool) (E L : Checkpoint) → (if not b then E else L) ≡ (if b then L else E)
 flipped true E L = refl
 flipped false E L = refl
@@ -72,8 +72,8 @@ module _ (h : List Turn) (at : ℕ) (among : List Row) (can : CanDrain h at) (la
   all_drained s = subst (AllByRecursion (IsDrained log s)) (sym (same_listed h (max (clock h) at) log is s))
       (drained_by s (is_live (journal h) s) refl)
 
--- If a machine has answered turns on leases since `h` that drained the rows of all listed keys, then each listed shard
--- is drained (`HasDrained`).
+-- If a machine has answered turns on leases since `h` and these turns drained the rows of all listed keys, then each
+-- listed shard is drained (`HasDrained`).
 pub has_drained : (stands : List Turn → Type 0) (by at : ℕ) (h : List Turn) (among : List Row) → CanDrain h at
     → HasLaws h (max (clock h) at)
     → Leads stands by at h (AreDrainedTo h (listed_keys h at) among (length (listed_keys h at)))

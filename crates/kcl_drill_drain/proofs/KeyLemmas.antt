@@ -1,5 +1,5 @@
--- The keys of the listed shards, in order. Each is the key of a shard that was made, none is listed twice, the keys of
--- one stream's shards are in the order of their numbers, and no shard is missing.
+-- The keys of the listed shards, in order. Each is the key of a shard that was made, none is listed twice, and no shard
+-- is missing. The keys of one stream's shards are in the order of the shards' numbers.
 use Rattle.std.proofs.Common.{◌≡◌, ℕ, zero, suc, ◌+◌, ◌<◌, ◌≤◌, Bool, true, false, List, [], ◌∷◌, ◌++◌, length, Some}
 use Rattle.std.proofs.Common.{refl, sym, ap, subst, ◌∙◌, arith, inl, inr}
 use Rattle.std.specs.Prelude.{◌==◌, ◌⊎◌, cond, not, slice_get, if◌then◌else◌}
@@ -20,8 +20,8 @@ use Rattle.kcl_drill_drain.specs.Draining.{IsWhole}
 
 -- ---- An index in two lists together
 
--- The element `x` at the index `i` of two lists together is in the first list, or in the second at the rest of the
--- index.
+-- `x` is the element at the index `i` of `xs ++ ys`. Either `xs` has `x` at this index, or `ys` has `x` at the index
+-- `i` minus the length of `xs`.
 Place : {A : Type 0} → List A → List A → ℕ → A → Type 0
 Place xs ys i x = ((i < length xs) × (slice_get xs i ≡ Some x))
     ⊎ ((j : ℕ) × (i ≡ length xs + j) × (slice_get ys j ≡ Some x))
@@ -52,7 +52,7 @@ in_right (y ∷ xs) ys j x is = let rest = in_right xs ys j x is in (suc rest.0,
 
 -- ---- The keys of one stream's shards
 
--- The key is that of the shard at the index `i` of the list `xs`. These are shards of the stream `s`, numbered from `n`
+-- The key is that of the shard at the index `i` of the list `xs`, which has shards of the stream `s`, numbered from `n`
 -- on.
 record IsRef (s n i : ℕ) (xs : List ShardState) (key : ShardRef) : Type 0 where
   stream : key.stream ≡ s
@@ -109,7 +109,7 @@ keys_in log (s ∷ ss) = refs_of s (shards log s) ++ keys_in log ss
 abbrev pub AreLive : Journal → List ℕ → Type 0
 AreLive log ss = AllByRecursion (λ s. is_live log s ≡ true) ss
 
--- If none of the shards was closed below the floor, all are listed.
+-- If none of the shards was closed before the trim floor, all of them are listed.
 all_listed : (floor : ℕ) (xs : List ShardState)
     → AllByRecursion (λ (x : ShardState). is_closed_below floor x ≡ false) xs → listed_among floor xs ≡ xs
 all_listed floor [] are = refl
@@ -117,14 +117,14 @@ all_listed floor (x ∷ xs) are =
     ap (λ b. cond (not b) (x ∷ listed_among floor xs) (listed_among floor xs)) are.0
     ∙ ap (λ ys. x ∷ ys) (all_listed floor xs are.1)
 
--- If no shard of a live stream is expired, all its shards are listed.
+-- If `IsWhole` holds for a live stream, all shards of this stream are listed.
 pub listed_whole : (log : Journal) (c s : ℕ) → is_live log s ≡ true → IsWhole log c s
     → listed_shards log c s ≡ shards log s
 listed_whole log c s live whole =
     ap (λ b. if b then listed_among (trim_floor log c s) (shards log s) else []) live
     ∙ all_listed (trim_floor log c s) (shards log s) whole.listed
 
--- If no shard of the live streams `ss` is expired, the listed keys are those of all their shards.
+-- If `IsWhole` holds for each live stream, the listed keys of the live streams `ss` are the keys of all their shards.
 pub keys_same : (log : Journal) (c : ℕ) (ss : List ℕ) → ((s : ℕ) → is_live log s ≡ true → IsWhole log c s)
     → AreLive log ss → listed_in log c ss ≡ keys_in log ss
 keys_same log c [] whole live = refl
@@ -132,14 +132,14 @@ keys_same log c (s ∷ ss) whole live =
     ap (λ xs. refs_of s xs ++ listed_in log c ss) (listed_whole log c s live.0 (whole s live.0))
     ∙ ap (λ ks. refs_of s (shards log s) ++ ks) (keys_same log c ss whole live.1)
 
--- Each number that is left by a test passes the test.
+-- Each number that `filter` keeps passes the test `p`.
 pub filtered : (p : ℕ → Bool) (ns : List ℕ) → AllByRecursion (λ n. p n ≡ true) (filter p ns)
 filtered p [] = tt
 filtered p (n ∷ ns) =
     let rest = filtered p ns in
     cond_both (p n) (n ∷ filter p ns) (filter p ns) (AllByRecursion (λ m. p m ≡ true)) (λ is. (is, rest)) (λ not. rest)
 
--- The numbers from `n` on that pass the test `p` rise.
+-- Of `count` consecutive numbers from `n` on, those that pass the test `p` rise.
 pub up_numbers : (p : ℕ → Bool) (n count : ℕ) → RiseFrom n (filter p (numbers_from n count))
 up_numbers p n zero = tt
 up_numbers p n (suc count) =
@@ -194,8 +194,8 @@ module _ (log : Journal) (numbered : (s : ℕ) → AreNumbered 0 (shards log s))
           omega arith
       either le later (inr at) = let m = later at.0 at.2 in omega arith
 
-  -- If the key is at the index `i`, the key of the shard `p` of its stream, which has a smaller number, is in the list
-  -- before it.
+  -- Let `key` be at the index `i`, and let `p` be below the number of its shard. Then the key of the shard `p` of the
+  -- same stream stands before the index `i`.
   pub older_in : (ss : List ℕ) (i p : ℕ) (key : ShardRef) → p < key.shard → slice_get (keys_in log ss) i ≡ Some key
       → (j : ℕ) × (j < i) × (slice_get (keys_in log ss) j ≡ Some (ref key.stream p))
   unfolding Place
@@ -287,7 +287,7 @@ module _ (log : Journal) (numbered : (s : ℕ) → AreNumbered 0 (shards log s))
       let here = in_right (refs_of t (shards log t)) (keys_in log ss) rest.0 (ref s sh) rest.1 in
       (here.0, here.2)
 
-  -- A live stream with a number from `n` on, below `n` + `count`, is among the live streams with these numbers.
+  -- A live stream whose number is at least `n` and below `n` + `count` is among the live streams with such numbers.
   pub in_numbers : (n count s : ℕ) → is_live log s ≡ true → n ≤ s → s < n + count
       → IsIn s (filter (is_live log) (numbers_from n count))
   unfolding IsIn

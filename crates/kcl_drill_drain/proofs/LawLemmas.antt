@@ -28,8 +28,9 @@ pub ended_closed : (log : Journal) → IsLegal log → (c : ℕ) → last_clock 
 ended_closed log legal c le key r there is =
     (subst (CheckpointOk log c key r.floor) is ((all_ok log legal c le).rows key r there).covered).0
 
--- Take a row whose floor is the shard's start. If a record has the number of its checkpoint or a greater one, and the
--- shard is closed if the checkpoint is SHARD_END, then the shard can be drained from there (`IsStart`).
+-- Suppose that a row's floor is the shard's start. If the checkpoint is at `q`, let a record have the number `q` or a
+-- greater one. If the checkpoint is SHARD_END, let the shard be closed. Then the shard can be drained from this
+-- checkpoint (`IsStart`).
 pub starts : (log : Journal) (key : ShardRef) (floor : ℕ) (at : Checkpoint) → floor ≡ start_of (shard_of log key)
     → ((q : ℕ) → at ≡ At q → HasFrom q (records_of log key)) → (at ≡ ShardEnd → is_closed_at (shard_of log key) ≡ true)
     → IsStart (shard_of log key) (records_of log key) floor at

@@ -23,8 +23,8 @@ own_leases by at (turn ∷ more) are = (are.0.2, own_leases by at more are.1)
 
 -- ---- The machine has answered turns on leases, whatever came of the last one
 
--- If a machine has answered only turns on leases since the history `h`, this is still true after one more turn on
--- leases, whether it was answered or memory ran out.
+-- If a machine has answered only turns on leases since the history `h`, this is still true after one more such turn.
+-- The turn may have been answered, or memory may have run out.
 pub leased_on : {E : Type 0} (stands stands' : List Turn → Type 0) (by at : ℕ) (h : List Turn) (what : Command)
     (r : Result (Result Reply Refusal) E) → is_service what ≡ false → IsLawful (turn_of by at what)
     → (has : HasLeased stands by at h)
@@ -38,8 +38,8 @@ leased_on stands stands' by at h what (Err e) lease lawful has is kept =
 
 -- ---- What one more turn leads to
 
--- For each history that the machine stood for before (`stands`), `a` is the answer to the turn by the definitions, and
--- the machine now stands for this history with the turn added (`stands'`).
+-- For each history that the machine stood for before (`stands`), `a` is the answer to the turn by the definitions. The
+-- machine now stands for this history with the turn added (`stands'`).
 abbrev pub Answered : (List Turn → Type 0) → (List Turn → Type 0) → Turn → Result Reply Refusal → Type 0
 Answered stands stands' turn a = (now : List Turn) → stands now → (a ≡ answer now turn) × stands' (turn ∷ now)
 
@@ -69,8 +69,8 @@ led_from stands stands' by at h more what a Q d lease lawful answers now are lat
 twice : (n m at : ℕ) → n ≡ max m at → max n at ≡ max m at
 twice n m at is = omega arith
 
--- The decision `d` is the one on the command `what` after the turns of `l`. Then the turn is answered as `d` says, and
--- if `Q` is true of the journal with the lines of `d`, the turns with this one lead to `Q` (`Leads`).
+-- Let `d` be the decision on the command `what` after the turns of `l`. Then the turn with this command is answered as
+-- `d` says. If `Q` is true of the journal with the lines of `d` added, the turns up to this one lead to `Q` (`Leads`).
 pub led : (stands stands' : List Turn → Type 0) (by at : ℕ) (h : List Turn) (what : Command) (a : Result Reply Refusal)
     (P Q : Journal → Type 0) (d : Decision)
     → is_service what ≡ false → IsLawful (turn_of by at what) → Answered stands stands' (turn_of by at what) a
@@ -82,8 +82,8 @@ led stands stands' by at h what a P Q d lease lawful answers l is so =
     led_from stands stands' by at h l.more what a Q d lease lawful answers l.stands_now l.are
     (twice (clock (l.more ++ h)) (clock h) at l.late) is so
 
--- The lemma `led` for the first turn on leases after the history `h`: it is answered as the decision `d` says, and it
--- leads to `Q` if this is true of the journal with the lines of `d`.
+-- The lemma `led` for the first turn on leases after the history `h`. The turn is answered as the decision `d` says. If
+-- `Q` is true of the journal with the lines of `d` added, the turn leads to `Q`.
 pub led_first : (stands stands' : List Turn → Type 0) (by at : ℕ) (h : List Turn) (what : Command)
     (a : Result Reply Refusal) (Q : Journal → Type 0) (d : Decision)
     → is_service what ≡ false → IsLawful (turn_of by at what) → Answered stands stands' (turn_of by at what) a
@@ -113,7 +113,7 @@ over stands by at h P laws l =
     le : (n m : ℕ) → n ≡ m → n ≤ m
     le n m is = omega arith
 
--- If turns lead to `P`, and `Q` follows from `P` for their journal, then they lead to `Q`.
+-- If turns lead to `P`, and `Q` follows from `P` for the journal after these turns, then the turns lead to `Q`.
 pub so_too : (stands : List Turn → Type 0) (by at : ℕ) (h : List Turn) (P Q : Journal → Type 0)
     → (l : Leads stands by at h P) → (P (journal (l.more ++ h)) → Q (journal (l.more ++ h))) → Leads stands by at h Q
 so_too stands by at h P Q l so =

@@ -35,7 +35,7 @@ use Rattle.kcl_drill_drain.proofs.Spots.{listed, same_here, up_to}
 
 -- ---- Before and after the making of rows
 
--- Right after the history before the drain, the rows of no keys are made yet (`AreMade` with 0).
+-- Right after the history before the drain, `AreMade` holds for the first 0 keys, where the survey shows all rows.
 pub made_first : (h : List Turn) (keys : List ShardRef) (c : ℕ) → HasLaws h c
     → AreMade h keys (rows (journal h)) 0 (journal h)
 made_first h keys c laws = record {
@@ -45,7 +45,8 @@ made_first h keys c laws = record {
   few = laws.tenures;
 }
 
--- Once all listed keys have rows, no row is drained yet, and each waits to be drained, with the rows of a new survey.
+-- Once all listed keys have rows, each row waits to be drained, and none is drained yet. The rows of a new survey are
+-- all rows of the journal.
 pub all_wait : (h : List Turn) (keys : List ShardRef) (among : List Row) (log : Journal)
     → AreMade h keys among (length keys) log → AreDrainedTo h keys (rows log) 0 log
 all_wait h keys among log made = record {
@@ -59,7 +60,7 @@ all_wait h keys among log made = record {
 -- ---- The row of one key
 
 module _ (w : Spot) (at : ℕ) (spot : IsSpot w at) (laws : HasLaws w.history (clock_at w at)) where
-  -- A row that is asked to begin at TRIM_HORIZON begins there.
+  -- If a new row is asked to have the origin TRIM_HORIZON, it gets this origin.
   origin_is : (log : Journal) (key : ShardRef) → counting_origin log key origin.TrimHorizon ≡ origin.TrimHorizon
   origin_is log key = counts_so log key origin.TrimHorizon refl
 
@@ -81,13 +82,15 @@ module _ (w : Spot) (at : ℕ) (spot : IsSpot w at) (laws : HasLaws w.history (c
     few = made.few;
   }
 
-  -- Adding a row for a key leaves no key without the row that it had.
+  -- If a key had a row before a row is added, it has one afterwards. `b` says whether the new row `x` is the row of
+  -- this key.
   has_row : (b : Bool) (x : Row) (o : Option Row) → (r : Row) → o ≡ Some r
       → (s : Row) × ((if b then Some x else o) ≡ Some s)
   has_row true x o r is = (x, refl)
   has_row false x o r is = (r, is)
 
-  -- If a row that is added is as a row can be before its drain, and so are the others, then each row is.
+  -- Suppose that the row `x` that is added is as a row can be before its drain (`IsFresh`), and so is a key's row
+  -- before. Then so is the key's row afterwards.
   fresh_by : (b : Bool) (x : Row) (key : ShardRef) (o : Option Row) → IsFresh w.history key x
       → ((r : Row) → o ≡ Some r → IsFresh w.history key r) → (r : Row) → (if b then Some x else o) ≡ Some r
       → IsFresh w.history key r
@@ -118,7 +121,7 @@ module _ (w : Spot) (at : ℕ) (spot : IsSpot w at) (laws : HasLaws w.history (c
     few = made.few;
   }
 
-  -- After this line, the key has a row.
+  -- After the line that makes the row of the key, the key has a row.
   new_row_there : (log : Journal) (by : ℕ) → HasRow (new_line (clock_at w at) by ∷ log) w.key
   unfolding new_line
   new_row_there log by =
@@ -157,8 +160,8 @@ module _ (w : Spot) (at : ℕ) (spot : IsSpot w at) (laws : HasLaws w.history (c
       (Refused refusal.LeaseThere) refl (below, tt) answers l decided
       (one_made now l.so (r, is))).1
 
-  -- After the command that makes the row of the key, the rows of the keys up to this one are made, whether or not the
-  -- key had a row before.
+  -- After the command that makes the row of the key, the rows of the keys up to this one are made. It doesn't matter
+  -- whether the key had a row before.
   pub makes : (stands stands' : List Turn → Type 0) (by : ℕ) (key : ShardRef) (a : Result Reply Refusal) → at < 2 ^ 62
       → w.key ≡ key
       → (l : Leads stands by at w.history (AreMade w.history w.keys w.among w.index))

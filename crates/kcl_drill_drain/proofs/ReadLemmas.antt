@@ -1,6 +1,6 @@
--- A tenure that drains its shard reads a batch, gives it and marks its last record, and so on until the shard is read
--- to its end. Each lemma is about one of these commands, or about what follows from its answer. `stands` and `stands'`
--- say which histories the machine stands for before and after the command.
+-- A tenure that drains its shard reads a batch, gives this batch and marks the batch's last record, and so on until the
+-- shard is read to its end. Each lemma is about one of these commands, or about what follows from the command's answer.
+-- `stands` and `stands'` say which histories the machine stands for before and after the command.
 use Rattle.std.proofs.Common.{◌≡◌, ℕ, ◌+◌, ◌-◌, ◌*◌, ◌<◌, ◌≤◌, ◌^◌, max, Bool, true, false, List, [], ◌∷◌, ◌++◌, length}
 use Rattle.std.proofs.Common.{map, Option, Some, None, refl, sym, ap, subst, ◌∙◌, arith}
 use Rattle.std.specs.Prelude.{◌==◌, ◌&&◌, nat_le, nat_lt, if◌then◌else◌, Result, Ok, Err, IfOk}
@@ -51,8 +51,8 @@ use Rattle.kcl_drill_drain.proofs.Settling.{batched, last_seq}
 use Rattle.kcl_drill_drain.proofs.Spots.{listed, one_more, others_stay}
 use Rattle.kcl_drill_drain.proofs.Beginning.{left_is, not_last, up}
 
--- The first of six laws that the lemmas take as given: the decision on a Read at the tenure's position is `read_here`,
--- if fewer reads wait to be given than may, and the shard is listed.
+-- The first of six laws that the lemmas take as given: if fewer than `PENDING_READS` reads wait to be given and the
+-- shard is listed, the decision on a Read at the tenure's position is `read_here`.
 abbrev pub ReadLaw : Type 0
 ReadLaw = (log : Journal) (c limit : ℕ) (x : Holding) → Holds log x → length x.waiting < PENDING_READS
     → is_listed_key log c x.key ≡ true → read log c x.by x.tenure x.position limit ≡ read_here log c x limit
@@ -126,8 +126,7 @@ gave w at stands stands' by tenure x r a law state below waits same l answers =
 module _ (w : Spot) (at : ℕ) (spot : IsSpot w at) (laws : HasLaws w.history (clock_at w at)) where
   -- ---- A Read
 
-  -- The decision on a Read at the tenure's position accepts it, and gives the line and the reply of the next read of
-  -- `x`.
+  -- The decision `read_here` accepts the Read, and gives the line and the reply of the next read of `x`.
   read_is : (now : Journal) (x : Holding) → IsOver w.history (clock_at w at) now → x.key ≡ w.key
       → read_here now (clock_at w at) x READ
       ≡ Accepted (read_line (clock_at w at) x READ (read_at w at x) ∷ []) (reply_at w at x)
@@ -141,12 +140,12 @@ module _ (w : Spot) (at : ℕ) (spot : IsSpot w at) (laws : HasLaws w.history (c
       (reply.Read (map stored (batch_at w at x)) (reach_at w at x) b))
       (same_ends w.history c now is w.key.stream w.key.shard (reach_at w at x))
 
-  -- No read that waits is fewer than the number that may wait.
+  -- If the number of reads that wait is 0, it is below the number of reads that may wait.
   no_wait : (n : ℕ) → n ≡ 0 → n < PENDING_READS
   no_wait n is = omega arith
 
-  -- If the tenure is ready, its Read is answered with the batch at its position, and the tenure is then as `read_then`
-  -- says: this read waits to be given.
+  -- If the tenure is ready, a Read at its position is answered with the batch at this position. The tenure is then as
+  -- `read_then` says: this read waits to be given.
   pub read_so : (stands stands' : List Turn → Type 0) (by : ℕ) (x : Holding) (held : DrainTenure)
       (a : Result Reply Refusal) → ReadLaw → ReadState → at < 2 ^ 62 → IsReady w at x → IsHeld x held
       → (l : Leads stands by at w.history (Stands w by x))
@@ -188,8 +187,8 @@ module _ (w : Spot) (at : ℕ) (spot : IsSpot w at) (laws : HasLaws w.history (c
 
   -- ---- A Mark
 
-  -- The tenure may mark its row at the target `to`, and the counter isn't the last number. Then the Mark is accepted
-  -- with the next counter, and the tenure is as `after_mark` says.
+  -- If the tenure may mark its row at the target `to`, and the row's counter isn't the last number, the Mark is
+  -- accepted with the next counter. The tenure is then as `after_mark` says.
   pub marked : (stands stands' : List Turn → Type 0) (by tenure counter : ℕ) (to : Target) (x : Holding)
       (a : Result Reply Refusal) → MarkLaw → MarkedState → at < 2 ^ 62 → MayMark x to
       → (x.counter == last_number) ≡ false → x.tenure ≡ tenure → x.counter ≡ counter
@@ -225,9 +224,9 @@ module _ (w : Spot) (at : ℕ) (spot : IsSpot w at) (laws : HasLaws w.history (c
 
   -- ---- What a read brought
 
-  -- What the next read of the tenure `x` brings. `Nothing`: no record is left from its position on, so the batch is
-  -- empty and the position stays. `Records`: the last record of the batch has the number `q`, and the position rises.
-  -- The tenure may mark `q` once the read is given, and is then ready for its next read.
+  -- What the next read of the tenure `x` brings. `Nothing`: no record is left from the tenure's position on, so the
+  -- batch is empty and the position stays. `Records`: the last record of the batch has the number `q`, and the position
+  -- rises. Once the read is given, the tenure may mark `q`, and after this mark it is ready for its next read.
   pub data Brought (x : Holding) : Type 0 where
     Nothing : left_of (journal w.history) (clock_at w at) w.key x.position ≡ [] → last_at w at x ≡ None
         → reach_at w at x ≡ x.position → Brought x
@@ -302,8 +301,8 @@ module _ (w : Spot) (at : ℕ) (spot : IsSpot w at) (laws : HasLaws w.history (c
 
   -- ---- The counter of the row doesn't reach its limit
 
-  -- If there are `h` turns, fewer than 2^32, and at most 500 records for each of them, then a counter `n` of at most
-  -- one for each turn and each record, plus 1, is below the last number.
+  -- Let there be `h` turns, fewer than 2^32, and at most 500 records for each turn. If a counter `n` is at most the
+  -- number of turns and records together plus 1, it is below the last number.
   few_counters : (n h left all : ℕ) → n + left ≤ h + 1 + all → all ≤ 500 * h → h < 2 ^ 32 → n < 2 ^ 64 - 1
   few_counters n h left all le le' lt = omega arith
 
@@ -333,7 +332,7 @@ module _ (w : Spot) (at : ℕ) (spot : IsSpot w at) (laws : HasLaws w.history (c
       (λ s. one_more w at spot laws (journal (l.more ++ w.history)) s.others
       (done_at (journal (l.more ++ w.history)) by x s is))
 
-  -- If the next read ends the shard, the checkpoint of a shard that was read to its end is SHARD_END.
+  -- If the next read ends the shard, the checkpoint of the drained row has to be SHARD_END (`final_of`).
   pub ended_final : (x : Holding) → ended_at w at x ≡ true → final_of (journal w.history) w.key ≡ ShardEnd
   ended_final x is =
       ap (λ b. if b then ShardEnd else last_checkpoint (records_of (journal w.history) w.key))
@@ -343,8 +342,8 @@ module _ (w : Spot) (at : ℕ) (spot : IsSpot w at) (laws : HasLaws w.history (c
   none_closed true b e h = absurd (apart b e h)
   none_closed false b e h = refl
 
-  -- If no record is left to read, and the read doesn't end the shard, then the row's checkpoint is the one of a shard
-  -- that was read to its end (`final_of`).
+  -- Suppose that no record is left to read, and that the next read doesn't end the shard. Then the row's checkpoint is
+  -- already that of a shard which was read to its end (`final_of`).
   pub stopped_final : (x : Holding) → IsReady w at x → left_of (journal w.history) (clock_at w at) w.key x.position ≡ []
       → reach_at w at x ≡ x.position → ended_at w at x ≡ false → final_of (journal w.history) w.key ≡ x.checkpoint
   stopped_final x ready none reach is =
@@ -357,8 +356,8 @@ module _ (w : Spot) (at : ℕ) (spot : IsSpot w at) (laws : HasLaws w.history (c
 
   -- ---- The steps after a read
 
-  -- A mark of the tenure `held` at the target `to` was accepted, and returned the row's new counter `n`. The tenure
-  -- must be one that may make this mark.
+  -- Suppose that the tenure `held` may mark its row at the target `to`, and that the row's counter isn't the last
+  -- number. Then this mark was accepted, and `n` is the row's new counter.
   abbrev pub MarksOk : (List Turn → Type 0) → (List Turn → Type 0) → ℕ → DrainTenure → Target → ℕ → Type 0
   MarksOk stands stands' by held to n =
       (w : Spot) (x : Holding) → IsSpot w at → MayMark x to → (x.counter == last_number) ≡ false

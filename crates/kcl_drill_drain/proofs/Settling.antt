@@ -19,14 +19,15 @@ use Rattle.kcl_drill_summary.proofs.BatchLemmas.{from_twice}
 
 -- ---- When the drain of a row begins
 
--- If no record is left from the position `p` on, the first record is below `p`, and none of the others is left.
+-- If no record is left from the position `p` on, the number of the first record is below `p`, and none of the others is
+-- left.
 none_first : (p : ℕ) (r : Logged) (rs : List Logged) (b : Bool) → nat_le p r.seq ≡ b
     → cond b (r ∷ from p rs) (from p rs) ≡ [] → (r.seq < p) × (from p rs ≡ [])
 none_first p r rs true is none = absurd cc
 none_first p r rs false is none = (above_so p r.seq is, none)
 
--- If no record has a greater number than `q`, and one has `q` or a greater number, then the checkpoint at `q` is the
--- one at the last record.
+-- Suppose that no record has a number above `q`, and that some record has the number `q` or a greater one. Then the
+-- checkpoint at `q` is the one at the last record.
 pub settled_at : (q p : ℕ) (rs : List Logged) → IsUp p rs → HasFrom q rs → from (q + 1) rs ≡ []
     → At q ≡ last_checkpoint rs
 settled_at q p [] up has none = absurd has
@@ -43,7 +44,8 @@ settled_at q p (r ∷ s ∷ rs) up (inl le) none =
 settled_at q p (r ∷ s ∷ rs) up (inr has) none =
     settled_at q (r.seq + 1) (s ∷ rs) up.1 has (none_first (q + 1) r (s ∷ rs) (nat_le (q + 1) r.seq) refl none).1
 
--- If no record is left from the trim horizon on, there is none, and the checkpoint at the last record is TRIM_HORIZON.
+-- If no record is left from the position 0 on, there is no record at all, and the checkpoint at the last record is
+-- TRIM_HORIZON.
 pub settled_horizon : (p : ℕ) (rs : List Logged) → IsUp p rs → from 0 rs ≡ [] → TrimHorizon ≡ last_checkpoint rs
 settled_horizon p rs up none = ap last_checkpoint (sym none ∙ all_from 0 rs (up_weaker 0 p rs (omega arith) up))
 
@@ -125,7 +127,7 @@ unfolding last_seq
 above_is p x [] up = up.0
 above_is p x (y ∷ ys) up = let n = above_is (x.seq + 1) y ys up.1 in omega (arith, n, up.0)
 
--- If the numbers of records rise, so do those of each batch from their front.
+-- If the numbers of records rise, so do the numbers of each batch that these records begin with.
 up_beginning : (limit room p : ℕ) (rs : List Logged) → IsUp p rs → IsUp p (beginning limit room rs)
 up_beginning zero room p rs up = tt
 up_beginning (suc limit) room p [] up = tt
@@ -134,9 +136,10 @@ up_beginning (suc limit) room p (r ∷ rs) up =
     cond_both (nat_le r.bytes room) (r ∷ beginning limit (room - r.bytes) rs) [] (IsUp p) (λ fits. (up.0, rest))
     (λ full. tt)
 
--- `bs` is a batch of the records `rs` from the position `position` on, and `q` is the number of its last record. So the
--- position after it is `q` + 1, and `q` is at or above `position` and the shard's start. If no record is left after the
--- batch, the checkpoint at `q` is the one at the shard's last record. Fewer records are left after it than before.
+-- What is true of `bs`, a batch of the records `rs` from the position `position` on, whose last record has the number
+-- `q`. The position after the batch is `q` + 1, and `q` is at or above `position` and the shard's start. If no record
+-- is left after the batch, the checkpoint at `q` is the one at the shard's last record. Fewer records are left after
+-- the batch than from `position` on.
 pub record IsBatchTo (start position : ℕ) (rs bs : List Logged) (q : ℕ) : Type 0 where
   pub number : last_number_in (map stored bs) ≡ Some q
   pub reach : position_after position (numbers_of bs) ≡ q + 1
@@ -154,7 +157,7 @@ fewer_by ls bs rest x xs are is =
 both_above : (position start q : ℕ) → position ≤ q → start ≤ q → max position start ≤ q
 both_above position start q le le' = omega arith
 
--- A batch that isn't empty is one up to its last record (`IsBatchTo`).
+-- For a batch that isn't empty, `IsBatchTo` holds with the number of the batch's last record.
 pub batched : (limit room start position : ℕ) (rs : List Logged) (x : Logged) (xs : List Logged) → IsUp start rs
     → beginning limit room (from position rs) ≡ x ∷ xs
     → IsBatchTo start position rs (beginning limit room (from position rs)) (last_seq x xs)

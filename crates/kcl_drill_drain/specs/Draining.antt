@@ -21,14 +21,14 @@ use Rattle.kcl_drill.specs.Summed.{last_checkpoint}
 use Rattle.kcl_laws.specs.Recorded.{HasFrom}
 use Rattle.kcl_drill_summary.specs.Counting.{AreAbove}
 
--- At the clock `c`, no record of the stream `s` is trimmed, and none of its shards is expired.
+-- At the clock `c`, no record of the stream `s` is trimmed, and no shard of this stream is expired.
 pub record IsWhole (log : Journal) (c s : ℕ) : Type 0 where
   pub above : (sh : ℕ) → AreAbove (trim_floor log c s) (records log s sh)
   pub listed : AllByRecursion (λ (x : ShardState). is_closed_below (trim_floor log c s) x ≡ false) (shards log s)
 
 -- The history `h` can be drained at the moment `at`: it is lawful and has fewer than 2^32 turns. At the greater of its
--- clock and `at`, no record of a live stream is trimmed and no shard of it is expired. Each row was made with the
--- origin TRIM_HORIZON.
+-- clock and `at`, no record of a live stream is trimmed, and no shard of a live stream is expired (`IsWhole`). Each row
+-- was made with the origin TRIM_HORIZON.
 pub record CanDrain (h : List Turn) (at : ℕ) : Type 0 where
   pub lawful : IsHistory h
   pub few : length h < 2 ^ 32
@@ -66,12 +66,12 @@ pub record IsFresh (h : List Turn) (key : ShardRef) (r : Row) : Type 0 where
   pub few : r.counter ≤ length h
   pub start : IsStart (shard_of (journal h) key) (records_of (journal h) key) r.floor r.checkpoint
 
--- The checkpoint that the key's row has once its shard was read to the end: SHARD_END if the shard is closed, and
--- otherwise the one at its last record, or TRIM_HORIZON if it has none.
+-- The checkpoint that the key's row has once the key's shard was read to its end. For a closed shard, this is
+-- SHARD_END. For an open shard, it is the checkpoint at the last record, or TRIM_HORIZON if there is no record.
 abbrev pub final_of : Journal → ShardRef → Checkpoint
 final_of log key = if is_closed_at (shard_of log key) then ShardEnd else last_checkpoint (records_of log key)
 
--- The row of the key is drained: it exists (it isn't None), and its checkpoint is the one of a shard that was read to
--- its end. The shard is as the history `h` left it.
+-- The row `o` of the key is drained: it exists (it isn't None), and its checkpoint is that of a shard which was read to
+-- its end (`final_of`). The shard is as the history `h` left it.
 abbrev pub IsDone : List Turn → ShardRef → Option Row → Type 0
 IsDone h key o = option_map (λ r. r.checkpoint) o ≡ Some (final_of (journal h) key)

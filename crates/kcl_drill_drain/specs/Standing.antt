@@ -33,21 +33,21 @@ pub record Spot : Type 0 where
   pub index : ℕ
   pub key : ShardRef
 
--- The history of `w` can be drained at the moment `at`, its keys are the listed ones, and its key stands at its index
--- among them.
+-- The history of `w` can be drained at the moment `at`, and the keys of `w` are the listed ones. The key of `w` stands
+-- at the index of `w` among these keys, and this index is below 2^63.
 pub record IsSpot (w : Spot) (at : ℕ) : Type 0 where
   pub can : CanDrain w.history at
   pub listed : w.keys ≡ listed_keys w.history at
   pub here : slice_get w.keys w.index ≡ Some w.key
   pub few : w.index < 2 ^ 63
 
--- The clock during the drain: the greater of the clock of the history before it and the moment `at` of its turns.
+-- The clock during the drain: the greater of the clock of the history before the drain and the moment `at`.
 abbrev pub clock_at : Spot → ℕ → ℕ
 clock_at w at = max (clock w.history) at
 
--- The other keys are as they are while the row of this key is drained: the rows of the keys before it are drained, and
--- those of the keys after it wait. Since the history before the drain, at most one tenure began for each key up to this
--- one.
+-- How the other keys are while the row of this key is drained: the rows of the keys before this one are drained, and
+-- the rows of the keys after it wait. The number of tenures is at most the number of turns before the drain, plus one
+-- for each key up to this one.
 pub record OthersWait (w : Spot) (log : Journal) : Type 0 where
   pub done : (j : ℕ) (key : ShardRef) → j < w.index → slice_get w.keys j ≡ Some key → IsDone w.history key (row log key)
   pub waits : (j : ℕ) (key : ShardRef) → w.index < j → slice_get w.keys j ≡ Some key → Waits w.history w.among log key
@@ -55,7 +55,7 @@ pub record OthersWait (w : Spot) (log : Journal) : Type 0 where
 
 -- The newest line of the journal took the row `r` of the key. `held` has the number of the new tenure, the row's
 -- counter after the take, and the position of the first read. Before this line, the rows of the keys before this one
--- were drained, and `r` and those of the keys after it waited.
+-- were drained, and the rows of this key and of the keys after it waited.
 pub record IsTaken (w : Spot) (by : ℕ) (r : Row) (held : DrainTenure) (log : Journal) : Type 0 where
   pub before : Journal
   pub clock : ℕ
@@ -67,8 +67,8 @@ pub record IsTaken (w : Spot) (by : ℕ) (r : Row) (held : DrainTenure) (log : J
   pub position : held.position ≡ first_position r.checkpoint
   pub fresh : IsFresh w.history w.key r
 
--- The tenure of this key, which is the actor's, and its row are as `x` says (`Holds`), and the other keys are as they
--- should be (`OthersWait`).
+-- The tenure of `x` belongs to this key and to the actor `by`, and this tenure and its row are as `x` says (`Holds`).
+-- The rows of the other keys are as they should be (`OthersWait`).
 pub record Stands (w : Spot) (by : ℕ) (x : Holding) (log : Journal) : Type 0 where
   pub others : OthersWait w log
   pub holds : Holds log x
@@ -76,9 +76,9 @@ pub record Stands (w : Spot) (by : ℕ) (x : Holding) (log : Journal) : Type 0 w
   pub of_key : x.key ≡ w.key
 
 -- The tenure is ready for its next read: each of its reads is given, and the row's checkpoint isn't SHARD_END. If no
--- record is left from its position on, the checkpoint is at the shard's last record (`settled`). The least sequence
--- number that it may mark isn't above its position or the shard's start, whichever is greater (`low`). The counter is
--- low enough for one mark per record that is left (`budget`).
+-- record is left from the tenure's position on, the checkpoint is the one at the shard's last record (`settled`). The
+-- least sequence number that the tenure may mark is at most the greater of the tenure's position and the shard's start
+-- (`low`). The counter is low enough for one mark per record that is left (`budget`).
 pub record IsReady (w : Spot) (at : ℕ) (x : Holding) : Type 0 where
   pub none_waits : x.waiting ≡ []
   pub given : x.done ≡ x.position
@@ -95,42 +95,43 @@ pub record IsHeld (x : Holding) (held : DrainTenure) : Type 0 where
   pub position : x.position ≡ held.position
   pub counter : x.counter ≡ held.counter
 
--- The machine has answered turns on leases since the history before the drain, after which the tenure `held` of this
--- key is ready for its next read (`IsReady`).
+-- The machine has answered turns on leases since the history before the drain. After these turns, the tenure `held` of
+-- this key is ready for its next read (`IsReady`).
 pub record ReadsOn (stands : List Turn → Type 0) (w : Spot) (by at : ℕ) (held : DrainTenure) : Type 0 where
   pub now : Holding
   pub leads : Leads stands by at w.history (Stands w by now)
   pub ready : IsReady w at now
   pub is : IsHeld now held
 
--- The machine has answered turns on leases since the history before the drain. After them, the rows of the keys up to
--- this one are drained, and those of the keys after it wait.
+-- The machine has answered turns on leases since the history before the drain. After these turns, the rows of the keys
+-- up to this one are drained, and the rows of the keys after it wait.
 abbrev pub IsDrainedHere : (List Turn → Type 0) → Spot → ℕ → ℕ → Type 0
 IsDrainedHere stands w by at = Leads stands by at w.history (AreDrainedTo w.history w.keys w.among (w.index + 1))
 
 -- ---- The next read of the tenure `x`, and what follows it
 
--- The batch that a read at the position of the tenure `x` returns.
+-- The batch that the next read of the tenure `x` returns.
 abbrev pub batch_at : Spot → ℕ → Holding → List Logged
 batch_at w at x = batch (journal w.history) (clock_at w at) w.key.stream w.key.shard x.position READ
 
--- The position after this batch.
+-- The position of the tenure `x` after its next read, which is the position after the batch.
 abbrev pub reach_at : Spot → ℕ → Holding → ℕ
 reach_at w at x = position_after x.position (numbers_of (batch_at w at x))
 
--- Whether this read ends the shard: it is closed, and no record is left after the batch.
+-- Whether the next read of the tenure `x` ends the shard: the shard is closed, and no record is left after the batch.
 abbrev pub ended_at : Spot → ℕ → Holding → Bool
 ended_at w at x = ends_at (journal w.history) (clock_at w at) w.key.stream w.key.shard (reach_at w at x)
 
--- This read as the journal has it: the sequence numbers of its batch, and whether it ends the shard.
+-- The next read of the tenure `x`, as the state of the tenure keeps this read: the sequence numbers of its batch, and
+-- whether it ends the shard.
 abbrev pub read_at : Spot → ℕ → Holding → ReadDone
 read_at w at x = record { numbers = numbers_of (batch_at w at x); ended = ended_at w at x }
 
--- The sequence number of the last record of this batch, or None if the batch is empty.
+-- The sequence number of the last record in the batch of the next read, or None if the batch is empty.
 abbrev pub last_at : Spot → ℕ → Holding → Option ℕ
 last_at w at x = last_number_in (map stored (batch_at w at x))
 
--- The reply to the command Read at the position of the tenure `x`.
+-- The reply to the next read of the tenure `x`.
 abbrev pub reply_at : Spot → ℕ → Holding → Reply
 reply_at w at x = reply.Read (map stored (batch_at w at x)) (reach_at w at x) (ended_at w at x)
 
@@ -142,11 +143,12 @@ read_then w at x = after_read x (read_at w at x)
 abbrev pub given_then : Spot → ℕ → Holding → Holding
 given_then w at x = after_give (read_then w at x) (read_at w at x) []
 
--- The tenure `x` after a mark at the sequence number, or `x` itself if there is none.
+-- The tenure `x` after a mark at the sequence number, or `x` itself if there is no sequence number (None).
 abbrev pub marked_at : Option ℕ → Holding → Holding
 marked_at None x = x
 marked_at (Some q) x = after_mark x (target.At q)
 
--- The tenure `x` after its next read was made and given, and the last record of its batch, if there is one, was marked.
+-- The tenure `x` after its next read was made and given and the last record of the batch was marked, if the batch has a
+-- record.
 abbrev pub marked_then : Spot → ℕ → Holding → Holding
 marked_then w at x = marked_at (last_at w at x) (given_then w at x)

@@ -25,8 +25,8 @@ use Rattle.kcl_drill_drain.specs.Standing.{ended_at, given_then, last_at, marked
 
 -- ---- The row of one key
 
--- The step takes the row of the key, if the row waits to be drained, has the counter `counter`, and isn't at SHARD_END.
--- `result` then has the new tenure.
+-- Suppose that the rows of the keys before this one are drained and the others wait. If the key's row has the counter
+-- `counter` and isn't at SHARD_END, the step takes this row. `result` then has the new tenure.
 abbrev pub Takes : {E : Type 0} → (List Turn → Type 0) → (List Turn → Type 0) → ℕ → ℕ → ShardRef → ℕ
     → Result (Option DrainTenure) E → Type 0
 Takes stands stands' by at key counter result =
@@ -35,16 +35,16 @@ Takes stands stands' by at key counter result =
     → Leads stands by at w.history (AreDrainedTo w.history w.keys w.among w.index)
     → IfOk result (λ o. (held : DrainTenure) × (o ≡ Some held) × Leads stands' by at w.history (IsTaken w by r held))
 
--- The step opens the shard of the tenure `held`, if its row was taken by the newest line and wasn't at SHARD_END. The
--- tenure is then ready for its first read.
+-- If the newest line took the key's row for the tenure `held`, and the row wasn't at SHARD_END, the step opens the
+-- shard. Then the tenure is ready for its first read.
 abbrev pub Opens : {E : Type 0} → (List Turn → Type 0) → (List Turn → Type 0) → ℕ → ℕ → DrainTenure
     → Result (Unit {0}) E → Type 0
 Opens stands stands' by at held result =
     (w : Spot) (r : Row) → IsSpot w at → row_among w.among w.key ≡ Some r → is_end r.checkpoint ≡ false
     → Leads stands by at w.history (IsTaken w by r held) → OnOk result (ReadsOn stands' w by at held)
 
--- The step reads at the position of the tenure `held`, if this tenure is ready for a read. The answer in `result` has
--- the batch at this position.
+-- If the tenure `held` is ready for a read, the step reads at the tenure's position. The answer in `result` has the
+-- batch at this position.
 abbrev pub Reads : {E : Type 0} → (List Turn → Type 0) → (List Turn → Type 0) → ℕ → ℕ → DrainTenure
     → Result (Result Reply Refusal) E → Type 0
 Reads stands stands' by at held result =
@@ -52,7 +52,7 @@ Reads stands stands' by at held result =
     → Leads stands by at w.history (Stands w by x)
     → IfOk result (λ a. (a ≡ Ok (reply_at w at x)) × Leads stands' by at w.history (Stands w by (read_then w at x)))
 
--- The step gives the read `r` of the tenure `held`, if this is its only read that waits to be given.
+-- If `r` is the only read of the tenure `held` that waits to be given, the step gives `r`.
 abbrev pub Gives : {E : Type 0} → (List Turn → Type 0) → (List Turn → Type 0) → ℕ → ℕ → DrainTenure
     → Result (Unit {0}) E → Type 0
 Gives stands stands' by at held result =
@@ -60,8 +60,8 @@ Gives stands stands' by at held result =
     → Leads stands by at w.history (Stands w by x)
     → OnOk result (Leads stands' by at w.history (Stands w by (after_give x r [])))
 
--- The step marks the row of the tenure `held` at the target `to`, if the tenure may mark it and the counter isn't the
--- last number. `result` has the row's new counter.
+-- If the tenure `held` may mark its row at the target `to`, and the row's counter isn't the last number, the step makes
+-- this mark. `result` has the row's new counter.
 abbrev pub Marks : {E : Type 0} → (List Turn → Type 0) → (List Turn → Type 0) → ℕ → ℕ → DrainTenure → Target
     → Result ℕ E → Type 0
 Marks stands stands' by at held to result =
@@ -70,8 +70,8 @@ Marks stands stands' by at held to result =
     → Leads stands by at w.history (Stands w by x)
     → IfOk result (λ n. (n ≡ x.counter + 1) × Leads stands' by at w.history (Stands w by (after_mark x to)))
 
--- The step marks the row of the tenure `held` at the last record of the batch that was read and given, if the batch has
--- one (`last`). `result` has the row's counter after it.
+-- After a batch was read and given, the step marks the row of the tenure `held` at the batch's last record, if there is
+-- one. `last` is the number of this record. `result` has the row's counter after the step.
 abbrev pub MarksLast : {E : Type 0} → (List Turn → Type 0) → (List Turn → Type 0) → ℕ → ℕ → DrainTenure → Option ℕ
     → Result ℕ E → Type 0
 MarksLast stands stands' by at held last result =
@@ -80,15 +80,15 @@ MarksLast stands stands' by at held last result =
     → IfOk result (λ n. (n ≡ (marked_then w at x).counter)
     × Leads stands' by at w.history (Stands w by (marked_then w at x)))
 
--- Where a step leaves the drain of this key. If there is no tenure any more (None), the key's row is drained. Otherwise
--- the tenure `held` is ready for its next read.
+-- How far the drain of this key's row is after a step. If the step left no tenure (None), the key's row is drained.
+-- Otherwise the tenure `held` is ready for its next read.
 abbrev pub Advances : (List Turn → Type 0) → Spot → ℕ → ℕ → Option DrainTenure → Type 0
 Advances stands w by at None = IsDrainedHere stands w by at
 Advances stands w by at (Some held) = ReadsOn stands w by at held
 
--- The step comes after the mark at the last record of a batch, which was read at `position`. If this read ended the
--- shard (`ended`), the step marks SHARD_END. Then the key's row is drained, or its tenure is ready for its next read
--- (`Advances`).
+-- The step comes after the mark at the last record of a batch that was read at `position`. If the read of this batch
+-- ended the shard (`ended`), the step marks SHARD_END. Then the key's row is drained, or the tenure is ready for its
+-- next read (`Advances`).
 abbrev pub Settles : {E : Type 0} → (List Turn → Type 0) → (List Turn → Type 0) → ℕ → ℕ → ℕ → DrainTenure → Bool
     → Result (Option DrainTenure) E → Type 0
 Settles stands stands' by at position held ended result =
@@ -96,9 +96,9 @@ Settles stands stands' by at position held ended result =
     → IsHeld (marked_then w at x) held
     → Leads stands by at w.history (Stands w by (marked_then w at x)) → IfOk result (Advances stands' w by at)
 
--- The step gives and marks what was read: `fetch` has the last record's number, the position after the batch, and
--- whether the read ended the shard. Then the key's row is drained, or its tenure is ready for its next read
--- (`Advances`).
+-- The step gives the batch that was read, and marks its last record. `fetch` has the number of this record, the
+-- position after the batch, and whether the read ended the shard. Then the key's row is drained, or the tenure is ready
+-- for its next read (`Advances`).
 abbrev pub Delivers : {E : Type 0} → (List Turn → Type 0) → (List Turn → Type 0) → ℕ → ℕ → DrainTenure → Fetch
     → Result (Option DrainTenure) E → Type 0
 Delivers stands stands' by at held fetch result =
@@ -106,21 +106,22 @@ Delivers stands stands' by at held fetch result =
     → fetch ≡ record { last = last_at w at x; reach = reach_at w at x; ended = ended_at w at x }
     → Leads stands by at w.history (Stands w by (read_then w at x)) → IfOk result (Advances stands' w by at)
 
--- If the tenure `held` is ready for a read, the step reads, gives and marks one more batch. Then the key's row is
--- drained, or its tenure is ready for its next read (`Advances`).
+-- If the tenure `held` is ready for a read, the step reads and gives one more batch and marks the batch's last record.
+-- Then the key's row is drained, or the tenure is ready for its next read (`Advances`).
 abbrev pub StepsOn : {E : Type 0} → (List Turn → Type 0) → (List Turn → Type 0) → ℕ → ℕ → DrainTenure
     → Result (Option DrainTenure) E → Type 0
 StepsOn stands stands' by at held result = (w : Spot) → IsSpot w at → ReadsOn stands w by at held
     → IfOk result (Advances stands' w by at)
 
--- If the tenure `held` is ready for a read, the step reads its shard to the end, and then the key's row is drained.
+-- If the tenure `held` is ready for a read, the step reads the shard to its end. Then the key's row is drained.
 abbrev pub ReadsToEnd : {E : Type 0} → (List Turn → Type 0) → (List Turn → Type 0) → ℕ → ℕ → DrainTenure
     → Result (Unit {0}) E → Type 0
 ReadsToEnd stands stands' by at held result = (w : Spot) → IsSpot w at → ReadsOn stands w by at held
     → OnOk result (IsDrainedHere stands' w by at)
 
--- If the row of the key waits to be drained, has the counter `counter` and isn't at SHARD_END, the step takes it and
--- reads its shard to the end. Then the key's row is drained.
+-- Suppose that the rows of the keys before this one are drained and the others wait. If the key's row has the counter
+-- `counter` and isn't at SHARD_END, the step takes this row and reads the shard to its end. Then the key's row is
+-- drained.
 abbrev pub DrainsTaken : {E : Type 0} → (List Turn → Type 0) → (List Turn → Type 0) → ℕ → ℕ → ShardRef → ℕ
     → Result (Unit {0}) E → Type 0
 DrainsTaken stands stands' by at key counter result =
@@ -140,22 +141,23 @@ DrainsRow stands stands' by at key row result =
 
 -- ---- The rows of all listed keys
 
--- If the rows of all listed keys wait, the step drains all of them.
+-- If the rows of all listed keys wait, the step drains all these rows. `among` are the rows of the survey.
 abbrev pub DrainsKeys : {E : Type 0} → (List Turn → Type 0) → (List Turn → Type 0) → ℕ → ℕ → List ShardRef → List Row
     → Result (Unit {0}) E → Type 0
 DrainsKeys stands stands' by at keys among result =
     (h : List Turn) → CanDrain h at → keys ≡ listed_keys h at → Leads stands by at h (AreDrainedTo h keys among 0)
     → OnOk result (Leads stands' by at h (AreDrainedTo h keys among (length keys)))
 
--- The step makes a row for each of the listed keys that has none. `among` are the rows of the survey.
+-- If the keys with a row in the survey (`among`) have a row, the step makes a row for each other listed key. Then all
+-- listed keys have rows.
 abbrev pub MakesKeys : {E : Type 0} → (List Turn → Type 0) → (List Turn → Type 0) → ℕ → ℕ → List ShardRef → List Row
     → Result (Unit {0}) E → Type 0
 MakesKeys stands stands' by at keys among result =
     (h : List Turn) → CanDrain h at → keys ≡ listed_keys h at → Leads stands by at h (AreMade h keys among 0)
     → OnOk result (Leads stands' by at h (AreMade h keys among (length keys)))
 
--- If the keys before this one have rows, the step makes a row for this key, unless it has one among the rows of the
--- survey (`seen`). Then the keys up to this one have rows.
+-- If the keys before this one have rows, the step makes a row for this key, unless the survey showed a row of this key
+-- (`seen`). Then the keys up to this one have rows.
 abbrev pub MakesRow : {E : Type 0} → (List Turn → Type 0) → (List Turn → Type 0) → ℕ → ℕ → ShardRef → Option Row
     → Result (Unit {0}) E → Type 0
 MakesRow stands stands' by at key seen result =
@@ -163,8 +165,8 @@ MakesRow stands stands' by at key seen result =
     → Leads stands by at w.history (AreMade w.history w.keys w.among w.index)
     → OnOk result (Leads stands' by at w.history (AreMade w.history w.keys w.among (w.index + 1)))
 
--- The step makes a row for each listed key that has none, where `survey` is the answer to a survey with the listed keys
--- and all rows.
+-- If the keys with a row in the survey have a row, the step makes a row for each other listed key. `survey` is the
+-- answer to the survey: the listed keys and all rows.
 abbrev pub Makes : {E : Type 0} → (List Turn → Type 0) → (List Turn → Type 0) → ℕ → ℕ → Result Reply Refusal
     → Result (Unit {0}) E → Type 0
 Makes stands stands' by at survey result =
@@ -172,8 +174,8 @@ Makes stands stands' by at survey result =
     → Leads stands by at h (AreMade h (listed_keys h at) (rows (journal h)) 0)
     → OnOk result (Leads stands' by at h (AreMade h (listed_keys h at) (rows (journal h)) (length (listed_keys h at))))
 
--- If the rows of all listed keys wait, the step drains all of them, where `survey` is the answer to a survey with the
--- listed keys and their rows.
+-- If the rows of all listed keys wait, the step drains all these rows. `survey` is the answer to a survey: the listed
+-- keys and the rows.
 abbrev pub Drains : {E : Type 0} → (List Turn → Type 0) → (List Turn → Type 0) → ℕ → ℕ → Result Reply Refusal
     → Result (Unit {0}) E → Type 0
 Drains stands stands' by at survey result =

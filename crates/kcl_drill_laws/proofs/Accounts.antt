@@ -20,7 +20,7 @@ same_test n m = grind (arith, nat_tests)
 abbrev pub OfEach : (Turn → Type 0) → List Account → List Turn → Type 0
 OfEach P accounts h = AllByRecursion (λ a. AllByRecursion P (turns_by a.by h)) accounts
 
--- If `P` is true of all such turns of a history, it is true of those of the history without its newest turn.
+-- If `OfEach` holds for a history, it holds for the history without its newest turn.
 rest_of : (P : Turn → Type 0) (accounts : List Account) (t : Turn) (h : List Turn) → OfEach P accounts (t ∷ h)
     → OfEach P accounts h
 rest_of P [] t h of = tt
@@ -44,29 +44,32 @@ one_by P a t h n false is mine some later =
     let none : has t.by a ≡ 0 = ap (λ b. cond b 1 0) (same_test a.by t.by ∙ is) in
     later (omega arith)
 
--- If `P` is true of all such turns, and the newest turn's actor has one of the accounts, then `P` is true of this turn.
+-- If `OfEach` holds for a history, and the actor of the newest turn has one of the accounts, then `P` is true of this
+-- turn.
 one_of : (P : Turn → Type 0) (accounts : List Account) (t : Turn) (h : List Turn) → OfEach P accounts (t ∷ h)
     → 0 < times t.by accounts → P t
 one_of P [] t h of some = absurd (omega arith)
 one_of P (a ∷ rest) t h of some =
     one_by P a t h (times t.by rest) (t.by == a.by) refl of.0 some (one_of P rest t h of.1)
 
--- If each turn of the history is by an actor with one of the accounts, then `P` is true of each turn.
+-- If `OfEach` holds for a history, and each of its turns is by an actor with one of the accounts, then `P` is true of
+-- each turn.
 all_of : (P : Turn → Type 0) (accounts : List Account) (h : List Turn) → OfEach P accounts h → AreAllBy accounts h
     → AllByRecursion P h
 all_of P accounts [] of all = tt
 all_of P accounts (t ∷ h) of all =
     (one_of P accounts t h of all.0, all_of P accounts h (rest_of P accounts t h of) all.1)
 
--- If `P` is true of each turn of each account, it is true of the turns of the history whose actors have an account.
+-- If `P` is true of each turn of each account, and each account has all turns of its actor in the history, then
+-- `OfEach` holds for the history.
 each_of : (P : Turn → Type 0) (accounts : List Account) (h : List Turn) → IsSplitInto accounts h
     → AllByRecursion (λ a. AllByRecursion P a.turns) accounts
     → OfEach P accounts h
 each_of P [] h own of = tt
 each_of P (a ∷ rest) h own of = (subst (AllByRecursion P) (sym own.0) of.0, each_of P rest h own.1 of.1)
 
--- If `P` is true of each turn of each account, it is true of each turn of the history `h`, which has the turns of these
--- accounts and no others.
+-- Let the turns of the history `h` be exactly those of the accounts. If `P` is true of each turn of each account, `P`
+-- is true of each turn of `h`.
 pub all_turns : (P : Turn → Type 0) (accounts : List Account) (h : List Turn) → IsSplitInto accounts h
     → AreAllBy accounts h
     → AllByRecursion (λ a. AllByRecursion P a.turns) accounts → AllByRecursion P h
@@ -111,7 +114,8 @@ count_same [] h own = refl
 count_same (a ∷ rest) h own = let one = ap length own.0 in let more = count_same rest h own.1 in
     omega arith
 
--- If a history has the turns of the accounts and no others, it has at most as many turns as the accounts together.
+-- If the turns of a history are exactly those of the accounts, the history has at most as many turns as the accounts
+-- together.
 pub few_turns : (accounts : List Account) (h : List Turn) → IsSplitInto accounts h → AreAllBy accounts h
     → length h ≤ count_of accounts
 few_turns accounts h own all = let same = count_same accounts h own in let few = few_in accounts h all in

@@ -1,5 +1,5 @@
--- Further lawful turns on leases after the history of a drill, at a moment that isn't later than its clock, leave it
--- the history of this drill.
+-- Further lawful turns on leases come after the history of a drill, at a moment that isn't later than its clock. Then
+-- the longer history is still one of this drill.
 use Rattle.std.proofs.Common.{◌≡◌, ℕ, ◌≤◌, max, false, List, [], ◌∷◌, ◌++◌, refl, ap, ◌∙◌, arith}
 use Rattle.std.specs.Prelude.{cond, nat_lt}
 use Rattle.kds_defs.specs.declared.command.Turn.{Turn}
@@ -32,7 +32,8 @@ history_more : (by at : ℕ) (more h : List Turn) → AreLeased by at more → I
 history_more by at [] h are is = is
 history_more by at (t ∷ more) h are is = (are.0.3, history_more by at more h are.1 is)
 
--- After the history of a drill and further such turns on leases, the history is still that of the drill (`IsDrill`).
+-- Let further lawful turns on leases come after the history of a drill, at a moment that isn't later than its clock.
+-- Then the longer history is still one of this drill (`IsDrill`).
 pub still_drill : (number records by at : ℕ) (more h : List Turn) → IsDrill h number records → at ≤ clock h
     → AreLeased by at more
     → IsDrill (more ++ h) number records
@@ -43,7 +44,7 @@ still_drill number records by at more h is below are =
       asks = ap commands_in (services_same by at more h are) ∙ is.asks;
     }
 
--- If the trim floor is 0, each record arrived at or above it.
+-- If the trim floor is 0, no record arrived before it.
 pub none_below : (floor : ℕ) (rs : List Logged) → floor ≡ 0 → AreAbove floor rs
 none_below floor [] e = tt
 none_below floor (r ∷ rs) e = (above r.arrival floor e, none_below floor rs e)

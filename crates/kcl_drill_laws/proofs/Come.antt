@@ -20,7 +20,8 @@ use Rattle.kcl_drill_laws.specs.Holding.{marked_line, opened_line, read_line, ta
 
 -- ---- Lists of reads
 
--- The position after some reads and one more is the position after this one, from that after the others on.
+-- The position after the reads `rs` and then the read `r` is the position after `r`, counted on from the position after
+-- `rs`.
 positions_append : (p : ℕ) (rs : List ReadDone) (r : ReadDone)
     → position_after_reads p (rs ++ r ∷ []) ≡ position_after (position_after_reads p rs) r.numbers
 positions_append p [] r = refl
@@ -59,7 +60,7 @@ some_more (suc n) (q ∷ rs) r rest is = let e = some_more n rs r rest is in ome
 
 -- ---- The given reads after a give
 
--- If `r` is the first read that isn't given, then after a give the given reads are those before and `r`.
+-- If `r` is the first read that isn't given, then after a give the given reads are those from before the give, and `r`.
 pub one_more_given : (T : TenureState) (r : ReadDone) (rest : List ReadDone) → drop T.given T.reads ≡ r ∷ rest
     → given_reads (with_given T) ≡ given_reads T ++ r ∷ []
 one_more_given T r rest is =

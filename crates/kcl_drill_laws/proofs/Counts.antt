@@ -34,7 +34,8 @@ abbrev leases : List Line → ℕ
 leases [] = 0
 leases (line ∷ ls) = weight line.what + leases ls
 
--- If lines are added to a journal, it has as many lines about leases as they and it have together.
+-- After lines are added to a journal, the journal has as many lines about leases as the lines and the old journal
+-- together.
 leases_with : (ls : List Line) (log : Journal) → leases (with_lines ls log) ≡ leases ls + leases log
 leases_with [] log = omega arith
 leases_with (line ∷ ls) log = let n = leases_with ls (line ∷ log) in omega arith
@@ -85,7 +86,7 @@ raised f true None n keeps le = omega arith
 raised f true (Some x) n keeps le = omega (arith, keeps x, le)
 raised f false o n keeps le = omega arith
 
--- A line raises the counter of a row by at most 1 if it is about a lease, and not at all if it isn't.
+-- If a line is about a lease, it raises the counter of a row by at most 1. Any other line doesn't raise the counter.
 counter_by : (log : Journal) (line : Line) (e : Entry) (key : ShardRef) (o : Option Row) (n : ℕ) → counter_in o ≤ n
     → counter_in (row_after log line e key o) ≤ weight e + n
 counter_by log line (entry.LeaseMade k from) key o n le =
@@ -108,7 +109,8 @@ counter_few : (log : Journal) (key : ShardRef) → counter_in (row log key) ≤ 
 counter_few [] key = omega arith
 counter_few (line ∷ log) key = counter_by log line line.what key (row log key) (leases log) (counter_few log key)
 
--- An entry raises the number of tenures by at most 1 if it is about a lease, and not at all if it isn't.
+-- If an entry is about a lease, it raises the number of tenures by at most 1. Any other entry doesn't raise this
+-- number.
 taken_by : (e : Entry) (n m : ℕ) → n ≤ m → taken_count_after e n ≤ weight e + m
 taken_by (entry.Taken key tenure counter owner) n m le = omega arith
 taken_by _ n m le = omega arith

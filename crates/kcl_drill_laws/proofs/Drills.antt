@@ -60,7 +60,7 @@ always : (P : Command → Type 0) (xs : List Command) → ((what : Command) → 
 always P [] is = tt
 always P (x ∷ xs) is = (is x, always P xs is)
 
--- If the commands `more` are ones that a drill may give, they still are with the command of a plan in front.
+-- If a drill may give the commands `more`, it may also give these commands with the command of a plan in front.
 plan_is : (o : Option Plan) (more : List Command) → AllByRecursion IsDrillCommand more
     → AllByRecursion IsDrillCommand (with_plan o more)
 plan_is None more are = are
@@ -78,16 +78,16 @@ records_are i (suc left) x opens = (
 
 -- ---- The turns of the members
 
--- If turns are on leases at their moments and are at most `n`, then what is true of each turn on leases up to `n` ticks
--- is true of each of them.
+-- Let there be at most `n` turns, all of them on leases, and the k-th at k ticks. If `P` is true of each turn on leases
+-- up to the moment of `n` ticks, `P` is true of each of these turns.
 at_most : (P : Turn → Type 0) (n : ℕ) (turns : List Turn) → length turns ≤ n → AreOnLeasesAt 50 turns
     → ((t : Turn) → t.at ≤ n * 50 → is_service t.what ≡ false → P t) → AllByRecursion P turns
 at_most P n [] few on is = tt
 at_most P n (t ∷ turns) few on is =
     (is t (omega (arith, few, on.0.0)) on.0.1, at_most P n turns (omega arith) on.1 is)
 
--- What is true of each turn on leases up to the moment of the last turn that a member may make is true of each turn of
--- each member.
+-- Let `P` be true of each turn on leases up to the moment of the last turn that a member may make. Then `P` is true of
+-- each turn of each member.
 member_turns : (P : Turn → Type 0) (records : ℕ) (members : List Account) → records ≤ 1000000
     → AllByRecursion (IsMemberAccount records) members
     → ((t : Turn) → t.at ≤ 30600 * 50 → is_service t.what ≡ false → P t)
@@ -98,7 +98,7 @@ member_turns P records (a ∷ rest) limit ran is = (
   member_turns P records rest limit ran.1 is,
 )
 
--- The members together have at most 30,600 turns for each of them.
+-- The members together have at most 30,600 turns for each member.
 members_count : (records : ℕ) (members : List Account) → records ≤ 1000000 → AllByRecursion (IsFew records) members
     → count_of members ≤ length members * 30600
 members_count records [] limit ran = omega arith
@@ -170,7 +170,7 @@ is_short_stopped number records root feeder members h is =
 
 -- ---- A drill whose threads ended without an error
 
--- If an actor has no turn in a history, it has none in what the history goes on from.
+-- If an actor has no turn in a history, it has none in the older part `seen` of this history.
 none_before : (n : ℕ) (front seen : List Turn) → turns_by n (front ++ seen) ≡ [] → turns_by n seen ≡ []
 none_before n front seen none =
     let total : length (turns_by n front ++ turns_by n seen) ≡ 0 =
@@ -209,8 +209,8 @@ module _ (number records : ℕ) (root feeder : PassValue) (members : List Accoun
   not_feeder : (what : Command) → IsOther (turn_of feeder.by what)
   not_feeder what a b = let t = sym b ∙ is_itself feeder.by in absurd cc
 
-  -- Each turn of the history is the root's turn, a command of the feeder as its turn, or a turn of a member. If `P` is
-  -- true of all these, it is true of each turn.
+  -- Each turn of the history is the root's turn, the turn of one of the feeder's commands, or a turn of a member. If
+  -- `P` is true of all these turns, it is true of each turn of the history.
   each_turn : (P : Turn → Type 0) → P (turn_of root.by create)
       → AllByRecursion (λ what. P (turn_of feeder.by what)) rest
       → AllByRecursion (λ a. AllByRecursion P a.turns) members → AllByRecursion P h
@@ -222,11 +222,11 @@ module _ (number records : ℕ) (root feeder : PassValue) (members : List Accoun
 
   leased : (P : Turn → Type 0) → ((t : Turn) → t.at ≤ 30600 * 50 → is_service t.what ≡ false → P t)
       → AllByRecursion (λ a. AllByRecursion P a.turns) members
-  -- What is true of each turn on leases up to the moment of the last turn that a member may make is true of each turn
-  -- of each member.
+  -- Let `P` be true of each turn on leases up to the moment of the last turn that a member may make. Then `P` is true
+  -- of each turn of each member.
   leased P of = member_turns P records members is.limit is.ran of
 
-  -- The root made the first command and the feeder the others, in order and after it (`IsFed`).
+  -- The root made the first command, and the feeder made the others after the root's turn, in order (`IsFed`).
   pub is_fed : IsFed number records root.by feeder.by h
   is_fed =
       record {

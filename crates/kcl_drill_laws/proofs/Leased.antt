@@ -1,4 +1,5 @@
--- Turns on leases change no stream of the journal, and no trim floor up to their clock.
+-- Turns on leases change no stream of the journal, and no trim floor at a clock that isn't below the clock of these
+-- turns.
 use Rattle.std.proofs.Common.{◌≡◌, ℕ, ◌≤◌, false, List, [], ◌∷◌, ◌++◌, None, refl, ◌∙◌, arith}
 use Rattle.std.specs.List.{AllByRecursion, filter, find}
 use Rattle.kds_defs.proofs.Elsewhere.{SameStream, count_same, floor_same, of_no_stream, same_again, same_along}
@@ -32,7 +33,7 @@ lease_adds log c by what is =
 
 -- ---- What lines about leases leave unchanged
 
--- Both journals have made as many streams, and say the same of each stream.
+-- In both journals, the same number of streams was made, and both journals say the same of each stream.
 record SameReadings (log log' : Journal) : Type 0 where
   count : made_count log ≡ made_count log'
   each : (s : ℕ) → SameStream log log' s
@@ -93,8 +94,8 @@ trim_lines d (line ∷ ls) log c s are le =
     let same = same_stream log line s (of_no_stream line.what s are.0.0) in
     trim_lines d ls (line ∷ log) c s are.1 le ∙ floor_same log line s c (omega (arith, are.0.1, le)) same.hours_are
 
--- After turns on leases, each stream has the trim floor that it had before them, at a clock `c` that isn't below
--- theirs.
+-- If a clock `c` isn't below the clock after turns on leases, each stream has the same trim floor at `c` after these
+-- turns as before them.
 pub floor_stays : (more h : List Turn) (c : ℕ) → AreOnLeases more → clock (more ++ h) ≤ c → (s : ℕ)
     → trim_floor (journal (more ++ h)) c s ≡ trim_floor (journal h) c s
 floor_stays [] h c are le s = refl

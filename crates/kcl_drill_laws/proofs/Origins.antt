@@ -32,14 +32,14 @@ AreSoMade ls = AllByRecursion (λ line. IsSoMade line.what) ls
 
 -- ---- The lines that a command adds
 
--- If a row is asked to begin at TRIM_HORIZON, it does.
+-- If a new row is asked to have the origin TRIM_HORIZON, it gets this origin.
 pub counts_so : (log : Journal) (key : ShardRef) (from : Origin) → from ≡ origin.TrimHorizon
     → counting_origin log key from ≡ origin.TrimHorizon
 counts_so log key from is =
     cond_both (follows_parent log key) origin.TrimHorizon from (λ o. o ≡ origin.TrimHorizon) (λ follows. refl)
     (λ new. is)
 
--- A line that a command of a drill adds gives a row that it makes the origin TRIM_HORIZON.
+-- If a line that a drill's command adds makes a row, this row has the origin TRIM_HORIZON.
 command_adds : (log : Journal) (c by : ℕ) (what : Command) (line : Line) → IsAdded log c by what line
     → IsDrillCommand what → IsSoMade line.what
 command_adds log c by _ _ (Alone _ _ _ (walks.Makes key from)) is = counts_so log key from is
@@ -47,7 +47,7 @@ command_adds log c by _ _ _ is = tt
 
 -- ---- All lines of the journal
 
--- Each line that the history of a drill leaves gives a row that it makes the origin TRIM_HORIZON.
+-- If a line in the journal of a drill's history makes a row, this row has the origin TRIM_HORIZON.
 journal_so : (h : List Turn) → AreDrillTurns h → AreSoMade (journal h)
 journal_so h are =
     each_journal (λ line. IsSoMade line.what) (λ turn. IsDrillCommand turn.what)
@@ -69,7 +69,7 @@ after_so (entry.LeaseMade k from) key o is before = either_so (same_key k key) (
 after_so (entry.LeaseCut k counter) key o is before = either_so (same_key k key) None o (inl refl) before
 after_so _ key o is before = before
 
--- If each line that makes a row gives it the origin TRIM_HORIZON, then the origin of each key's row is this one, or
+-- If each line that makes a row gives it the origin TRIM_HORIZON, then the origin of each key's row is TRIM_HORIZON or
 -- None.
 origin_so : (log : Journal) (key : ShardRef) → AreSoMade log → IsNoneOrSo (origin_of log key)
 unfolding IsNoneOrSo
@@ -85,8 +85,7 @@ Removes = (log : Journal) (key : ShardRef) → making (last_bound log key) ≡ N
 abbrev pub Makes : Type 0
 Makes = (log : Journal) (key : ShardRef) (m : Making) → making (last_bound log key) ≡ Some m → IsToldRow log key m
 
--- If a key has the row `r`, this row was made, so its origin isn't None. So it is TRIM_HORIZON. `m` is how the row was
--- made, if it was.
+-- If a key has the row `r`, this row was made (`m` says how). So the row's origin isn't None, and must be TRIM_HORIZON.
 by_making : (log : Journal) (key : ShardRef) (r : Row) → Removes → Makes → IsNoneOrSo (origin_of log key)
     → row log key ≡ Some r → (m : Option Making)
     → making (last_bound log key) ≡ m → origin_of log key ≡ Some origin.TrimHorizon

@@ -23,7 +23,7 @@ use Rattle.kcl_drill_laws.specs.Parents.{AreParentsClosed, IsParentClosed}
 
 -- ---- A closed shard stays closed
 
--- A shard that is closed stays closed if another one is closed.
+-- A closed shard of a list stays closed when the shard `n` of this list gets a closing.
 closed_stays : (n p : ℕ) (closing : Closing) (xs : List ShardState) → is_closed_at (slice_get xs p) ≡ true
     → is_closed_at (slice_get (with_closed n closing xs) p) ≡ true
 closed_stays n p closing [] is = is
@@ -39,7 +39,7 @@ closed_more [] ys p is = absurd cc
 closed_more (x ∷ xs) ys zero is = is
 closed_more (x ∷ xs) ys (suc p) is = closed_more xs ys p is
 
--- A shard of the list is closed after it was given a closing.
+-- The shard `n` of a list is closed after it got a closing.
 closed_now : (n : ℕ) (closing : Closing) (xs : List ShardState) → n < length xs
     → is_closed_at (slice_get (with_closed n closing xs) n) ≡ true
 closed_now n closing [] below = absurd (omega arith)
@@ -77,14 +77,14 @@ all_in all all' xs keeps are =
     all_weaker (IsIn all) (IsIn all')
     (λ x is. (parent_in all all' x.no x.parent keeps is.0, parent_in all all' x.no x.adjacent keeps is.1)) xs are
 
--- Closing a shard changes no shard's parents.
+-- If `AreIn` holds for shards, it still holds after one of them is closed, since this changes no shard's parents.
 all_closed : (all : List ShardState) (n : ℕ) (closing : Closing) (xs : List ShardState) → AreIn all xs
     → AreIn all (with_closed n closing xs)
 all_closed all n closing [] are = tt
 all_closed all zero closing (x ∷ xs) are = (are.0, are.1)
 all_closed all (suc n) closing (x ∷ xs) are = (are.0, all_closed all n closing xs are.1)
 
--- The shards of a new stream have no parents.
+-- `AreIn` holds for the shards of a new stream, since they have no parents.
 all_first : (all : List ShardState) (n start : ℕ) (ranges : List Span) → AreIn all (first_shards n start ranges)
 all_first all n start [] = tt
 all_first all n start (r ∷ rs) = ((tt, tt), all_first all (n + 1) start rs)

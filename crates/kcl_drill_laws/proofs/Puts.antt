@@ -1,5 +1,5 @@
--- Each turn adds at most 500 records, which is how many one PutRecords may put. So a shard has at most 500 records for
--- each turn (`AreFewRecords`).
+-- Each turn adds at most 500 records, since one PutRecords may put 500. So a shard has at most 500 records for each
+-- turn (`AreFewRecords`).
 use Rattle.std.proofs.Common.{◌≡◌, ℕ, ◌+◌, ◌≤◌, List, [], ◌∷◌, ◌++◌, length, refl, arith, ◌*◌, suc}
 use Rattle.std.specs.List.{AllByRecursion}
 use Rattle.std.specs.Prelude.{Result, ◌==◌, ◌&&◌}
@@ -32,7 +32,7 @@ abbrev puts : List Line → ℕ
 puts [] = 0
 puts (line ∷ ls) = weight line.what + puts ls
 
--- If lines are added to a journal, it has as many puts as they and it have together.
+-- After lines are added to a journal, the journal has as many puts as the lines and the old journal together.
 puts_with : (ls : List Line) (log : Journal) → puts (with_lines ls log) ≡ puts ls + puts log
 puts_with [] log = omega arith
 puts_with (line ∷ ls) log = let n = puts_with ls (line ∷ log) in omega arith
@@ -85,7 +85,7 @@ turns_few (turn ∷ h) lawful =
 
 -- ---- The records of a shard
 
--- A line adds at most one record to a shard if it is a put, and none if it isn't.
+-- If a line is a put, it adds at most one record to a shard. Any other line adds none.
 records_by : (l : Line) (e : Entry) (s sh n : ℕ) (rs : List Logged) → length rs ≤ n
     → length (records_after l e s sh rs) ≤ weight e + n
 records_by l (entry.Put stream shard number hash bytes key_bytes) s sh n rs le =

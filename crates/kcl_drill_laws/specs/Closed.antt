@@ -1,6 +1,6 @@
 -- The history of a drill once its threads have ended. The root makes the stream, the feeder puts the records, and the
--- members are the workers. Each of them made its turns with a pass of its own. An account has the number of a pass and
--- the turns that it made. Lists of turns have the newest first.
+-- members are the workers. The root, the feeder and each member have their own pass. An account has the number of a
+-- pass and the turns that were made with this pass. Lists of turns have the newest first.
 use Rattle.std.specs.Prelude.{◌≡◌, ℕ, ◌+◌, ◌*◌, ◌/◌, ◌≤◌, ◌==◌, false, List, ◌∷◌, length, Some}
 use Rattle.std.specs.List.{AllByRecursion}
 use Rattle.kds_defs.specs.declared.command.Command.{Command}
@@ -20,8 +20,8 @@ use Rattle.kcl_live.specs.Records.{AreOnLeasesAt}
 use Rattle.kcl_drill_threads.specs.Feeding.{HasFed, HasFedSoFar}
 use Rattle.kcl_drill.specs.declared.limits.TheConstants.{MEMBER_TURNS, MOST_RECORDS, MOST_WORKERS, RECORDS_A_TURN, TICK}
 
--- The command is one that a drill may give: the commands of the generator, and those on leases. A row that it makes
--- must have the origin TRIM_HORIZON.
+-- A drill may give this command: it is CreateStream, PutRecord, SplitShard or MergeShards, or it is on leases. If it
+-- makes a row, it must ask for the origin TRIM_HORIZON.
 abbrev pub IsDrillCommand : Command → Type 0
 IsDrillCommand (command.Create name count) = Unit {0}
 IsDrillCommand (command.Put name item) = Unit {0}
@@ -38,8 +38,8 @@ AreDrillTurns h = AllByRecursion (λ turn. IsDrillCommand turn.what) h
 abbrev pub IsFew : ℕ → Account → Type 0
 IsFew records a = length a.turns ≤ 3 * (MEMBER_TURNS + records / RECORDS_A_TURN)
 
--- The account is as that of a member whose run has ended: its turns are on leases, the k-th is at k ticks, and they are
--- few enough (`IsFew`). The rows that they make have the origin TRIM_HORIZON.
+-- The account is like that of a member whose run has ended. Its turns are on leases, the k-th turn is at k ticks, and
+-- the turns are few enough (`IsFew`). Each command that makes a row asks for the origin TRIM_HORIZON.
 pub record IsMemberAccount (records : ℕ) (a : Account) : Type 0 where
   pub moments : AreOnLeasesAt TICK a.turns
   pub most : IsFew records a
@@ -51,8 +51,9 @@ all_accounts root feeder members = account root.by root.own ∷ account feeder.b
 
 -- `h` is the history of the drill with the number `number` and `records` records, after all its threads ended without
 -- an error. The root made the first command of the generator and the feeder the others, and each member's account is as
--- it should be (`IsMemberAccount`). `h` has the turns of all these accounts and no others. It is lawful, and goes on
--- from what the feeder has seen. The records and the members are at most as many as a drill may have.
+-- it should be (`IsMemberAccount`). The turns of `h` are exactly those of the root, of the feeder and of the members
+-- (`all_accounts`). `h` is lawful, and goes on from what the feeder has seen. The records and the members are at most
+-- as many as a drill may have.
 pub record IsClosed (number records : ℕ) (root feeder : PassValue) (members : List Account) (h : List Turn) :
     Type 0 where
   pub limit : records ≤ MOST_RECORDS
@@ -65,9 +66,10 @@ pub record IsClosed (number records : ℕ) (root feeder : PassValue) (members : 
   pub all : AreAllBy (all_accounts root feeder members) h
   pub own : IsSplitInto (all_accounts root feeder members) h
 
--- `h` is the history of such a drill whose threads may have ended early. The root and the feeder each made their
--- commands up to some command, each member's account has few enough turns (`IsFew`), and `h` has the turns of all these
--- accounts and no others.
+-- `h` is the history of the drill with the number `number` and `records` records, whose threads may have ended early.
+-- The root and the feeder each made their commands up to some command, and each member's account has few enough turns
+-- (`IsFew`). The turns of `h` are exactly those of the root, of the feeder and of the members (`all_accounts`). The
+-- records and the members are at most as many as a drill may have.
 pub record IsStopped (number records : ℕ) (root feeder : PassValue) (members : List Account) (h : List Turn) :
     Type 0 where
   pub limit : records ≤ MOST_RECORDS

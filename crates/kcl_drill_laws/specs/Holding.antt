@@ -20,9 +20,9 @@ use Rattle.kds_defs.specs.Records.{batch, numbers_of, position_after}
 use Rattle.kds_defs.specs.Shards.{shard_at}
 use Rattle.kds_defs.specs.StreamCommands.{last_number}
 
--- How far the tenure of a key has come. `position` is the position after its reads, `done` is the position after those
--- that are given, and `waiting` are the reads that wait to be given. `ended` says whether the last given one ended the
--- shard. The counter, the checkpoint and the floor are those of its row.
+-- How far the tenure of a key has come. `position` is the position after the tenure's reads, `done` is the position
+-- after its given reads, and `waiting` are its reads that wait to be given. `ended` says whether the last given read
+-- ended the shard. The counter, the checkpoint and the floor are those of the key's row.
 pub record Holding : Type 0 where
   pub by : ℕ
   pub key : ShardRef
@@ -44,8 +44,8 @@ pub record HasRow (log : Journal) (x : Holding) : Type 0 where
   pub checkpoint : now.checkpoint ≡ x.checkpoint
   pub floor : now.floor ≡ x.floor
 
--- In the journal, the tenure is the actor's and of the key, its shard was opened, and it has read and given as far as
--- `x` says.
+-- In the journal, the tenure of `x` belongs to the actor and to the key of `x`. Its shard was opened, and it has read
+-- and given as far as `x` says.
 pub record HasCome (log : Journal) (x : Holding) : Type 0 where
   pub state : TenureState
   pub begun : tenure log x.tenure ≡ Some state
@@ -66,9 +66,9 @@ pub record Holds (log : Journal) (x : Holding) : Type 0 where
 
 -- ---- What the tenure and its row allow
 
--- The tenure may mark its row at the target. A sequence number `q` must be below the position after the given reads and
--- at or above the least number that the row allows, and the row must not be at SHARD_END. For the shard's end, the last
--- given read must have ended the shard.
+-- The tenure may mark its row at the target. For a sequence number `q`, the row isn't at SHARD_END. `q` is below the
+-- position after the given reads, and at or above the least number that the row allows. For the shard's end, the last
+-- given read ended the shard.
 abbrev pub MayMark : Holding → Target → Type 0
 MayMark x (target.At q) = (is_end x.checkpoint ≡ false) × (nat_le x.done q ≡ false)
     × (nat_lt q (least x.checkpoint x.floor) ≡ false)
@@ -80,23 +80,24 @@ abbrev pub MayTake : Journal → Row → Type 0
 MayTake log r = (is_end r.checkpoint ≡ false) × ((r.counter == last_number) ≡ false)
     × ((taken_count log == last_number) ≡ false)
 
--- The parents of the key's shard stand in the way of no opening: each of them was read to its end, or isn't listed at
--- the clock `c`.
+-- The parents of the key's shard don't prevent the shard from being opened: each parent was read to its end, or isn't
+-- listed at the clock `c`.
 abbrev pub ArePast : Journal → ℕ → ShardRef → Type 0
 ArePast log c key = (next : Decision) → past_parents log c key.stream (shard_at log key.stream key.shard) next ≡ next
 
 -- ---- The lines that the tenure's commands leave
 
--- The line of a take at the clock `c`: the actor `by` takes the row `r` of the key for the worker `owner`, which begins
--- the next tenure.
+-- The line of a take at the clock `c`: the actor `by` takes the row `r` of the key for the worker `owner`. The next
+-- tenure begins with this line.
 abbrev pub taken_line : Journal → ℕ → ℕ → ShardRef → Row → ℕ → Line
 taken_line log c by key r owner = plain_line c by (entry.Taken key (taken_count log + 1) (r.counter + 1) owner)
 
--- The line by which the newest tenure opens its shard, at the clock `c` by the actor `by`.
+-- A take right after the journal `log` begins a tenure. This is the line by which the actor `by` opens the shard of
+-- this tenure, at the clock `c`.
 abbrev pub opened_line : Journal → ℕ → ℕ → Line
 opened_line log c by = plain_line c by (entry.Opened (taken_count log + 1))
 
--- The line of the read `r` of the tenure, at the clock `c`. `limit` is the most records that it may return.
+-- The line of the read `r` of the tenure, at the clock `c`. `limit` is the most records that the read may return.
 abbrev pub read_line : ℕ → Holding → ℕ → ReadDone → Line
 read_line c x limit r = plain_line c x.by (entry.Read x.tenure limit r.ended r.numbers)
 
@@ -104,11 +105,12 @@ read_line c x limit r = plain_line c x.by (entry.Read x.tenure limit r.ended r.n
 abbrev pub given_line : ℕ → Holding → Line
 given_line c x = plain_line c x.by (entry.Given x.tenure)
 
--- The line by which the tenure marks its row at the target `to`, at the clock `c`. It raises the row's counter by one.
+-- The line by which the tenure marks its row at the target `to`, at the clock `c`. The mark raises the row's counter by
+-- one.
 abbrev pub marked_line : ℕ → Holding → Target → Line
 marked_line c x to = plain_line c x.by (entry.Marked x.tenure (x.counter + 1) to)
 
--- The decision on a Read of the tenure at its position, for at most `limit` records: it is accepted, with the batch at
+-- The decision on a Read at the tenure's position, for at most `limit` records. The Read is accepted, with the batch at
 -- this position.
 abbrev pub read_here : Journal → ℕ → Holding → ℕ → Decision
 read_here log c x limit =
@@ -124,17 +126,17 @@ IsTakenSo log c by owner key r =
     take_lease log c by key r.counter owner
     ≡ Accepted (taken_line log c by key r owner ∷ []) (reply.Taken (taken_count log + 1) (r.counter + 1) r.checkpoint)
 
--- The shard of the key can be opened: it is listed, and its parents stand in the way of no opening (`ArePast`).
+-- The shard of the key can be opened: it is listed, and its parents don't prevent it from being opened (`ArePast`).
 abbrev pub MayOpen : Journal → ℕ → ShardRef → Type 0
 MayOpen log c key = (is_listed_key log c key ≡ true) × ArePast log c key
 
--- Right after the take of the row `r` at the clock `d`, the opening of the shard at the clock `c` is accepted.
+-- Right after the take of the row `r` at the clock `d`, the opening of the key's shard at the clock `c` is accepted.
 abbrev pub IsOpenedSo : Journal → ℕ → ℕ → ℕ → ℕ → ShardRef → Row → Type 0
 IsOpenedSo log c d by owner key r =
     open_shard (taken_line log d by key r owner ∷ log) c by (taken_count log + 1)
     ≡ Accepted (opened_line log c by ∷ []) reply.Done
 
--- A Read of the tenure at its position is accepted with the batch there, as `read_here` defines.
+-- A Read at the tenure's position is accepted with the batch at this position, as `read_here` defines.
 abbrev pub IsReadSo : Journal → ℕ → Holding → ℕ → Type 0
 IsReadSo log c x limit = read log c x.by x.tenure x.position limit ≡ read_here log c x limit
 
@@ -150,8 +152,8 @@ IsMarkedSo log c x to =
 
 -- ---- How far the tenure has come after each command
 
--- The tenure after it was taken from the row `r` and opened: its position is where reading begins for the row's
--- checkpoint, and no read waits.
+-- The new tenure after the row `r` was taken and its shard was opened. Its position is where reading begins for the
+-- row's checkpoint, and no read waits. `log` is the journal before the take.
 abbrev pub begun_from : Journal → ℕ → ShardRef → Row → Holding
 begun_from log by key r =
     record {

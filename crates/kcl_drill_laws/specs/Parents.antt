@@ -28,7 +28,7 @@ pub record AreCounted (h : List Turn) : Type 0 where
   pub counters : (key : ShardRef) → counter_in (row (journal h) key) ≤ length h
   pub tenures : taken_count (journal h) ≤ length h
 
--- After the history `h`, each shard has at most `MANY_ITEMS` records for each turn. This is how many records one
--- PutRecords may put.
+-- After the history `h`, each shard has at most `MANY_ITEMS` records for each turn. `MANY_ITEMS` is how many records
+-- one PutRecords may put.
 abbrev pub AreFewRecords : List Turn → Type 0
 AreFewRecords h = (s sh : ℕ) → length (records (journal h) s sh) ≤ MANY_ITEMS * length h

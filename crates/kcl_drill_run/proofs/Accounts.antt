@@ -52,7 +52,8 @@ module _ {M P F G : Type 0} where
 
 -- ---- Each number of a pass has an account
 
--- If accounts have the numbers from `from` on, each number from `from` on, as far as there are accounts, has one.
+-- If the accounts `xs` have the numbers from `from` on, then each number from `from` to below `from` plus the number of
+-- accounts has an account.
 has_some : (from n : ℕ) (xs : List Account) → CountFrom from xs → from ≤ n → n < from + length xs → 0 < times n xs
 has_some from n [] are least most = absurd (omega arith)
 has_some from n (a ∷ xs) are least most =

@@ -39,7 +39,7 @@ StoppedIsShort = (number records : ℕ) (root feeder : PassValue) (members : Lis
 short_of : (h seen : List Turn) → Continues h seen → length h < 2 ^ 32 → length seen < 2 ^ 32
 short_of h seen more short = omega (arith, short, ap length more.1, length-append more.0 seen)
 
--- If a history has fewer than 2^32 turns, each worker's pass has seen fewer.
+-- If a history has fewer than 2^32 turns, each worker's pass has seen fewer than 2^32 turns.
 short_members : {M P F G : Type 0} (h last : List Turn) (ms : List (Member M P F G)) → Continues h last
     → length h < 2 ^ 32
     → AllByRecursion (λ m. Continues last m.pass.seen) ms → AllByRecursion (λ m. IsShort m.pass) ms
@@ -73,14 +73,14 @@ module _ (hall : HallValue) (number records : ℕ) (p : Participants) (is : Have
       ∙ ap (λ (js : List Account). account p.root.by p.root.own ∷ account p.feeder.by p.feeder.own ∷ (js ++ xs))
       is.alone.1
 
-  -- The pass `last` speaks for all passes of the hall.
+  -- The pass `last` has an account for each pass of the hall (`HasAll`).
   pub has_all : HasAll hall.passes last
   has_all n least most =
       subst (λ (accounts : List Account). 0 < times n accounts) (sym accounts_are)
       (has_each p.root p.feeder xs is.by.0 is.by.1 (counted hall 3 p.members.items is.passes) n least
       (omega (arith, most, is.all, long)))
 
-  -- In this module, `h` is the history of the closed hall: it has the turns of these accounts and no others.
+  -- In this module, `h` is the history of the closed hall: its turns are exactly those of the accounts of `last`.
   module _ (h : List Turn) (all : AreAllBy (accounts_of last) h) (own : IsSplitInto (accounts_of last) h) where
     -- `h` is the history of a drill whose threads have ended, perhaps early (`IsStopped`).
     is_stopped : IsStopped number records p.root p.feeder xs h

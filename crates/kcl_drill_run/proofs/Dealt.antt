@@ -12,8 +12,8 @@ use Rattle.kcl_drill_run.specs.Participants.{AreDealt, AreMembersOf, IsMemberOf,
 use Rattle.kcl_drill_run.specs.declared.participants.Participants.{Participants}
 
 module _ {M G : Type 0} where
-  -- If there is one worker for each pass, there still is after one more worker with its pass was added. Its name is the
-  -- next number.
+  -- If there is one worker for each pass, this is still so after one more pass and its worker were added. The name of
+  -- the new worker is the next number.
   pub one_more : (name : ℕ) (ps : List PassValue) (ms : List (Member M Stock Kind G)) (p : PassValue)
       (m : Member M Stock Kind G) → AreMembersOf name ps ms
       → IsMemberOf (name + length ms) p m → AreMembersOf name (ps ++ p ∷ []) (ms ++ m ∷ [])
@@ -34,7 +34,7 @@ module _ {M G : Type 0} where
 
 -- ---- The first two passes and the others
 
--- The passes with the numbers from 1 to `n` + 2 are the first, the second, and those from 3 on.
+-- The passes with the numbers from 1 to `n` + 2 are the first, the second, and the passes from 3 on.
 first_two : (hall : HallValue) (n : ℕ) → new_passes hall 1 (n + 2) ≡ new_pass hall.id 1 ∷ new_pass hall.id 2
     ∷ new_passes hall 3 n
 first_two hall n = let e : n + 2 ≡ suc (suc n) = omega arith in ap (new_passes hall 1) e
@@ -53,22 +53,22 @@ pub record IsTaken (from left : List PassValue) (x : PassValue) : Type 0 where
 -- taken first, then the feeder's.
 module _ (hall : HallValue) (workers : ℕ) (all some rest : List PassValue)
     (new : all ≡ new_passes hall 1 (workers + 2)) where
-  -- The passes are the first, the second, and those from 3 on.
+  -- The passes are the first, the second, and the passes from 3 on.
   are_all : all ≡ new_pass hall.id 1 ∷ new_pass hall.id 2 ∷ new_passes hall 3 workers
   are_all = new ∙ first_two hall workers
 
   module _ (root : PassValue) (first : IsTaken all some root) where
-    -- After the root's pass was taken, the second and those from 3 on are left.
+    -- After the root's pass was taken, the second pass and the passes from 3 on are left.
     are_some : some ≡ new_pass hall.id 2 ∷ new_passes hall 3 workers
     are_some = first.left_are ∙ ap (λ xs. remove xs 0) are_all
 
     module _ (feeder : PassValue) (second : IsTaken some rest feeder) where
-      -- After the feeder's pass was taken too, those from 3 on are left.
+      -- After the feeder's pass was taken too, the passes from 3 on are left.
       are_rest : rest ≡ new_passes hall 3 workers
       are_rest = second.left_are ∙ ap (λ xs. remove xs 0) are_some
 
-      -- If the root and the feeder have the passes that were taken, and the workers have those that are left, then the
-      -- passes are dealt out (`AreDealt`).
+      -- If the root and the feeder have the passes that were taken, and the workers have the passes that are left, then
+      -- the passes are dealt out (`AreDealt`).
       pub dealt : (p : Participants) → p.root ≡ root → p.feeder ≡ feeder → AreMembersOf 1 rest p.members.items
           → hall.passes ≡ workers + 2 → workers ≤ 64
           → AreDealt hall p × (length p.members.items ≡ workers)

@@ -26,17 +26,17 @@ use Rattle.kcl_drill_drain.specs.Leased.{HasDrained}
 not_below : (n floor : ℕ) → floor ≡ 0 → nat_lt n floor ≡ false
 not_below n floor is = grind (arith, nat_tests)
 
--- If the floor is 0, each record arrived at or above it.
+-- If the trim floor is 0, no record arrived before it.
 all_above : (floor : ℕ) (rs : List Logged) → floor ≡ 0 → AreAbove floor rs
 all_above floor [] is = tt
 all_above floor (r ∷ rs) is = (not_below r.arrival floor is, all_above floor rs is)
 
--- If the floor is 0, no shard was closed below it.
+-- If the trim floor is 0, no shard was closed before it.
 not_closed : (floor : ℕ) (o : Option Closing) → floor ≡ 0 → was_closed_below floor o ≡ false
 not_closed floor None is = refl
 not_closed floor (Some closing) is = not_below closing.clock floor is
 
--- If the floor is 0, none of the shards was closed below it.
+-- If the trim floor is 0, none of the shards was closed before it.
 none_closed : (floor : ℕ) (xs : List ShardState) → floor ≡ 0
     → AllByRecursion (λ (x : ShardState). is_closed_below floor x ≡ false) xs
 none_closed floor [] is = tt
@@ -65,8 +65,9 @@ module _ (untrimmed : (h : List Turn) (c s : ℕ) → IsHistory h → clock h �
         horizon = horizon;
       }
 
--- Three laws about the history of a drill that the lemmas take as given: further turns on leases leave it one, its
--- summary can be made, and once its shards are drained, the summary is the text that the drill should print.
+-- Three laws about the history of a drill that the lemmas take as given. After further turns on leases, it is still the
+-- history of this drill. Its summary can be made. Once its shards are drained, the summary is the text that the drill
+-- should print.
 pub record HasLaws : Type 0 where
   pub drill : (number records by at : ℕ) (more h : List Turn) → IsDrill h number records → at ≤ clock h
       → AreLeased by at more

@@ -7,8 +7,9 @@ use Rattle.kcl_live.specs.declared.crew.Member.{Member}
 use Rattle.kcl_drill_run.specs.Running.{accounts_in}
 
 module _ {M P F G : Type 0} where
-  -- `old` are the accounts joined so far, and `items` are the workers that remain, of which `m` is the first. After the
-  -- pass of `m` was joined, the accounts joined so far, `now`, and those of the other workers are still all accounts.
+  -- `old` are the accounts joined so far, `now` are these accounts and those of the worker `m`, and `items` are the
+  -- workers that remain, beginning with `m`. If `old` and the accounts of `items` are all accounts, so are `now` and
+  -- the accounts of `rest`, the other workers.
   pub joined_more : (old now total : List Account) (m : Member M P F G) (rest items : List (Member M P F G))
       → now ≡ old ++ accounts_in m → items ≡ m ∷ rest
       → old ++ flat_map accounts_in items ≡ total → now ++ flat_map accounts_in rest ≡ total

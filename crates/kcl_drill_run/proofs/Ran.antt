@@ -31,17 +31,17 @@ abbrev pub FromHorizon : Type 0
 FromHorizon = (by : ℕ) (made : WorkerMade) (past : WorkerPast) → made.settings.from ≡ origin.TrimHorizon
     → AreDrillTurns (turns_in by made past)
 
--- If a result is Ok, what holds if it is Ok holds.
+-- If the result `r` is Ok, and `X` holds in this case, then `X` holds.
 of_ok : {A E : Type 0} (r : Result A E) (X : Type 0) → IsOk r → OnOk r X → X
 of_ok (Ok a) X is x = x
 of_ok (Err e) X is x = absurd cc
 
--- If `X` holds if the result is Ok, so does `Y`, which follows from `X`.
+-- Suppose that `Y` follows from `X`. If `X` holds in case the result is Ok, so does `Y`.
 pub then_ok : {A E : Type 0} (r : Result A E) (X Y : Type 0) → (X → Y) → OnOk r X → OnOk r Y
 then_ok (Ok a) X Y f x = f x
 then_ok (Err e) X Y f x = tt
 
--- If `P` holds of the error of a result, so does `Q`, which follows from `P`.
+-- Suppose that `Q` follows from `P`. If `P` is true of the error of a result, so is `Q`.
 pub then_err : {A E : Type 0} (r : Result A E) (P Q : E → Type 0) → ((e : E) → P e → Q e) → IfErr r P → IfErr r Q
 then_err (Ok a) P Q f p = tt
 then_err (Err e) P Q f p = f e p
@@ -60,7 +60,7 @@ module _ {M G : Type 0} (hall : HallValue) where
       all_ready (name + 1) (from + 1) n ms are.1 k d (omega arith)
 
   module _ (records : ℕ) where
-    -- The run of the worker `b` has ended and left `a`, or `a` is `b`, as if the run wasn't begun.
+    -- The run of the worker `b` has ended and left the worker `a`, or `a` is `b`, as if the run hadn't begun.
     abbrev EndedOrNot : Member M Stock Kind G → Member M Stock Kind G → Type 0
     EndedOrNot b a = HasEnded StockStandsFor (200 + records / 100) 50 b a ⊎ (a ≡ b)
 
@@ -138,14 +138,14 @@ module _ {M G : Type 0} (hall : HallValue) where
 
 -- ---- All threads
 
--- In this module, the passes of the hall were dealt out to the participants `before`, and `after` are these after the
--- threads have ended.
+-- In this module, the passes of the hall were dealt out to the participants `before`, and `after` are the participants
+-- after the threads have ended.
 module _ (hall : HallValue) (number records : ℕ) (before after : Participants) (dealt : AreDealt hall before)
     (limit : records ≤ 1000000)
     (root : IsKept before.root after.root) (feeder : IsKept before.feeder after.feeder)
     (same : length after.members.items ≡ length before.members.items) where
-  -- If the root and the feeder each made their commands up to some command, and the run of each worker has ended or
-  -- wasn't begun, then the threads have ended as `HaveStopped` says.
+  -- Suppose that the root and the feeder each made their commands up to some command, and that the run of each worker
+  -- has ended or wasn't begun. Then the threads have ended as `HaveStopped` says.
   pub have_stopped : HasFedSoFar number records after.root after.feeder
       → HaveEndedOrNot StockStandsFor (200 + records / 100) before.members.items after.members.items
       → HaveStopped hall number records after

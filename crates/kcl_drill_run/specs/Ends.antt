@@ -1,4 +1,4 @@
--- How the runs of a drill's workers ended: each of them without an error, or one of them with an error.
+-- How the runs of a drill's workers ended: each of them without an error, or at least one of them with an error.
 use Rattle.std.specs.Prelude.{◌≡◌, ◌⊎◌, List, [], ◌∷◌, Err, IsOk}
 use Rattle.std.specs.List.{AllByRecursion}
 use Rattle.kds_turn.specs.declared.pass.TurnErr.{TurnErr}

@@ -13,15 +13,16 @@ use Rattle.kcl_worker.specs.Standing.{StandsFor}
 use Rattle.kds_turn.specs.Passes.{HallValue, PassValue, new_pass}
 use Rattle.kcl_drill_run.specs.declared.participants.Participants.{Participants}
 
--- The member is a new worker with the name `name` and the pass `pass`. It has the usual settings, by which it reads
--- each shard from its beginning. Its processors count records and bytes (`Tally`).
+-- The member is a new worker with the name `name` and the pass `pass`. The worker has the usual settings, by which it
+-- reads each shard from the shard's beginning. Its processors count records and bytes (`Tally`).
 pub record IsMemberOf {M G : Type 0} (name : ℕ) (pass : PassValue) (m : Member M Stock Kind G) : Type 0 where
   pub pass_is : m.pass ≡ pass
   pub made : m.worker.made ≡ record { name = name; settings = usual_settings }
   pub tallies : m.worker.maker ≡ kind.Tally
   pub stands : StandsFor StockStandsFor m.worker []
 
--- There is one worker for each of the passes, in their order. Their names are the numbers from `name` on.
+-- There is one worker for each of the passes, in the order of the passes. The workers' names are the numbers from
+-- `name` on.
 abbrev pub AreMembersOf : {M G : Type 0} → ℕ → List PassValue → List (Member M Stock Kind G) → Type 0
 AreMembersOf name [] [] = Unit {0}
 AreMembersOf name (p ∷ ps) (m ∷ ms) = IsMemberOf name p m × AreMembersOf (name + 1) ps ms

@@ -34,8 +34,9 @@ HavePasses hall from [] = Unit {0}
 HavePasses hall from (m ∷ ms) = HasPass hall from m × HavePasses hall (from + 1) ms
 
 -- The threads of the drill with the number `number` and `records` records have ended, perhaps early. The root and the
--- feeder each made their commands up to some command, each worker made few enough turns (`IsFew`), and the passes are
--- those that were dealt out. The hall has no further pass.
+-- feeder each made their commands up to some command, and each worker made few enough turns (`IsFew`). The passes are
+-- those that were dealt out, and the hall has no further pass. The records and the workers are at most as many as a
+-- drill may have.
 pub record HaveStopped (hall : HallValue) (number records : ℕ) (p : Participants) : Type 0 where
   pub limit : records ≤ MOST_RECORDS
   pub at : (p.root.hall ≡ hall.id) × (p.feeder.hall ≡ hall.id)
@@ -90,8 +91,8 @@ pub record AreShort (p : Participants) : Type 0 where
 abbrev pub accounts_in : {M P F G : Type 0} → Member M P F G → List Account
 accounts_in m = accounts_of m.pass
 
--- `last` is the pass of the root after the feeder's pass and then those of the workers were joined into it. It has seen
--- all turns that each of them had seen.
+-- `last` is the pass of the root after the feeder's pass and then those of the workers were joined into it. `last` has
+-- seen all turns that the passes of the root, the feeder and the workers had seen.
 pub record HasTaken (p : Participants) (last : PassValue) : Type 0 where
   pub by : last.by ≡ p.root.by
   pub own : last.own ≡ p.root.own
@@ -101,7 +102,8 @@ pub record HasTaken (p : Participants) (last : PassValue) : Type 0 where
   pub seen_members : AllByRecursion (λ m. Continues last.seen m.pass.seen) p.members.items
 
 -- The machine `w` stands for the history `turns` of the drill with the number `number` and `records` records
--- (`IsDrill`). This history has fewer than 2^32 turns, and each row was made with the origin TRIM_HORIZON.
+-- (`IsDrill`). This history has fewer than 2^32 turns, and each row in its journal was made with the origin
+-- TRIM_HORIZON.
 pub record HasDrilled (number records : ℕ) (w : WorldValue) : Type 0 where
   pub turns : List Turn
   pub stands : StandsFor w turns

@@ -1,5 +1,5 @@
--- A batch and what is left after it: if records have rising sequence numbers, a batch from their front and the records
--- from the position after it on are all of them.
+-- A batch and the records that are left after it. If records have rising sequence numbers, they are the batch that they
+-- begin with, and then the records from the position after this batch on.
 use Rattle.std.proofs.Common.{◌≡◌, ℕ, zero, suc, ◌+◌, ◌-◌, ◌<◌, ◌≤◌, Bool, true, false, List, [], ◌∷◌, ◌++◌, map, refl}
 use Rattle.std.proofs.Common.{sym, ap, ◌∙◌, arith}
 use Rattle.std.specs.Prelude.{not, nat_le, nat_lt, ◌&&◌, cond, if◌then◌else◌}
@@ -16,7 +16,7 @@ use Rattle.kcl_drill.specs.Summed.{bytes_of}
 abbrev pub AreSized : List Logged → Type 0
 AreSized rs = AllByRecursion IsSized rs
 
--- The sequence numbers of the records rise strictly, and the first is at or above the first argument.
+-- The sequence numbers of the records rise strictly, and the first of them is at or above `p`.
 abbrev pub IsUp : ℕ → List Logged → Type 0
 IsUp p [] = Unit {0}
 IsUp p (r ∷ rs) = (p ≤ r.seq) × IsUp (r.seq + 1) rs
@@ -55,7 +55,7 @@ all_from p (r ∷ rs) up =
     ap (λ b. cond b (r ∷ from p rs) (from p rs)) (is_le p r.seq up.0)
     ∙ ap (λ xs. r ∷ xs) (all_from p rs (up_weaker p (r.seq + 1) rs (omega (arith, up.0)) up.1))
 
--- If the numbers of records rise from `p` on, the position after a batch from their front is at or above `p`.
+-- If the numbers of records rise from `p` on, the position after a batch that they begin with is at or above `p`.
 pub position_up : (limit room p : ℕ) (rs : List Logged) → IsUp p rs
     → p ≤ position_after p (numbers_of (beginning limit room rs))
 position_up zero room p rs up = omega arith
@@ -77,8 +77,8 @@ part_head p r rs bs true le up above rest =
     (sym (is_above position r.seq (omega arith)))
 part_head p r rs bs false le up above rest = sym (all_from p (r ∷ rs) (le, up))
 
--- If the numbers of records rise from `p` on, they are a batch from their front, and then the records from the position
--- after it on.
+-- If the numbers of records rise from `p` on, the records are the batch that they begin with, and then the records from
+-- the position after this batch on.
 pub parts : (limit room p : ℕ) (rs : List Logged) → IsUp p rs
     → rs ≡ beginning limit room rs ++ from (position_after p (numbers_of (beginning limit room rs))) rs
 parts zero room p rs up = sym (all_from p rs up)
@@ -98,7 +98,8 @@ twice_head p position r rs le false true is at so =
     absurd (omega (arith, le, le_so position r.seq at, above_so p r.seq is))
 twice_head p position r rs le false false is at so = so
 
--- Of the records from `p` on, those from a later position on are those of all records from this position on.
+-- If `position` isn't below `p`, then those of the records from `p` on that are from `position` on are all records from
+-- `position` on.
 pub from_twice : (p position : ℕ) (rs : List Logged) → p ≤ position → from position (from p rs) ≡ from position rs
 from_twice p position [] le = refl
 from_twice p position (r ∷ rs) le =
@@ -117,8 +118,8 @@ left_all floor p (r ∷ rs) are =
 pub sized_from : (p : ℕ) (rs : List Logged) → AreSized rs → AreSized (from p rs)
 sized_from p rs are = all_filter IsSized (λ (r : Logged). nat_le p r.seq) rs are
 
--- If a batch of at least one record from the front of the records doesn't move the position `p` on, there are no
--- records. A record always fits into a batch.
+-- If a batch may have at least one record, and it doesn't move the position `p` on, there are no records. This is
+-- because one record always fits into a batch.
 pub stuck : (limit p : ℕ) (rs : List Logged) → IsUp p rs → AreSized rs
     → nat_lt p (position_after p (numbers_of (beginning (suc limit) 10485760 rs))) ≡ false → rs ≡ []
 stuck limit p [] up are is = refl
@@ -138,7 +139,7 @@ stuck limit p (r ∷ rs) up are is =
 
 -- ---- Payload bytes
 
--- Two lists of records have as many payload bytes together as each for itself.
+-- Two lists of records together have the payload bytes of the first list plus those of the second.
 pub bytes_append : (xs ys : List Logged) → bytes_of (xs ++ ys) ≡ bytes_of xs + bytes_of ys
 bytes_append [] ys = omega arith
 bytes_append (x ∷ xs) ys = let n = bytes_append xs ys in omega arith

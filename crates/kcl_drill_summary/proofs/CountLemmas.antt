@@ -43,12 +43,13 @@ up_rising p (r ∷ rs) q is = (is.0, up_rising (r.seq + 1) rs q is.1)
 up_drawn : (log : Journal) (s sh : ℕ) → AreDrawn log s sh → IsUp 0 (records log s sh)
 up_drawn log s sh is = up_weaker 0 (start_of (shard_at log s sh)) (records log s sh) (omega arith) (up_rising _ _ _ is)
 
--- If sequence numbers rise from `p` on and stay below `q`, there are at most as many records as numbers between them.
+-- If sequence numbers rise from `p` on and stay below `q`, there are at most as many records as numbers from `p` to
+-- below `q`.
 few_between : (p : ℕ) (rs : List Logged) (q : ℕ) → RiseBetween p rs q → p + length rs ≤ q
 few_between p [] q is = omega arith
 few_between p (r ∷ rs) q is = let n = few_between (r.seq + 1) rs q is.1 in omega (arith, n, is.0)
 
--- Records of bounded sizes have at most 10,485,760 payload bytes for each of them.
+-- Records of bounded sizes have at most 10,485,760 payload bytes for each record.
 pub bytes_few : (rs : List Logged) → AreSized rs → bytes_of rs ≤ 10485760 * length rs
 bytes_few [] are = omega arith
 bytes_few (r ∷ rs) are = let n = bytes_few rs are.1 in omega (arith, n, are.0.0, are.0.1)
@@ -68,7 +69,7 @@ young : (c issued : ℕ) → issued ≡ c → is_expired_token c issued ≡ fals
 young c issued is = grind (arith, nat_tests)
 
 -- If the shard of an iterator can be counted, and the iterator was made at this clock, GetRecords answers with the
--- batch at its position.
+-- batch at the iterator's position.
 pub replied : (log : Journal) (c : ℕ) (iter : Iter) (limit : ℕ) → CanCount log c iter.stream iter.shard
     → iter ≡ iterator_at c iter.stream iter.shard iter.position →
     get_records log c iter limit
@@ -81,7 +82,7 @@ replied log c iter limit can is =
 
 -- ---- The records that are left
 
--- The records of such a shard that are left from a position on are all its records from this position on.
+-- If a shard can be counted, its records that are left from a position on are all its records from this position on.
 pub left_is : (log : Journal) (c s sh p : ℕ) → CanCount log c s sh → left_from log c s sh p ≡ from p (records log s sh)
 left_is log c s sh p can =
     ap (λ b. if b then left_among (trim_floor log c s) p (records log s sh) else []) can.live
@@ -97,16 +98,16 @@ none_so (r ∷ rs) is = absurd cc
 abbrev Adds : ℕ → ℕ → ℕ → ℕ → Type 0
 Adds bound old more new = old + more < bound → new ≡ old + more
 
--- If `old`, `more` and `rest` make up `all`, which is below the bound, and `more` was added to `old`, then the new
--- count and `rest` make up `all`.
+-- Let the sum of `old`, `more` and `rest` be `all`, which is below the bound. If `more` was added to `old`, the sum of
+-- the new count and `rest` is `all`.
 total : (bound old more rest all new : ℕ) → old + (more + rest) ≡ all → all < bound → Adds bound old more new
     → new + rest ≡ all
 total bound old more rest all new is few adds =
     let n = adds (omega arith) in
     omega arith
 
--- If the counts and the records `ls` that are left make up all records, they still do after the first ones of `ls`,
--- `bs`, were counted too. `rest` is then left.
+-- Let the counts and the records `ls` that are left make up all records. This is still so after `bs`, the first records
+-- of `ls`, were counted too, and `rest` is left.
 pub counts_on : (count bytes count' bytes' : ℕ) (ls bs rest all : List Logged) → CountsTo count bytes ls all
     → ls ≡ bs ++ rest → length all < 2 ^ 64 → bytes_of all < 2 ^ 128
     → Adds (2 ^ 64) count (length (map stored bs)) count'
@@ -133,7 +134,7 @@ all_counted count bytes rest all none counts = (
 
 -- ---- One read
 
--- The lemma `read_on` for a read after which the shard ends: reading goes on nowhere.
+-- The lemma `read_on` for a read after which the shard ends: there is no iterator from which reading goes on.
 ended : (log : Journal) (c s sh p reach count bytes count' bytes' : ℕ) (next' : Option Iter) → CanCount log c s sh
     → ends_at log c s sh reach ≡ true → CountsTo count' bytes' (from reach (records log s sh)) (records log s sh)
     → next' ≡ next_above p None → GoesOn log c s sh count' bytes' next'

@@ -33,7 +33,7 @@ listed_there log c s None is = absurd cc
 listed_there log c s (Some x) is = (x, refl)
 
 -- If the shard of the drill's stream can be counted, GetShardIterator with TRIM_HORIZON answers with the iterator at
--- its beginning, the position 0.
+-- the beginning of this shard, the position 0.
 pub iterated : (log : Journal) (c by s sh : ℕ) (name : List ℕ) (a : Result Reply Refusal) → name ≡ drill_name
     → stream_named log drill_name ≡ Some s → CanCount log c s sh
     → a ≡ answer_of (decide log c by (command.GetIterator name sh start.TrimHorizon))
@@ -62,8 +62,8 @@ unfolding refuse◌if◌else◌ NoneIn
 none_if k r true d so = refl
 none_if k r false d so = so
 
--- If the decisions for each value answer with no iterator of the stream `k`, neither do they after a search that may
--- refuse.
+-- Suppose that for each value the decision answers with no iterator of the stream `k`. Then neither does the decision
+-- that takes the value of an option, and refuses if there is none.
 none_with : {A : Type 0} (k : ℕ) (o : Option A) (r : Refusal) (d : A → Decision) → ((x : A) → NoneIn k (d x))
     → NoneIn k (with o or r then d)
 unfolding with◌or◌then◌ NoneIn
@@ -116,8 +116,8 @@ not_counted log c by s key name a is named can told none = either (key.stream ==
         (none_some (iterator_at c s key.shard 0) (sym none
         ∙ here log c by s key.stream key.shard name a is named same (can same) told))
 
--- If the answer has an iterator of the key's stream, and `n` is what is counted from it on, then `n` is the right count
--- for the key (`CountsKey`).
+-- Let the answer have an iterator of the key's stream, and let `n` be what is counted from this iterator on. Then `n`
+-- is the right count for the key (`CountsKey`).
 pub counted : (log : Journal) (c by s : ℕ) (key : ShardRef) (name : List ℕ) (a : Result Reply Refusal) (iter : Iter)
     (n : Count) → name ≡ drill_name → stream_named log drill_name ≡ Some s
     → ((key.stream == s) ≡ true → CanCount log c s key.shard)

@@ -1,5 +1,5 @@
--- Turns that only read leave the journal as it is. So a command after them is answered as it would be right after the
--- history before them.
+-- Turns that only read leave the journal as it is. So a command after such turns is answered as right after the history
+-- before these turns.
 use Rattle.std.proofs.Common.{◌≡◌, ℕ, true, List, [], ◌∷◌, ◌++◌, refl, ap, ◌∙◌, arith}
 use Rattle.std.specs.Prelude.{max, Result, Ok, Err, IfOk, OnErr}
 use Rattle.kds_defs.specs.declared.command.Command.{Command}
@@ -26,7 +26,7 @@ no_lines log c by what is = none_by log c by what _ _ (walk log c by what) is
 clocks : (m c at now : ℕ) → at ≡ now → max c now ≡ max m now → max (max c at) now ≡ max m now
 clocks m c at now is so = omega arith
 
--- After turns that only read, the journal is the one before them, and so is the greater of the clock and their moment.
+-- Turns that only read change neither the journal nor the greater of the clock and the moment of these turns.
 pub leaves : (by at : ℕ) (more h : List Turn) → AreReads by at more → (journal (more ++ h) ≡ journal h)
     × (max (clock (more ++ h)) at ≡ max (clock h) at)
 leaves by at [] h are = (refl, refl)
@@ -41,7 +41,7 @@ leaves by at (turn ∷ more) h are =
 abbrev pub turn_of : ℕ → ℕ → Command → Turn
 turn_of by at what = record { by = by; at = at; what = what }
 
--- The answer to a command after turns that only read is that after the history `h` before them.
+-- A command after turns that only read is answered as after the history `h` before these turns.
 pub answer_is : (by at : ℕ) (more h : List Turn) (what : Command) → AreReads by at more
     → answer (more ++ h) (turn_of by at what) ≡ answer_of (decide (journal h) (max (clock h) at) by what)
 answer_is by at more h what are =
@@ -58,8 +58,8 @@ pub asked : {E : Type 0} (stands : List Turn → Type 0) (stands' : List Turn �
 asked stands stands' by at h what (Ok a) has is = is.0 ∙ answer_is by at has.more h what has.are
 asked stands stands' by at h what (Err e) has is = tt
 
--- If a machine has answered only turns that read since the history `h`, this is still true after one more, whether it
--- was answered or memory ran out.
+-- If a machine has answered only turns that read since the history `h`, this is still true after one more such turn.
+-- The turn may have been answered, or memory may have run out.
 pub has_read : {E : Type 0} (stands : List Turn → Type 0) (stands' : List Turn → Type 0) (by at : ℕ) (h : List Turn)
     (what : Command) (r : Result (Result Reply Refusal) E) → is_reading what ≡ true → (has : HasRead stands by at h)
     → IfOk r (λ a. (a ≡ answer (has.more ++ h) (turn_of by at what)) × stands' (turn_of by at what ∷ (has.more ++ h)))

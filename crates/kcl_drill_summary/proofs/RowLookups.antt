@@ -36,7 +36,7 @@ cut : (b : Bool) (o : Option Row) (key : ShardRef) (r : Row) → ((x : Row) → 
 cut true o key r old there = absurd cc
 cut false o key r old there = old r there
 
--- If a row has its key before a line, the row after the line has it too.
+-- If the row of a key has this key before a line, the row also has this key after the line.
 keyed_after : (log : Journal) (line : Line) (e : Entry) (key : ShardRef) (o : Option Row) (r : Row)
     → ((x : Row) → o ≡ Some x → x.key ≡ key) → row_after log line e key o ≡ Some r → r.key ≡ key
 keyed_after log line (entry.LeaseMade k from) key o r old there =
@@ -148,8 +148,8 @@ first_head log k key ks (Some r) false is same rest =
     let has : same_key r.key key ≡ false = ap (λ j. same_key j key) (keyed log k r is) ∙ same in
     ap (λ b. cond b (Some r) (row_among (rows_at log ks) key)) has ∙ rest
 
--- The first of the rows of the keys `ks` that has the key `key` is the row of this key, if the key is among `ks`.
--- Otherwise there is none.
+-- If the key `key` is among `ks`, the first of the rows of `ks` that has this key is the row of this key. Otherwise no
+-- row has this key.
 first_among : (log : Journal) (ks : List ShardRef) (key : ShardRef)
     → row_among (rows_at log ks) key ≡ (if is_in key ks then row log key else None)
 first_among log [] key = refl

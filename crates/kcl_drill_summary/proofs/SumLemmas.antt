@@ -33,7 +33,7 @@ same_sum : (n count count' bytes bytes' : ℕ) (at at' : Checkpoint) → count �
     → sum n count bytes at ≡ sum n count' bytes' at'
 same_sum n count count' bytes bytes' at at' p q r = λ i. record { no = n; count = p i; bytes = q i; checkpoint = r i }
 
--- What the summary says of the shard of the key, as a list, if the key belongs to the stream `s`. Otherwise it is
+-- What the summary says of the shard of the key, as a list. If the key doesn't belong to the stream `s`, the list is
 -- empty.
 abbrev first_of : Journal → ℕ → ShardRef → List Summed
 first_of log s key = map (summed_key log) (of_stream s (key ∷ []))
@@ -41,8 +41,8 @@ first_of log s key = map (summed_key log) (of_stream s (key ∷ []))
 same_stream : (a b : ℕ) → (a == b) ≡ true → b ≡ a
 same_stream a b h = grind (arith, nat_tests)
 
--- If `found` is the right count for the key (`CountsKey`), and `at` is the checkpoint of the key's row, then the code
--- makes the entry that the summary has for this key (`first_of`).
+-- Let `found` be the right count for the key (`CountsKey`), and let `at` be the checkpoint of the key's row. Then the
+-- code makes the entry that the summary has for this key (`first_of`).
 pub told_is : (log : Journal) (s : ℕ) (key : ShardRef) (among : List Row) (found : Option Count) (at : Checkpoint)
     → among ≡ rows log → CountsKey log s key found → at ≡ checkpoint_in (row_among among key)
     → told_of key found at ≡ first_of log s key
@@ -65,8 +65,9 @@ first_rest log s key keys = either (key.stream == s)
     either true = refl
     either false = refl
 
--- `so_far` are the entries of the keys before the index `i`. With the entry of the key at `i`, they are `now`. These
--- and what the summary says of the keys after it are still all that the summary says.
+-- `so_far` are the entries of the keys before the index `i`, and `now` are these entries with the entry of the key at
+-- `i` added. Suppose that `so_far` and what the summary says of the keys from `i` on are the whole summary. Then so are
+-- `now` and what the summary says of the keys after `i`.
 pub told_more : (log : Journal) (s : ℕ) (so_far now : List Summed) (keys : List ShardRef) (i : ℕ) (key : ShardRef)
     (found : Option Count) (at : Checkpoint) → i < length keys → key ≡ get_or keys i key
     → told_of key found at ≡ first_of log s key → now ≡ so_far ++ told_of key found at

@@ -28,12 +28,12 @@ use Rattle.kcl_drill_summary.proofs.Totals.{bytes_in, few_bytes_in, few_in, reco
 
 -- ---- The number of a listed shard is its index
 
--- The shard `x` of the stream `s` is the one at the index of its number, and it wasn't closed below the trim floor.
+-- The shard `x` of the stream `s` is the one at the index of its number, and it wasn't closed before the trim floor.
 abbrev Stands : Journal → ℕ → ℕ → ShardState → Type 0
 Stands log c s x = (shard_at log s x.no ≡ Some x) × (not (is_closed_below (trim_floor log c s) x) ≡ true)
 
--- If shards are numbered from `n` on, and are those from the index `n` on of all shards, each is at the index of its
--- number.
+-- Let the shards `xs` be numbered from `n` on, and be the shards of `all` from the index `n` on. Then each shard of
+-- `xs` is at the index of its number in `all`.
 stand_at : (all xs : List ShardState) (n : ℕ) → AreNumbered n xs → ((i : ℕ) → slice_get xs i ≡ slice_get all (n + i))
     → AllByRecursion (λ (x : ShardState). slice_get all x.no ≡ Some x) xs
 stand_at all [] n numbers at = tt
@@ -49,7 +49,7 @@ all_stand : (xs : List ShardState) → AreNumbered 0 xs
     → AllByRecursion (λ (x : ShardState). slice_get xs x.no ≡ Some x) xs
 all_stand xs numbers = stand_at xs xs 0 numbers (λ i. let e : i ≡ 0 + i = omega arith in ap (slice_get xs) e)
 
--- Each listed shard of a stream is at the index of its number and wasn't closed below the trim floor (`Stands`).
+-- Each listed shard of a stream is at the index of its number and wasn't closed before the trim floor (`Stands`).
 listed_stand : (log : Journal) (c s : ℕ) (xs : List ShardState)
     → AllByRecursion (λ (x : ShardState). shard_at log s x.no ≡ Some x) xs
     → AllByRecursion (Stands log c s) (listed_among (trim_floor log c s) xs)
@@ -70,8 +70,8 @@ is_listed_at log c s x live stands =
 
 -- ---- The facts about a history that counting relies on
 
--- In each stream, the shards are numbered from 0 on, the sequence numbers of the records rise and are at most the last
--- number, and the sizes of records are bounded.
+-- In each stream, the shards are numbered from 0 on. The sequence numbers of the records rise and are at most the last
+-- number, and the sizes of the records are bounded.
 pub record Facts (log : Journal) : Type 0 where
   pub numbered : (s : ℕ) → AreNumbered 0 (shards log s)
   pub drawn : (s sh : ℕ) → AreDrawn log s sh
@@ -80,7 +80,7 @@ pub record Facts (log : Journal) : Type 0 where
 
 module _ (log : Journal) (facts : Facts log) (c s : ℕ) (whole : (sh : ℕ)
     → AreAbove (trim_floor log c s) (records log s sh)) where
-  -- A listed shard of the stream `s`, if it is live, can be counted.
+  -- If the stream `s` is live, each listed shard of this stream can be counted.
   counts_at : (x : ShardState) → is_live log s ≡ true → Stands log c s x → CanCount log c s x.no
   counts_at x live stands = record {
     live = live;
@@ -91,7 +91,7 @@ module _ (log : Journal) (facts : Facts log) (c s : ℕ) (whole : (sh : ℕ)
     sized = facts.sized s x.no;
   }
 
-  -- If the keys `rest` are countable, so are these with the keys of listed shards of a live stream in front.
+  -- If the keys `rest` are countable, so are the keys of listed shards of a live stream together with `rest`.
   of_shards : (t : ℕ) (xs : List ShardState) (rest : List ShardRef) → is_live log t ≡ true
       → AllByRecursion (Stands log c t) xs → AreCountable log c s rest → AreCountable log c s (refs_of t xs ++ rest)
   of_shards t [] rest live are more = more
@@ -170,8 +170,8 @@ found_above p q n (suc count) s h = either (q n) (p n) refl (λ k. found_above p
     either true false is later h =
         omega (arith, later (ap (λ d. cond d (Some n) (find p (filter q (numbers_from (n + 1) count)))) (sym is) ∙ h))
 
--- If the stream `s` is found among the streams with the numbers from `n` on, then its keys among their listed keys are
--- those of its listed shards.
+-- Let the stream `s` be found among the streams with the numbers from `n` on. Then those of the listed keys of these
+-- streams that belong to `s` are the keys of the listed shards of `s`.
 picked : (log : Journal) (c : ℕ) (p q : ℕ → Bool) (n count s : ℕ) → find p (filter q (numbers_from n count)) ≡ Some s
     → of_stream s (listed_in log c (filter q (numbers_from n count))) ≡ refs_of s (listed_shards log c s)
 picked log c p q n zero s h = absurd cc
@@ -208,7 +208,7 @@ keys_summed : (log : Journal) (s : ℕ) (xs : List ShardState)
 keys_summed log s [] = refl
 keys_summed log s (x ∷ xs) = ap (λ ys. summed_at log s x ∷ ys) (keys_summed log s xs)
 
--- The numbers of the listed ones of shards that are numbered from `n` on rise from `n` on.
+-- If shards are numbered from `n` on, the numbers of the listed ones among them rise from `n` on.
 rise_listed : (n : ℕ) (floor : ℕ) (xs : List ShardState) → AreNumbered n xs
     → RiseFrom n (map (λ (x : ShardState). x.no) (listed_among floor xs))
 rise_listed n floor [] numbers = tt
@@ -223,13 +223,13 @@ rise_listed n floor (x ∷ xs) numbers =
 abbrev numbers_in : List ShardState → List ℕ
 numbers_in xs = map (λ (x : ShardState). x.no) xs
 
--- The number of records in a summary of shards is that of their records.
+-- The total number of records in a summary of shards is the total number of records in these shards.
 counts_in : (log : Journal) (s : ℕ) (xs : List ShardState) → sum_of (λ x. x.count) (map (summed_at log s) xs)
     ≡ records_in log s (numbers_in xs)
 counts_in log s [] = refl
 counts_in log s (x ∷ xs) = ap (λ n. length (records log s x.no) + n) (counts_in log s xs)
 
--- The number of payload bytes in a summary of shards is that of their records.
+-- The total number of payload bytes in a summary of shards is the total number of payload bytes in these shards.
 payload_in : (log : Journal) (s : ℕ) (xs : List ShardState) → sum_of (λ x. x.bytes) (map (summed_at log s) xs)
     ≡ bytes_in log s (numbers_in xs)
 payload_in log s [] = refl
@@ -240,7 +240,7 @@ rise_of : (log : Journal) (c s : ℕ) (b : Bool) → AreNumbered 0 (shards log s
 rise_of log c s true numbers = rise_listed 0 (trim_floor log c s) (shards log s) numbers
 rise_of log c s false numbers = tt
 
--- The sums over all listed shards of a stream are below 2^128.
+-- All listed shards of a stream together have fewer than 2^128 records and fewer than 2^128 payload bytes (`AreFew`).
 sums_few : (log : Journal) → Facts log → (c s : ℕ) → AreFew (map (summed_at log s) (listed_shards log c s))
 sums_few log facts c s =
     let shs = numbers_in (listed_shards log c s) in

@@ -1,5 +1,5 @@
--- The shards of a stream have fewer records together than the stream's next sequence number, so their total fits into
--- 64 bits.
+-- The total number of records in the shards of a stream is below the stream's next sequence number, so it fits into 64
+-- bits.
 use Rattle.std.proofs.Common.{◌≡◌, ℕ, ◌+◌, ◌*◌, ◌<◌, ◌≤◌, ◌^◌, Bool, true, false, List, [], ◌∷◌, ◌++◌, length, refl, ap}
 use Rattle.std.proofs.Common.{arith}
 use Rattle.std.specs.Prelude.{◌==◌, ◌&&◌, if◌then◌else◌}
@@ -15,12 +15,12 @@ use Rattle.kcl_drill.specs.Summed.{bytes_of}
 use Rattle.kcl_drill_summary.proofs.BatchLemmas.{AreSized}
 use Rattle.kcl_drill_summary.proofs.CountLemmas.{bytes_few}
 
--- The number of records of these shards of the stream `s` together.
+-- The total number of records in these shards of the stream `s`.
 abbrev pub records_in : Journal → ℕ → List ℕ → ℕ
 records_in log s [] = 0
 records_in log s (sh ∷ shs) = length (records log s sh) + records_in log s shs
 
--- The number of payload bytes of these shards of the stream `s` together.
+-- The total number of payload bytes in these shards of the stream `s`.
 abbrev pub bytes_in : Journal → ℕ → List ℕ → ℕ
 bytes_in log s [] = 0
 bytes_in log s (sh ∷ shs) = bytes_of (records log s sh) + bytes_in log s shs
@@ -40,7 +40,8 @@ bit b = if b then 1 else 0
 abbrev one_at : ℕ → ℕ → ℕ
 one_at sh n = bit (sh == n)
 
--- If `g` is `f` plus 1 at `sh` alone, and `sh` is below all numbers of the list, both have the same sum over it.
+-- If `g` is `f` plus 1 at `sh` alone, and `sh` is below all numbers of the list, then `f` and `g` have the same sum
+-- over the list.
 none_above : (f g : ℕ → ℕ) (sh m : ℕ) (xs : List ℕ) → sh < m → RiseFrom m xs → ((n : ℕ) → g n ≡ f n + one_at sh n)
     → sums g xs ≡ sums f xs
 none_above f g sh m [] below rise is = refl
@@ -79,7 +80,7 @@ lengths_if : (b : Bool) (before : List Logged) (r : Logged) → length (if b the
 lengths_if true before r = length-append before (r ∷ [])
 lengths_if false before r = omega arith
 
--- A line adds to the records of these shards together at most as many as it takes sequence numbers of the stream.
+-- A line adds at most as many records to these shards together as it takes sequence numbers of the stream.
 more_by : (line : Line) (log : Journal) (e : Entry) (s m : ℕ) (shs : List ℕ) → RiseFrom m shs
     → sums (λ sh. length (records_after line e s sh (records log s sh))) shs ≤ draws e s
     + sums (λ sh. length (records log s sh)) shs
@@ -109,7 +110,7 @@ none_yet : (s : ℕ) (shs : List ℕ) → sums (λ sh. length (records [] s sh))
 none_yet s [] = refl
 none_yet s (sh ∷ shs) = let rest = none_yet s shs in omega arith
 
--- The shards of a stream have fewer records together than the stream's next sequence number.
+-- The total number of records in shards of a stream with rising numbers is below the stream's next sequence number.
 below_next : (log : Journal) (s m : ℕ) (shs : List ℕ) → RiseFrom m shs
     → sums (λ sh. length (records log s sh)) shs < next_number log s
 below_next [] s m shs rise = omega (arith, none_yet s shs)
@@ -123,7 +124,7 @@ few_in log s m shs fits rise = omega (arith, in_sums log s shs, below_next log s
 
 -- ---- Payload bytes
 
--- The records of these shards have together at most 10,485,760 payload bytes for each record.
+-- The total number of payload bytes in these shards is at most 10,485,760 for each record.
 pub few_bytes_in : (log : Journal) (s : ℕ) (shs : List ℕ) → ((sh : ℕ) → AreSized (records log s sh))
     → bytes_in log s shs ≤ 10485760 * records_in log s shs
 few_bytes_in log s [] sized = omega arith

@@ -26,8 +26,8 @@ use Rattle.kcl_drill.specs.Generated.{drill_name}
 use Rattle.kcl_drill.specs.Summed.{Summed, summed, sum_of, bytes_of}
 use Rattle.kcl_drill_summary.specs.declared.counting.Count.{Count}
 
--- The counts `count` and `bytes` are right so far: with the number and the payload bytes of the records `rest`, which
--- aren't counted yet, they are those of the records `all`.
+-- The counts `count` and `bytes` are right so far. With the records `rest`, which aren't counted yet, they make up the
+-- number and the payload bytes of the records `all`.
 pub record CountsTo (count bytes : ℕ) (rest all : List Logged) : Type 0 where
   pub records : count + length rest ≡ length all
   pub payload : bytes + bytes_of rest ≡ bytes_of all
@@ -38,13 +38,13 @@ abbrev pub next_above : ℕ → Option Iter → Option Iter
 next_above position None = None
 next_above position (Some next) = if nat_lt position next.position then Some next else None
 
--- Each of the records arrived at or above the floor, so none is trimmed.
+-- None of the records arrived before the trim floor `floor`, so none is trimmed.
 abbrev pub AreAbove : ℕ → List Logged → Type 0
 AreAbove floor rs = AllByRecursion (λ (r : Logged). nat_lt r.arrival floor ≡ false) rs
 
 -- The records of the shard `sh` of the stream `s` can be counted at the clock `c`: the stream is live, the shard is
--- listed, and none of its records is trimmed. Their sequence numbers rise and are at most the last number, and their
--- sizes are bounded.
+-- listed, and none of its records is trimmed. The sequence numbers of the records rise, and their sizes are bounded.
+-- The stream's next sequence number is at most the last number.
 pub record CanCount (log : Journal) (c s sh : ℕ) : Type 0 where
   pub live : is_live log s ≡ true
   pub listed : is_listed log c s sh ≡ true
@@ -53,29 +53,30 @@ pub record CanCount (log : Journal) (c s sh : ℕ) : Type 0 where
   pub fits : next_number log s ≤ last_number
   pub sized : AllByRecursion IsSized (records log s sh)
 
--- Reading the shard `sh` of the stream `s` goes on at the iterator `next`, after `count` records with `bytes` payload
--- bytes. These and the records that are left from `next` on make up all records of the shard (`CountsTo`). Without an
--- iterator (None), the counts are those of all records of the shard.
+-- Reading the shard `sh` of the stream `s` goes on at the iterator `next`, which was made at the clock `c`, after
+-- `count` records with `bytes` payload bytes. These records and those left from `next` on are all records of the shard
+-- (`CountsTo`). Without an iterator (None), the counts are those of all records of the shard.
 abbrev pub GoesOn : Journal → ℕ → ℕ → ℕ → ℕ → ℕ → Option Iter → Type 0
 GoesOn log c s sh count bytes None = (count ≡ length (records log s sh)) × (bytes ≡ bytes_of (records log s sh))
 GoesOn log c s sh count bytes (Some next) =
     (next ≡ iterator_at c s sh next.position)
     × CountsTo count bytes (left_from log c s sh next.position) (records log s sh)
 
--- The iterator in the answer to GetShardIterator, if the answer has one and it is one of the stream `s`.
+-- The iterator in the answer to GetShardIterator. It is None if the answer has no iterator, or one of another stream
+-- than `s`.
 abbrev pub iterator_in : Result Reply Refusal → ℕ → Option Iter
 iterator_in (Ok (reply.Iterator iter)) s = if iter.stream == s then Some iter else None
 iterator_in _ s = None
 
--- What was counted for the key is right. If the key belongs to the stream `s`, the count is that of the records of its
--- shard and of their payload bytes. If it doesn't, there is no count (None).
+-- What was counted for the key is right. If the key belongs to the stream `s`, the count has the number of records in
+-- the key's shard and the number of their payload bytes. If the key doesn't belong to `s`, there is no count (None).
 abbrev pub CountsKey : Journal → ℕ → ShardRef → Option Count → Type 0
 CountsKey log s key None = (key.stream == s) ≡ false
 CountsKey log s key (Some n) =
     ((key.stream == s) ≡ true) × (n.count ≡ length (records log s key.shard))
     × (n.bytes ≡ bytes_of (records log s key.shard))
 
--- The records of the shard of each key that belongs to the stream `s` can be counted (`CanCount`).
+-- If a key belongs to the stream `s`, the records of its shard can be counted (`CanCount`).
 abbrev pub AreCountable : Journal → ℕ → ℕ → List ShardRef → Type 0
 AreCountable log c s keys =
     AllByRecursion (λ (key : ShardRef). (key.stream == s) ≡ true → CanCount log c s key.shard) keys
@@ -99,14 +100,14 @@ told_of key (Some n) at = record { no = key.shard; count = n.count; bytes = n.by
 abbrev pub AreFew : List Summed → Type 0
 AreFew xs = (sum_of (λ x. x.count) xs < 2 ^ 128) × (sum_of (λ x. x.bytes) xs < 2 ^ 128)
 
--- The history `h` is lawful, and after it the drill's stream is live (it is `stream`). At the clock `c`, none of its
--- records is trimmed.
+-- The history `h` is lawful, and after it the drill's stream is live (`stream` is its number). At the clock `c`, none
+-- of the stream's records is trimmed.
 pub record CanSum (h : List Turn) (c : ℕ) : Type 0 where
   pub lawful : IsHistory h
   pub stream : ℕ
   pub named : stream_named (journal h) drill_name ≡ Some stream
   pub whole : (sh : ℕ) → AreAbove (trim_floor (journal h) c stream) (records (journal h) stream sh)
 
--- The first of the rows that has the key `key`, or None if none has it.
+-- The first of the rows whose key is `key`, or None if no row has this key.
 abbrev pub row_among : List Row → ShardRef → Option Row
 row_among rows key = find (λ (r : Row). same_key r.key key) rows

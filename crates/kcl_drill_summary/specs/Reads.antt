@@ -16,8 +16,8 @@ is_reading _ = false
 abbrev pub AreReads : ℕ → ℕ → List Turn → Type 0
 AreReads by at more = AllByRecursion (λ turn. (turn.by ≡ by) × (turn.at ≡ at) × (is_reading turn.what ≡ true)) more
 
--- The machine has answered the history `h` and then only turns of the actor `by` at the moment `at` that read. `stands`
--- says which histories the machine stands for.
+-- The machine has answered the history `h` and then only turns of the actor `by` at the moment `at` that only read.
+-- `stands` says which histories the machine stands for.
 pub record HasRead (stands : List Turn → Type 0) (by at : ℕ) (h : List Turn) : Type 0 where
   pub more : List Turn
   pub stands_now : stands (more ++ h)

@@ -24,9 +24,9 @@ use Rattle.kcl_drill_summary.specs.Counting.{AreCountable, CanCount, CountsKey, 
 use Rattle.kcl_drill_summary.specs.Counting.{summed_key}
 use Rattle.kcl_drill_summary.specs.Reads.{HasRead}
 
--- `a` is the answer to a read at `position`. If it has a batch, `count'` and `bytes'` are the counts with the batch
--- added, as long as these sums are below 2^64 and 2^128. `next'` is the iterator from which reading goes on
--- (`next_above`).
+-- `a` is the answer to a read at `position`. If `a` has a batch, `count'` and `bytes'` are the counts with the records
+-- of this batch added, as long as these sums are below 2^64 and 2^128. `next'` is the iterator from which reading goes
+-- on (`next_above`).
 abbrev pub Absorbs : ℕ → ℕ → ℕ → Result Reply Refusal → ℕ → ℕ → Option Iter → Type 0
 Absorbs count bytes position a count' bytes' next' =
     (batch : List Stored) (next : Option Iter) (behind : ℕ) (children : List Shard)
@@ -35,9 +35,9 @@ Absorbs count bytes position a count' bytes' next' =
     × (bytes + bytes_of (map logged batch) < 2 ^ 128 → bytes' ≡ bytes + bytes_of (map logged batch))
     × (next' ≡ next_above position next)
 
--- The step reads once from the iterator `iter`, after `count` was counted. If the counts and what is left from `iter`
--- on make up all records of the shard (`GoesOn`), the new counts and what is left still do. `result` has them, and the
--- iterator from which reading goes on.
+-- The step reads once from the iterator `iter`, after `count` was counted. Suppose that the counts and the records left
+-- from `iter` on make up all records of the shard (`GoesOn`). Then so do the new counts and the records that are left
+-- after the step. `result` has the new counts and the iterator from which reading goes on.
 abbrev pub ReadsOn : {E : Type 0} → (List Turn → Type 0) → ℕ → ℕ → Iter → Count → Result (Count × Option Iter) E
     → Type 0
 ReadsOn stands by at iter count result =
@@ -45,8 +45,8 @@ ReadsOn stands by at iter count result =
     → GoesOn (journal h) (max (clock h) at) iter.stream iter.shard count.count count.bytes (Some iter)
     → IfOk result (λ r. GoesOn (journal h) (max (clock h) at) iter.stream iter.shard r.0.count r.0.bytes r.1)
 
--- The step counts a shard, if the iterator `from` is at its beginning and its records can be counted. `result` has the
--- number of all its records and of their payload bytes.
+-- If the iterator `from` is at the beginning of a shard whose records can be counted, the step counts these records.
+-- `result` has their number and the number of their payload bytes.
 abbrev pub CountsFrom : {E : Type 0} → (List Turn → Type 0) → ℕ → ℕ → Iter → Result Count E → Type 0
 CountsFrom stands by at from result =
     (h : List Turn) → HasRead stands by at h → CanCount (journal h) (max (clock h) at) from.stream from.shard
@@ -54,16 +54,16 @@ CountsFrom stands by at from result =
     → IfOk result (λ n. (n.count ≡ length (records (journal h) from.stream from.shard))
     × (n.bytes ≡ bytes_of (records (journal h) from.stream from.shard)))
 
--- The step counts the shard of the key, if the key belongs to the drill's stream. `result` has its count (`CountsKey`).
--- If the key belongs to another stream, it has none.
+-- If the key belongs to the drill's stream, the step counts the records of the key's shard, and `result` has the count
+-- (`CountsKey`). If the key belongs to another stream, `result` has no count.
 abbrev pub FindsCount : {E : Type 0} → (List Turn → Type 0) → ℕ → ℕ → ShardRef → Result (Option Count) E → Type 0
 FindsCount stands by at key result =
     (h : List Turn) (s : ℕ) → HasRead stands by at h → stream_named (journal h) drill_name ≡ Some s
     → ((key.stream == s) ≡ true → CanCount (journal h) (max (clock h) at) s key.shard)
     → IfOk result (λ found. CountsKey (journal h) s key found)
 
--- The summary of the drill's stream, `s`, can be made from the history `h`: the machine has only read since `h`,
--- `among` are all rows after it, and the shards of those `keys` that belong to `s` can be counted.
+-- The summary of the drill's stream, `s`, can be made from the history `h`. The machine has only read since `h`,
+-- `among` are all rows after `h`, and the shards of those `keys` that belong to `s` can be counted.
 pub record CanTell (stands : List Turn → Type 0) (by at : ℕ) (h : List Turn) (s : ℕ) (keys : List ShardRef)
     (among : List Row) : Type 0 where
   pub read : HasRead stands by at h

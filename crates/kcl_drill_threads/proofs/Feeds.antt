@@ -17,8 +17,8 @@ use Rattle.kcl_drill_threads.proofs.Passing.{none_before_one}
 
 -- ---- The root
 
--- The root made the first of the commands `coming` as its only turn, and this is the newest turn that it has seen.
--- `left` are the other commands.
+-- The root made the first of the commands `coming`, if there is one, as its only turn. This is the newest turn that the
+-- root has seen. `left` are the other commands.
 pub record HasMadeFirst (coming left : List Command) (p : PassValue) : Type 0 where
   pub asked : HasAsked (take 1 coming) p
   pub left_are : left ≡ drop 1 coming
@@ -61,8 +61,8 @@ learned root feeder older seen later none =
 -- ---- The feeder
 
 -- The feeder's pass was `before` and is `now`. It made the commands of `all` that come before `left`, in order, and no
--- others. It had no turn of its own in what it had seen before, and has made no turn yet, or its own last turn is the
--- newest that it has seen.
+-- others. If it has made a turn, it had seen no turn of its own at `before`, and its own last turn is the newest that
+-- it has seen.
 pub record IsFeeding (all left : List Command) (before now : PassValue) : Type 0 where
   pub kept : IsKept before now
   pub made : List Command

@@ -33,11 +33,11 @@ none_before_one n turn older by one =
 
 -- ---- A pass later
 
--- A pass that is unchanged is the pass later (`IsKept`).
+-- A pass that is unchanged is this pass at a later time (`IsKept`).
 pub kept_same : (p : PassValue) → IsKept p p
 kept_same p = record { hall = refl; by = refl; joined = refl; seen = ([], refl) }
 
--- If `b` is the pass `a` later, and `c` is `b` later, then `c` is `a` later.
+-- If `b` is the pass `a` at a later time, and `c` is `b` at a later time, then `c` is `a` at a later time.
 pub kept_all : (a b c : PassValue) → IsKept a b → IsKept b c → IsKept a c
 kept_all a b c p q =
     record {

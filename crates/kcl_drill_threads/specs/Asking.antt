@@ -11,8 +11,8 @@ use Rattle.kds_turn.specs.declared.pass.TurnErr.TheVariants as failed
 use Rattle.kds_turn.specs.Known.{Continues}
 use Rattle.kds_turn.specs.Passes.{PassValue, IsAnswered}
 
--- The pass `after` is `before` later: it has the same hall, number and joined passes, and has seen the same turns and
--- perhaps more.
+-- `after` is the pass `before` at a later time: it has the same hall, number and joined passes, and has seen the same
+-- turns and perhaps more.
 pub record IsKept (before after : PassValue) : Type 0 where
   pub hall : after.hall ≡ before.hall
   pub by : after.by ≡ before.by
@@ -23,7 +23,7 @@ pub record IsKept (before after : PassValue) : Type 0 where
 abbrev pub turn_of : ℕ → Command → Turn
 turn_of by what = record { by = by; at = 0; what = what }
 
--- The commands as turns of the actor `by` at the moment 0. The last command is the newest turn, so it comes first.
+-- The commands as turns of the actor `by` at the moment 0. The last command is the newest turn, so it stands first.
 abbrev pub turns_of : ℕ → List Command → List Turn
 turns_of by commands = map (turn_of by) (reverse commands)
 
@@ -35,21 +35,21 @@ HasAsked commands p = p.own ≡ turns_of p.by commands
 abbrev pub HasBegun : List Command → PassValue → Type 0
 HasBegun commands p = (n : ℕ) × HasAsked (take n commands) p
 
--- What became of the generator's next command, where `coming` are the commands that were to come and `left` those that
--- still are. If the Bool is true, the first one became a turn of the pass and was answered. If it is false, no command
--- was to come, and the pass is unchanged.
+-- What became of the generator's next command. `coming` are the commands that were to come, and `left` are those that
+-- are still to come. If the Bool is true, the first command of `coming` became a turn of the pass and was answered. If
+-- the Bool is false, no command was to come, and the pass is unchanged.
 abbrev pub Asks : Bool → List Command → List Command → PassValue → PassValue → Type 0
 Asks true coming left before after =
     (what : Command) × (coming ≡ what ∷ left) × (a : Result Reply Refusal)
     × IsAnswered (turn_of before.by what) a before after
 Asks false coming left before after = (coming ≡ []) × (left ≡ []) × (after ≡ before)
 
--- The error `e` of a turn of the pass `p` is Spent exactly if the pass has seen 2^64 - 1 turns, as many as can be
+-- The error `e` of a turn of the pass `p` is Spent exactly if the pass has seen 2^64 - 1 turns. No more turns can be
 -- counted.
 abbrev pub IsTurnErr : PassValue → TurnErr → Type 0
 IsTurnErr p e = (e ≡ failed.Spent) ↔ (length p.seen + 1 ≡ 2 ^ 64)
 
--- The reason for the error `e` with which a command became no turn: the generator ran out of memory, and the pass is
--- unchanged, or the turn failed (`IsTurnErr`).
+-- The reason for the error `e` with which a command became no turn. Either the generator ran out of memory and the pass
+-- is unchanged, or the turn failed (`IsTurnErr`).
 abbrev pub IsAskErr : PassValue → PassValue → TurnErr → Type 0
 IsAskErr before after e = ((e ≡ failed.Memory) × (after ≡ before)) ⊎ IsTurnErr after e

@@ -23,8 +23,8 @@ pub record HasFed (number records : ℕ) (root feeder : PassValue) : Type 0 wher
   pub of_feeder : HasAsked (drop 1 (generated number records)) feeder
   pub after : IsAfter root feeder
 
--- The root and the feeder each made their commands up to some command, perhaps none. If the feeder made one, it was
--- after the root's.
+-- The root and the feeder each made their commands up to some command, perhaps none. If the feeder made a command, all
+-- its commands came after the root's (`IsAfter`).
 pub record HasFedSoFar (number records : ℕ) (root feeder : PassValue) : Type 0 where
   pub of_root : HasBegun (take 1 (generated number records)) root
   pub of_feeder : HasBegun (drop 1 (generated number records)) feeder
@@ -43,9 +43,9 @@ pub record IsAtOwn (p : PassValue) : Type 0 where
 abbrev pub IsFeedErr : PassValue → TurnErr → Type 0
 IsFeedErr p e = ((e ≡ failed.Memory) × ((p.own ≡ []) ⊎ IsAtOwn p)) ⊎ IsTurnErr p e
 
--- The feeder's pass `before` became `after`. If the result is Ok, the feeder made all of the commands `coming`, and
--- after an error those up to some command. If it made one, it had no turn of its own among the turns that it had seen
--- before.
+-- The feeder's pass `before` became `after`. If the result is Ok, the feeder made all of the commands `coming`. If it
+-- is an error, the feeder made these commands up to some command, and `err` is the reason. If the feeder made a
+-- command, it had seen no turn of its own before.
 pub record Feeds {A : Type 0} (coming : List Command) (before after : PassValue) (result : Result A TurnErr) :
     Type 0 where
   pub kept : IsKept before after

@@ -1,5 +1,5 @@
--- If a hand-off has freed its row, everything that was given in its tenure is at or below the row's checkpoint, and
--- isn't read again in a later tenure.
+-- If a hand-off has freed its row, everything that was given in the hand-off's tenure is at or below the row's
+-- checkpoint, and isn't read again in a later tenure.
 use Rattle.std.proofs.Common.{◌≡◌, ℕ, ◌+◌, ◌≤◌, true, List, [], ◌∷◌, ◌++◌, take, drop, Option, Some, None, refl, sym}
 use Rattle.std.proofs.Common.{ap, subst, ◌∙◌, arith, inl, inr}
 use Rattle.std.proofs.Common.{append_assoc}
@@ -122,7 +122,8 @@ one_marked by h lawful x step lease marked T r begun own there = λ n given.
     lease begun there marked
     (subst (RiseFrom 0) done rise) (subst (IsAmong n) done (read_among n (given_reads T) given))
 
--- The tenure of a consumer that belongs to a tenure of the actor `by` is that of the actor.
+-- If a consumer belongs to a tenure of the actor `by` (`IsOfTenure`), the state of this tenure in the journal names the
+-- actor `by`.
 own_tenure : (by : ℕ) (h : List Turn) (made : Tenancy) (T : TenureState) → tenure (journal h) made.tenure ≡ Some T
     → IsOfTenure by h made → (T.by == by) ≡ true
 own_tenure by h made T begun of =
@@ -145,8 +146,9 @@ each_handed by h lawful [] ok steps served = tt
 each_handed by h lawful (x ∷ xs) ok steps served =
     (one_handed by h lawful x ok.0 steps.0 served.0, each_handed by h lawful xs ok.1 steps.1 served.1)
 
--- Let the turns of the actor `by` be the commands of the joint record. Then for each hand-off that has freed its row,
--- what was handed over is given, and what was given is at or below the row's checkpoint (`IsHandedOffIfFreed`).
+-- Assume that the turns of the actor `by` in the history `h` are the commands of the joint record. For each hand-off
+-- that has freed its row, each batch that was handed over is given, and what was given is at or below the row's
+-- checkpoint (`IsHandedOffIfFreed`).
 pub all_handed : (by : ℕ) (h : List Turn) (made : WorkerMade) (past : JointPast) → IsHistory h → AreOrderly made past
     → AreToldIn by h made past → AllByRecursion (IsHandedOffIfFreed by h) (hands_after made past)
 all_handed by h made past lawful orderly told =
@@ -183,8 +185,9 @@ each_again by h before lawful [] all = tt
 each_again by h before lawful (x ∷ xs) all =
     (one_again by h before lawful x all.0, each_again by h before lawful xs all.1)
 
--- Let the turns of the actor `by` in `before` be the commands of the joint record. Then for each hand-off that has
--- freed its row, what was given in its tenure isn't read in a tenure of its key that begins right after `before`.
+-- Assume that the turns of the actor `by` in `before` are the commands of the joint record. For each hand-off that has
+-- freed its row, what was given in the hand-off's tenure isn't read in a tenure of the same key that begins right after
+-- `before`.
 pub all_again : (by : ℕ) (h before : List Turn) (made : WorkerMade) (past : JointPast) → IsHistory h → IsHistory before
     → AreOrderly made past → AreToldIn by before made past
     → AllByRecursion (IsNeverReadAgain by h before) (hands_after made past)

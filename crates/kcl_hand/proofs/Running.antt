@@ -29,13 +29,14 @@ use Rattle.kcl_hand.proofs.Handings.{freed_few, freed_goes, goes, lost_leaves, m
 
 -- ---- The hand-off that began last
 
--- If the hand-off `x` is added at the end, the command at its index is its own next command.
+-- If the hand-off `x` is added at the end of `hands`, the next command of the last hand-off is that of `x`.
 pub command_last : (hands : List HandOff) (x : HandOff)
     → command_in (length hands) (hands ++ (x ∷ [])) ≡ hand_command x.held x.made (state_of x)
 command_last [] x = refl
 command_last (y ∷ ys) x = command_last ys x
 
--- If the hand-off `x` is added at the end, an event at its index happens to it and to no other.
+-- If the hand-off `x` is added at the end of `hands`, an event of the last hand-off happens to `x` and to no other
+-- hand-off.
 pub event_last : (hands : List HandOff) (x : HandOff) (event : HandEvent)
     → with_hand_event (length hands) event (hands ++ (x ∷ [])) ≡ hands ++ (record x { since = event ∷ x.since } ∷ [])
 event_last [] x event = refl
@@ -51,7 +52,8 @@ hands_with key made past r which (event ∷ since) =
     ap (with_hand_event (length (hands_after made past)) event) (hands_with key made past r which since)
     ∙ event_last (hands_after made past) (hand_of r since) event
 
--- When the newest hand-off takes the answer to its next command, this command and its answer are added as the newest.
+-- When the newest hand-off takes the answer to its next command, this command and the answer are added to the joint
+-- record's commands as the newest.
 pub deals_with_hand : (key : ShardRef) (made : WorkerMade) (past : JointPast) (r : Release)
     → released key (worker_in made past) ≡ Some r → (since : HandPast) (what : Command) (answer : Result Reply Refusal)
     → hand_command r.held r.known.made (state_of (hand_of r since)) ≡ Some what
@@ -78,8 +80,8 @@ OnWay x n = IsOnWay (state_of x) (stage_after x.made (state_of x).past) n
 Q : HandOff → ℕ → HandState → Type 0
 Q x n s = IsOnWay s (stage_after x.made s.past) n × (due_call (stage_after x.made s.past) ≡ None)
 
--- If a processor call is due, the hand-off is still on its way to its end after this call (`IsOnWay`), with no more
--- turns left, and no further call is due.
+-- If a processor call is due, the hand-off is still on its way to its end after this call (`IsOnWay`), with at most `n`
+-- turns left as before. No further call is due.
 called_here : (x : HandOff) (n : ℕ) (s : HandState) → IsOnWay s (stage_after x.made s.past) n
     → IsSome (due_call (stage_after x.made s.past)) → s.stand ≡ stand.Consumer
     → Q x n (called_at x.held x.made ask.None s stand.Consumer)
@@ -118,7 +120,8 @@ stops x stage (stand.Mark q) going l due none = absurd cc
 stops x stage (stand.Free counter) going l due none = absurd cc
 stops x stage (stand.Ended left) going l due none = refl
 
--- After the answer to the next command, the hand-off is on its way to its end with one turn less.
+-- The hand-off was on its way to its end with at most `n + 1` turns left. After the answer to its next command, it is
+-- still on its way, with at most `n` turns left.
 answered_way : (x : HandOff) (n : ℕ) (s : HandState) (st : Stand) (what : Command) (a : Result Reply Refusal)
     → s.stand ≡ st → IsOnWay s (stage_after x.made s.past) (suc n) → due_call (stage_after x.made s.past) ≡ None
     → command_at x.held x.made (stage_after x.made s.past) st ≡ Some what

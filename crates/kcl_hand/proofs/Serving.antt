@@ -160,9 +160,9 @@ hand_ok n event hands w deals may taken ok = record {
       (all_left (InStep deals) (map known_in hands) w.retired ok.fine.good.over) ok.handed;
 }
 
--- After a joint record of calls that meet their preconditions, each tenure has at most one consumer, all records agree
--- with the commands, and no Give was refused (`JointOk`). Each tenure that an answer began must be new, and each
--- refused Give must have had no read to give.
+-- Assume that each tenure that an answer began was new, and that each refused Give came when no read of its tenure
+-- waited to be given. Then after a joint record of calls that meet their preconditions, each tenure has at most one
+-- consumer, all records agree with the commands, and no Give was refused (`JointOk`).
 pub joint_ok : (made : WorkerMade) (past : JointPast) → AreOrderly made past → AreNewTenures (joint_deals made past)
     → AreGivesTaken (joint_deals made past)
     → JointOk (joint_deals made past) (hands_after made past) (worker_in made past)
@@ -234,8 +234,8 @@ hands_served by h (x ∷ xs) begun all =
     let t = of_tenancy by h x.made begun.0 in
     (record { calls = (t, all.0.0); whole = λ over. (t, all.0.1 over) }, hands_served by h xs begun.1 all.1)
 
--- If the turns of the actor `by` in the history `h` are the commands of the joint record, the processors of the worker
--- and of its hand-offs were called for the given reads of their tenures (`AreAllServed`).
+-- If the turns of the actor `by` in the history `h` are the commands of the joint record, then `AreAllServed` holds:
+-- the processors of the worker and of its hand-offs were called for the given reads of their tenures.
 pub all_served : (by : ℕ) (h : List Turn) (made : WorkerMade) (past : JointPast) → AreOrderly made past
     → AreToldIn by h made past → AreAllServed by h made past
 all_served by h made past orderly told =

@@ -1,5 +1,5 @@
--- The tenure of each consumer of a worker, and of each hand-off of a lease that it released, was begun by a command of
--- the worker.
+-- The tenure of each consumer of a worker was begun by a command of the worker. So was the tenure of each hand-off of a
+-- lease that the worker released.
 use Rattle.std.proofs.Common.{◌≡◌, ℕ, zero, suc, List, [], ◌∷◌, ◌++◌, Option, Some, None, refl, sym, subst, inr}
 use Rattle.std.specs.Prelude.{Result}
 use Rattle.std.specs.List.{AllByRecursion}
@@ -98,7 +98,7 @@ hand_begun n (Hand_answered answer) (Some what) deals hands w b =
 
 -- ---- The record
 
--- After each joint record, its answered commands began the tenures of all consumers of the worker and of all hand-offs
+-- The answered commands of each joint record began the tenures of all consumers of the worker and of all hand-offs
 -- (`AreAllBegun`).
 pub all_begun : (made : WorkerMade) (past : JointPast)
     → AreAllBegun (joint_deals made past) (hands_after made past) (worker_in made past)

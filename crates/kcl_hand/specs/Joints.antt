@@ -1,5 +1,5 @@
--- The state of a worker and of the hand-offs of the leases that it released, as it follows from the joint record of
--- their events.
+-- The state of a worker and of its hand-offs, as it follows from the joint record of their events. A worker has one
+-- hand-off for each lease that it released.
 use Rattle.std.specs.Prelude.{ℕ, zero, suc, ◌≡◌, true, IsSome, List, [], ◌∷◌, ◌++◌, Option, Some, None, Result}
 use Rattle.std.specs.List.{AllByRecursion}
 use Rattle.kds_defs.specs.declared.command.Command.{Command}
@@ -16,13 +16,14 @@ use Rattle.kcl_defs.specs.Workers.{Known, Release, Released, WorkerEvent, Worker
 use Rattle.kcl_defs.specs.Workers.{released, worker_after}
 use Rattle.kcl_hand.specs.Handing.{HandEvent, HandPast, HandState, Hand_answered, Hand_called, hand_after, hand_command}
 
--- An event of the worker (`Of_worker`), or of the hand-off of the n-th lease that it released, counted from 0
--- (`Of_hand`).
+-- An event of the worker (`Of_worker`), or an event of the hand-off of the n-th lease that the worker released, counted
+-- from 0 (`Of_hand`).
 pub data JointEvent : Type 0 where
   Of_worker : WorkerEvent → JointEvent
   Of_hand : ℕ → HandEvent → JointEvent
 
--- The joint record of a worker and its hand-offs: the events that happened to any of them so far, the newest first.
+-- The joint record of a worker and its hand-offs: the events of the worker and of each hand-off so far, the newest
+-- first.
 abbrev pub JointPast : Type 0
 JointPast = List JointEvent
 
@@ -56,7 +57,7 @@ worker_in made past = worker_after made (worker_past past)
 
 -- ---- The hand-offs
 
--- The hand-off that the release `r` begins, after its events `since`.
+-- The hand-off that the release `r` begins, after the hand-off's events `since`.
 abbrev pub hand_of : Release → HandPast → HandOff
 hand_of r since = record { held = r.held; made = r.known.made; before = Losing ∷ r.known.past; since = since }
 
@@ -84,8 +85,8 @@ hands_after made [] = []
 hands_after made (Of_worker event ∷ past) = hands_after made past ++ begun_by event (worker_in made past)
 hands_after made (Of_hand n event ∷ past) = with_hand_event n event (hands_after made past)
 
--- The next command of the n-th of the hand-offs, counted from 0. It is None if there is no n-th one, or if no command
--- comes next in it.
+-- The next command of the n-th of the hand-offs, counted from 0. It is None if there is no n-th hand-off, or if no
+-- command comes next in the n-th hand-off.
 abbrev pub command_in : ℕ → List HandOff → Option Command
 command_in n [] = None
 command_in zero (x ∷ xs) = hand_command x.held x.made (state_of x)
@@ -98,8 +99,8 @@ abbrev pub answered_deals : Option Command → Result Reply Refusal → List Dea
 answered_deals None answer deals = deals
 answered_deals (Some what) answer deals = record { what = what; answer = answer } ∷ deals
 
--- `deals` after the event happened to a hand-off whose next command is `o`. If the event is an answer, this command and
--- the answer are added as the newest.
+-- `deals` after the event happened to a hand-off whose next command is `o`. If the event is an answer and there is a
+-- next command, this command and the answer are added as the newest.
 abbrev pub hand_deals : HandEvent → Option Command → List Deal → List Deal
 hand_deals (Hand_called asked) o deals = deals
 hand_deals (Hand_answered answer) o deals = answered_deals o answer deals
@@ -118,8 +119,8 @@ abbrev pub MayHand : HandEvent → Option Command → Type 0
 MayHand (Hand_called asked) o = Unit {0}
 MayHand (Hand_answered answer) o = IsSome o
 
--- Each event of the joint record may happen after the older ones. So the record results from calls of the functions of
--- the worker and its hand-offs that meet their preconditions.
+-- Each event of the joint record may happen after the older events. So the record results from calls of the functions
+-- of the worker and its hand-offs that meet the preconditions of these functions.
 abbrev pub AreOrderly : WorkerMade → JointPast → Type 0
 AreOrderly made [] = Unit {0}
 AreOrderly made (Of_worker event ∷ past) = MayHappen made event (worker_in made past) × AreOrderly made past
@@ -140,8 +141,8 @@ pub record IsHandServed (by : ℕ) (h : List Turn) (x : HandOff) : Type 0 where
   pub whole : is_over (known_in x) ≡ true → IsServedWhole by h (known_in x)
 
 -- After the joint record `past`, each consumer of the worker and of its hand-offs belongs to a tenure of the actor `by`
--- in the history `h`, and its processor was called for the given reads of this tenure. If the consumer is retired, or
--- is that of a hand-off and over, each batch that the processor was handed is given.
+-- in the history `h`. The consumer's processor was called for the given reads of this tenure. If the consumer is
+-- retired, or is that of a hand-off and over, each batch that the processor was handed is given.
 pub record AreAllServed (by : ℕ) (h : List Turn) (made : WorkerMade) (past : JointPast) : Type 0 where
   pub consumers : AllByRecursion (IsServed by h) (worker_in made past).consumers
   pub retired : AllByRecursion (IsServedWhole by h) (worker_in made past).retired

@@ -1,5 +1,6 @@
 -- When a record isn't read twice: what was given in a tenure and is at or below the row's checkpoint isn't read in a
--- later tenure of the key. After a hand-off that freed its row, this is so for everything that was given in its tenure.
+-- later tenure of the key. If a hand-off has freed its row, this is so for everything that was given in the hand-off's
+-- tenure.
 use Rattle.std.specs.Prelude.{ℕ, ◌≡◌, ◌≤◌, List, Some}
 use Rattle.kds_base.specs.declared.lease_key.Checkpoint.{Checkpoint}
 use Rattle.kds_base.specs.declared.lease_key.Checkpoint.TheVariants.{TrimHorizon, At, ShardEnd}
@@ -26,8 +27,8 @@ IsUpTo n ShardEnd = Unit {0}
 abbrev pub IsMarked : TenureState → Checkpoint → Type 0
 IsMarked T checkpoint = (n : ℕ) → IsRead n (given_reads T) → IsUpTo n checkpoint
 
--- The tenure `u` has the state `U`. Right before the line that began it, the tenure `t` had the state `T` and the key
--- of `U`, and each sequence number in the given reads of `T` was at or below the checkpoint of this key's row.
+-- The tenure `u` has the state `U`. Right before the line that began `u`, the tenure `t` had the state `T` and the key
+-- of `U`. Each sequence number in the given reads of `T` was then at or below the checkpoint of this key's row.
 pub record FollowsMarked (log : Journal) (t u : ℕ) (T U : TenureState) : Type 0 where
   pub begun : Told
   pub began : taking log u ≡ Some begun
@@ -42,21 +43,21 @@ IsReadOnce T U = (n : ℕ) → IsRead n (given_reads T) → IsRead n U.reads →
 
 -- ---- A hand-off that freed its row
 
--- Each batch that the processor of the hand-off `x` was handed is given. Each sequence number in the given reads of its
--- tenure is at or below the checkpoint of the row of the tenure's key.
+-- Each batch that the processor of the hand-off `x` was handed is given. If the key of the tenure of `x` has a row,
+-- each sequence number in the given reads of this tenure is at or below the row's checkpoint.
 pub record IsHandedOff (by : ℕ) (h : List Turn) (x : HandOff) : Type 0 where
   pub whole : IsServedWhole by h (known_in x)
   pub marked : (T : TenureState) (r : Row) → tenure (journal h) x.made.tenure ≡ Some T → row (journal h) T.key ≡ Some r
       → IsMarked T r.checkpoint
 
--- If the hand-off `x` has freed its row, each batch that its processor was handed is given, and what was given in its
--- tenure is at or below the row's checkpoint (`IsHandedOff`).
+-- If the hand-off `x` has freed its row, each batch that its processor was handed is given. If this row still exists,
+-- what was given in the tenure of `x` is at or below the row's checkpoint (`IsHandedOff`).
 abbrev pub IsHandedOffIfFreed : ℕ → List Turn → HandOff → Type 0
 IsHandedOffIfFreed by h x = (counter : ℕ) → (state_of x).stand ≡ stand.Ended (left.Handed counter) → IsHandedOff by h x
 
 -- ---- A later tenure
 
--- In the history `h`, the tenure `u` has the state `U`. Right before the line that began it, the journal was that of
+-- In the history `h`, the tenure `u` has the state `U`. Right before the line that began `u`, the journal was that of
 -- the turns `before`, and the key of `U` had a row.
 pub record BeginsAfter (h before : List Turn) (u : ℕ) (U : TenureState) : Type 0 where
   pub begun : Told
@@ -66,8 +67,8 @@ pub record BeginsAfter (h before : List Turn) (u : ℕ) (U : TenureState) : Type
   pub taken : Row
   pub there : row (journal before) U.key ≡ Some taken
 
--- If the hand-off `x` has freed its row, then what was given in its tenure by the end of the turns `before` isn't read
--- in any tenure of the same key that begins right after these turns.
+-- If the hand-off `x` has freed its row, a tenure of the same key that begins right after the turns `before` reads
+-- nothing that was given in the tenure of `x`.
 abbrev pub IsNeverReadAgain : ℕ → List Turn → List Turn → HandOff → Type 0
 IsNeverReadAgain by h before x = (counter : ℕ) → (state_of x).stand ≡ stand.Ended (left.Handed counter)
     → (u : ℕ) (T U : TenureState) → tenure (journal before) x.made.tenure ≡ Some T → BeginsAfter h before u U

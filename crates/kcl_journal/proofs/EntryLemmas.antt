@@ -94,7 +94,7 @@ by_spells v word text e h =
     (spelled v (codes "enforced") word enforced_form _ (λ a v. (v.0, refl)) text e)
     (lease_spells v word text e)))))))
 
--- The entry as which a text is read, its first word included. The text has no clock and no actor.
+-- The entry that a text without a clock and an actor is read as. The text begins with the entry's first word.
 abbrev reading : ℕ → List ℕ → Option Entry
 reading v text = field text >>= λ p. entry_by v p.0 p.1
 

@@ -25,15 +25,15 @@ use Rattle.kcl_journal.proofs.TextForms.{hash_without, name_without}
 abbrev not_feed : ℕ → Bool
 not_feed b = not (b == 10)
 
--- A fixed word without a line feed, as a test finds it, contains none.
+-- If a test finds no line feed in a text, the text contains no line feed (`Lacks`).
 word : (text : List ℕ) → list_all not_feed text ≡ true → Lacks 10 text
 word text h = kind_lacks not_feed 10 text refl h
 
--- A fixed word and then a text without a line feed contain none.
+-- If a test finds no line feed in the text `a`, and `b` contains none, then `a` and `b` together contain none.
 after : (a b : List ℕ) → list_all not_feed a ≡ true → Lacks 10 b → Lacks 10 (a ++ b)
 after a b h l = lacks-append 10 a b (word a h) l
 
--- Two texts without a line feed, with a space between them, contain none.
+-- If two texts contain no line feed, the two with a space between them contain none.
 spaced : (a b : List ℕ) → Lacks 10 a → Lacks 10 b → Lacks 10 (a ++ 32 ∷ b)
 spaced a b l m = lacks-append 10 a (32 ∷ b) l (refl, m)
 

@@ -1,5 +1,6 @@
--- Numbers in a range, hash keys, names, switches and the sizes of a put are read as they are written (`IsForm`). Their
--- texts contain no space, so that they can be fields of a line.
+-- Numbers in a range, hash keys, names, switches and the sizes of a put are read as they are written (`IsForm`): a text
+-- that is read as a value is the text of this value, and the text of a value is read as this value. These texts contain
+-- no space, so that they can be fields of a line.
 use Rattle.std.proofs.Common.{◌≡◌, ℕ, ◌+◌, ◌<◌, ◌≤◌, ◌^◌, List, ◌∷◌, ◌++◌, Bool, true, false, Option, Some, None, refl}
 use Rattle.std.proofs.Common.{sym, ap, ◌∙◌, arith, codes, decimal, inl, inr, subst}
 use Rattle.std.proofs.lemmas.Grind.{common_steps}

@@ -24,8 +24,8 @@ pub words_whole : (a : List ℕ) → Lacks 32 a → words a ≡ a ∷ []
 words_whole [] n = refl
 words_whole (x ∷ a) n = rw (n.0, words_whole a n.1) refl
 
--- The part of a text up to its first space and the part after it, after the byte `b`, which isn't a space, was put
--- before the text. It is None if the text has no space.
+-- `o` has the parts of a text before and after its first space. The result has the parts of the text with the byte `b`,
+-- which isn't a space, in front. If the text has no space, both are None.
 abbrev onto : ℕ → Option (List ℕ × List ℕ) → Option (List ℕ × List ℕ)
 onto b o = option_map (λ (q : List ℕ × List ℕ). let p : List ℕ × List ℕ = (b ∷ q.0, q.1) in p) o
 
@@ -40,7 +40,7 @@ nowhere_cases : (c : Bool) (b : ℕ) (bs : List ℕ) → (b == 32) ≡ c → (pa
 nowhere_cases true b bs c f h = absurd (cc)
 nowhere_cases false b bs c f h = (c, f (nowhere_rest b (parted 32 bs) h))
 
--- A text without a first space contains none.
+-- If a text has no first space, it contains no space.
 pub nowhere_lacks : (text : List ℕ) → parted 32 text ≡ None → Lacks 32 text
 nowhere_lacks [] h = tt
 nowhere_lacks (b ∷ bs) h = nowhere_cases (b == 32) b bs refl (nowhere_lacks bs) h
@@ -135,8 +135,8 @@ batch_form = record {
 
 -- ---- The words as a loop finds them, one after another
 
--- The numbers `ns` that were read so far, followed by those of `o`. It is None if `o` is, so if another word isn't a
--- number.
+-- The numbers `ns` that were read so far, followed by the numbers `o` of the other words. If `o` is None, since another
+-- word isn't a number, the result is None.
 abbrev pub with_front : List ℕ → Option (List ℕ) → Option (List ℕ)
 with_front ns o = option_map (λ ms. ns ++ ms) o
 
@@ -145,8 +145,8 @@ fronts : (ns : List ℕ) (n : ℕ) (o : Option (List ℕ)) → with_front ns (op
 fronts ns n None = refl
 fronts ns n (Some ms) = ap (λ z. Some z) (sym (append_assoc ns (n ∷ []) ms))
 
--- If the next word of the text is the number `n`, then all numbers are the same with `n` among those read so far and
--- the rest of the text after it.
+-- If the next word of the text is the number `n`, the list of all numbers is the same whether `n` counts as read or
+-- still to be read.
 pub more_numbers : (ns : List ℕ) (n : ℕ) (text : List ℕ) (p : List ℕ × List ℕ) → parted 32 text ≡ Some p
     → number p.0 ≡ Some n
     → with_front ns (numbers_of (words text)) ≡ with_front (ns ++ n ∷ []) (numbers_of (words p.1))
@@ -175,7 +175,8 @@ shorter text p h =
 
 -- ---- A batch, given its first word
 
--- If the text is one word, its batch has no numbers, if this word says whether the read ended the shard.
+-- If the text is one word that says whether the read ended the shard, its batch has no numbers. If the one word doesn't
+-- say this, there is no batch.
 pub batch_alone : (text : List ℕ) (o : Option Bool) → parted 32 text ≡ None → ended_of text ≡ o
     → batch_of text ≡ option_map (λ (b : Bool). let a : Bool × List ℕ = (b, []) in a) o
 batch_alone text None h e = rw (words_nowhere text h, e) refl

@@ -19,7 +19,7 @@ use Rattle.kcl_journal.specs.declared.line.EntryLine.{EntryLine}
 use Rattle.kcl_journal.specs.declared.line.TheConstants.{FIRST_RECORD_BYTES, FIRST_VERSION, KEY_BYTES, VERSION}
 use Rattle.kcl_journal.specs.Ranges.{is_first}
 
--- The version is one in which a text of a journal may be: the first or the second.
+-- The text of a journal may be in this version: it is the first or the second version.
 abbrev pub IsVersion : ℕ → Type 0
 IsVersion version = (version ≡ FIRST_VERSION) ⊎ (version ≡ VERSION)
 
@@ -42,11 +42,12 @@ within_of least most text = option_and_then (within least most) (number text)
 abbrev pub greatest64 : ℕ
 greatest64 = 2 ^ 64 - 1
 
--- The counter of a row after a write, which is at least 1, as the text denotes it.
+-- The counter of a row after a write that the text denotes. It is None if the text denotes no number of at least 1 that
+-- fits into 64 bits.
 abbrev pub counter_of : List ℕ → Option ℕ
 counter_of text = within_of 1 greatest64 text
 
--- The hash key, a number below 2^128, that the text denotes.
+-- The hash key, a number below 2^128, that the text denotes. It is None if the text denotes no such number.
 abbrev pub hash_of : List ℕ → Option ℕ
 hash_of text = number_of 128 text
 
@@ -58,7 +59,7 @@ abbrev pub fitting : ℕ × ℕ → Option (ℕ × ℕ)
 fitting p = if nat_le (p.0 + p.1) RECORD_BYTES then Some p else None
 
 -- The byte counts of a record's payload and key that the text denotes. If the Bool is true, the text is one of the
--- first version, which has only the count for the payload, and the count for the key is read as 0.
+-- first version. Such a text has only the count for the payload, and the count for the key is read as 0.
 abbrev pub sizes_by : Bool → List ℕ → Option (ℕ × ℕ)
 sizes_by true text = option_map (λ n. (n, 0)) (within_of 0 FIRST_RECORD_BYTES text)
 sizes_by false text = option_and_then fitting (two 32 (within_of 0 RECORD_BYTES) (within_of 1 KEY_BYTES) text)
@@ -67,8 +68,8 @@ sizes_by false text = option_and_then fitting (two 32 (within_of 0 RECORD_BYTES)
 abbrev pub sizes_of : ℕ → List ℕ → Option (ℕ × ℕ)
 sizes_of version text = sizes_by (is_first version) text
 
--- The text of the byte counts `p.0` and `p.1` of a record's payload and key. If the Bool is true, it is one of the
--- first version, which has only the first count.
+-- The text of the byte counts `p.0` and `p.1` of a record's payload and key. If the Bool is true, the text is one of
+-- the first version, which has only the first count.
 abbrev pub sizes_text_by : Bool → ℕ × ℕ → List ℕ
 sizes_text_by true p = decimal p.0
 sizes_text_by false p = decimal p.0 ++ 32 ∷ decimal p.1
@@ -112,13 +113,14 @@ ended_of text =
     else if bytes_eq text (codes "more") then Some false
     else None
 
--- The batch of a read, given the words of its text: the first says whether the read ended the shard, and the others are
--- the sequence numbers of its records.
+-- The batch of a read, given the words of its text: the first word says whether the read ended the shard, and the
+-- others are the sequence numbers of its records. It is None if a word has another form.
 abbrev pub batch_from : List (List ℕ) → Option (Bool × List ℕ)
 batch_from [] = None
 batch_from (w ∷ ws) = ended_of w >>= λ ended. option_map (λ ns. (ended, ns)) (numbers_of ws)
 
 -- The batch of a read that the text denotes: whether the read ended the shard, and the sequence numbers of its records.
+-- It is None if the text has another form.
 abbrev pub batch_of : List ℕ → Option (Bool × List ℕ)
 batch_of text = batch_from (words text)
 
@@ -238,7 +240,7 @@ entry_by version word text =
     else if bytes_eq word (codes "enforced") then enforced_of text
     else lease_by word text
 
--- The text of an entry in this version. Each entry has just one.
+-- The text of an entry in this version. Each entry has just one text.
 abbrev pub entry_text : ℕ → Entry → List ℕ
 entry_text version (entry.Made s name count) = codes "made " ++ (decimal s ++ 32 ∷ (name ++ 32 ∷ decimal count))
 entry_text version (entry.Gone s) = codes "gone " ++ decimal s
@@ -269,8 +271,8 @@ entry_text version (entry.LeaseCut key counter) = codes "cut " ++ (key_text key 
 
 -- ---- Lines with an entry
 
--- The line `CLOCK BY ENTRY` of a journal, as which a text in this version is read. It is None if the text isn't such a
--- line.
+-- The line of a journal that a text in this version denotes in the form `CLOCK BY ENTRY`. It is None if the text isn't
+-- such a line.
 unfoldable pub entry_of : ℕ → List ℕ → Option EntryLine
 entry_of version text = do
   first ← field text
@@ -281,13 +283,14 @@ entry_of version text = do
   what ← entry_by version third.0 third.1
   Some (record { clock = clock; by = by; what = what })
 
--- The text of a line with an entry in this version. Each line has just one.
+-- The text of a line with an entry in this version. Each line has just one text.
 abbrev pub entry_spelling : ℕ → EntryLine → List ℕ
 entry_spelling version line = decimal line.clock ++ 32 ∷ (decimal line.by ++ 32 ∷ entry_text version line.what)
 
 -- ---- The last line of a journal's text: `end CLOCK`
 
--- The clock in the last line of a journal's text. It is None if the text isn't such a line.
+-- The clock that the text denotes in the form `end CLOCK`, the form of the last line of a journal's text. It is None if
+-- the text isn't such a line.
 unfoldable pub end_of : List ℕ → Option ℕ
 end_of text = do
   p ← field text

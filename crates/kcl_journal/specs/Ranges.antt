@@ -44,8 +44,8 @@ AreSizesBy false bytes key_bytes = ((1 ≤ key_bytes) × (key_bytes ≤ KEY_BYTE
 abbrev pub AreSizes : ℕ → ℕ → ℕ → Type 0
 AreSizes version bytes key_bytes = AreSizesBy (is_first version) bytes key_bytes
 
--- A text in this version can have the entry: its numbers and its name are in their ranges. An entry of the last clause
--- has no number but that of its stream, if it is about a stream.
+-- A text in this version can have the entry: its numbers and its name are in their ranges. The last clause is for
+-- entries that have no number but that of their stream.
 abbrev pub IsTellable : ℕ → Entry → Type 0
 IsTellable version (entry.Made s name count) = Is64 s × (IsName name × IsShardCount count)
 IsTellable version (entry.Put s sh number hash bytes key_bytes) =

@@ -1,4 +1,5 @@
--- When lines may be added to a legal journal, and small facts about decisions that accept.
+-- When the lines added to a journal leave it legal (`Adds`). Also, small facts about the test for a live stream and
+-- about sequence numbers.
 use Rattle.std.proofs.Common.{◌≡◌, ℕ, suc, ◌+◌, ◌≤◌, true, false, List, ap, arith}
 use Rattle.std.specs.Prelude.{◌==◌, not, nat_lt, if◌then◌else◌}
 use Rattle.std.proofs.lemmas.Bool.Decides.{nat_tests}
@@ -14,15 +15,16 @@ pub record Adds (log : Journal) (lines : List Line) (c : ℕ) : Type 0 where
   pub legal : IsLegal (with_lines lines log)
   pub clock : last_clock (with_lines lines log) ≤ c
 
--- If the stream `s` is live, the test that it is live changes nothing in the decision `d`.
+-- If the stream `s` is live, the decision that first tests this (`in_stream`) is the rest of the decision, `d`.
 pub in_live : (log : Journal) (s : ℕ) (d : Decision) → is_live log s ≡ true → in_stream log s d ≡ d
 in_live log s d live = passed_if refusal.NoStream (not (is_live log s)) d (ap not live)
 
--- If `n` is `m`, then `n + 1` is `m` and the one number that a line of the stream `s` takes.
+-- If `n` is `m`, then `n + 1` is `m` plus the one sequence number that a put, a split or a merge in the stream `s`
+-- takes.
 pub draws_one : (s n m : ℕ) → n ≡ m → n + 1 ≡ (if s == s then 1 else 0) + m
 draws_one s n m h = grind (arith, nat_tests)
 
--- A number with at least one more number up to `last` isn't `last`.
+-- If `n` plus a number that isn't 0 is at most `last`, then `n` isn't `last`.
 pub not_spent : (n last more : ℕ) → n + suc more ≤ last → (n == last) ≡ false
 not_spent n last more h = grind (arith, nat_tests)
 

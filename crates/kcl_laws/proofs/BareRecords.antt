@@ -1,13 +1,13 @@
--- Which records of a shard a read returns, and their numbers, don't depend on the records' keys and payloads: they are
--- the same after keys and payloads are emptied (`bare`).
+-- If the keys and payloads of a shard's records are emptied (`bare`), a read still returns the records with the same
+-- sequence numbers.
 use Rattle.std.proofs.Common.{◌≡◌, ℕ, zero, suc, ◌-◌, Bool, true, false, List, [], ◌∷◌, map, refl, ap}
 use Rattle.std.specs.Prelude.{cond, nat_le, if◌then◌else◌}
 use Rattle.kds_defs.specs.Listings.{are_none}
 use Rattle.kds_defs.specs.Records.{Logged, beginning, first_at, is_left, left_among, numbers_of}
 use Rattle.kcl_laws.specs.Recorded.{bare}
 
--- Which of the records arrived at or after the time `floor` and have a number at or above `position` doesn't depend on
--- keys and payloads.
+-- It makes no difference whether keys and payloads are emptied (`bare`) before or after `left_among` chooses among the
+-- records.
 pub left_bare : (floor position : ℕ) (rs : List Logged)
     → map bare (left_among floor position rs) ≡ left_among floor position (map bare rs)
 left_bare floor position [] = refl
@@ -22,8 +22,8 @@ left_bare floor position (r ∷ rs) = by (is_left floor position r) (left_bare f
     by true e = ap (λ xs. bare r ∷ xs) e
     by false e = e
 
--- Which of the records are in the longest prefix of at most `limit` records and `room` bytes doesn't depend on keys and
--- payloads.
+-- It makes no difference whether keys and payloads are emptied (`bare`) before or after the longest prefix within
+-- `limit` records and `room` bytes is taken (`beginning`).
 pub beginning_bare : (limit room : ℕ) (rs : List Logged)
     → map bare (beginning limit room rs) ≡ beginning limit room (map bare rs)
 beginning_bare zero room rs = refl
@@ -38,17 +38,18 @@ beginning_bare (suc limit) room (r ∷ rs) = by (nat_le r.bytes room) (beginning
     by true e = ap (λ xs. bare r ∷ xs) e
     by false e = refl
 
--- The sequence numbers of records don't depend on keys and payloads.
+-- The records with emptied keys and payloads have the same sequence numbers.
 pub numbers_bare : (rs : List Logged) → numbers_of (map bare rs) ≡ numbers_of rs
 numbers_bare [] = refl
 numbers_bare (r ∷ rs) = ap (λ ns. r.seq ∷ ns) (numbers_bare rs)
 
--- Whether a list of records is empty doesn't depend on keys and payloads.
+-- A list of records is empty exactly if it is empty after the keys and payloads are emptied.
 pub none_bare : (rs : List Logged) → are_none (map bare rs) ≡ are_none rs
 none_bare [] = refl
 none_bare (r ∷ rs) = refl
 
--- The number of the first record that arrived at or after `moment` doesn't depend on keys and payloads.
+-- The sequence number of the first record that arrived at or after `moment` (`first_at`) doesn't depend on keys and
+-- payloads.
 pub first_bare : (rs : List Logged) (moment otherwise : ℕ)
     → first_at (map bare rs) moment otherwise ≡ first_at rs moment otherwise
 first_bare [] moment otherwise = refl

@@ -1,5 +1,5 @@
 -- The sequence numbers of a shard's records rise. A batch that is read at a position has all untrimmed records from
--- this position up to the position after the batch.
+-- this position up to the position after the batch. In this file, the number of a record is its sequence number.
 use Rattle.std.proofs.Common.{◌≡◌, ℕ, zero, suc, ◌+◌, ◌-◌, ◌<◌, ◌≤◌, Bool, true, false, List, [], ◌∷◌, ◌++◌, Some, refl}
 use Rattle.std.proofs.Common.{sym, ap, subst, ◌∙◌, arith, inl, inr}
 use Rattle.std.specs.Prelude.{◌==◌, ◌&&◌, ◌||◌, ◌⊎◌, not, nat_le, nat_lt, cond, if◌then◌else◌}
@@ -22,19 +22,19 @@ use Rattle.kcl_laws.proofs.Numbering.{all_placed}
 
 -- ---- All items of a list
 
--- If `P` implies `Q` and holds of all items of a list, `Q` holds of all of them.
+-- If `P` implies `Q`, and `P` holds of all items of a list, then `Q` holds of all these items.
 pub all_map : {A : Type 0} (P Q : A → Type 0) (xs : List A) → ((x : A) → P x → Q x) → AllByRecursion P xs
     → AllByRecursion Q xs
 all_map P Q [] f h = tt
 all_map P Q (x ∷ xs) f h = (f x h.0, all_map P Q xs f h.1)
 
--- If `P` and `Q` hold of all items of a list, and together imply `R`, then `R` holds of all of them.
+-- If `P` and `Q` together imply `R`, and both hold of all items of a list, then `R` holds of all these items.
 pub all_both : {A : Type 0} (P Q R : A → Type 0) (xs : List A) → ((x : A) → P x → Q x → R x) → AllByRecursion P xs
     → AllByRecursion Q xs → AllByRecursion R xs
 all_both P Q R [] f h g = tt
 all_both P Q R (x ∷ xs) f h g = (f x h.0 g.0, all_both P Q R xs f h.1 g.1)
 
--- If `P` holds of all items of a list and of `y`, it holds of all items of the list with `y` at its end.
+-- If `P` holds of all items of a list and of `y`, then `P` holds of all items of the list with `y` at its end.
 pub all_push : {A : Type 0} (P : A → Type 0) (xs : List A) (y : A) → AllByRecursion P xs → P y
     → AllByRecursion P (xs ++ (y ∷ []))
 all_push P [] y h g = (g, tt)
@@ -46,7 +46,7 @@ filter_head : {A : Type 0} (f : A → Bool) (P : A → Type 0) (x : A) (xs : Lis
 filter_head f P x xs true is rest h = (λ e. h.0, rest h.1)
 filter_head f P x xs false is rest h = (λ e. absurd (apart (f x) e is), rest h)
 
--- If `P` holds of all items of `xs` for which `f` is true, then in `xs` it holds of each item for which `f` is true.
+-- If `P` holds of all items of `filter f xs`, then `P` holds of each item of `xs` for which `f` is true.
 pub all_filter : {A : Type 0} (f : A → Bool) (P : A → Type 0) (xs : List A) → AllByRecursion P (filter f xs)
     → AllByRecursion (λ x. f x ≡ true → P x) xs
 all_filter f P [] h = tt
@@ -58,7 +58,7 @@ none_head : {A : Type 0} (f : A → Bool) (x : A) (xs : List A) (b : Bool) → f
 none_head f x xs true is rest h = absurd cc
 none_head f x xs false is rest h = (is, rest h)
 
--- If `xs` has no item for which `f` is true, `f` is false for all items of `xs`.
+-- If `filter f xs` is empty, then `f` is false for all items of `xs`.
 pub none_pass : {A : Type 0} (f : A → Bool) (xs : List A) → are_none (filter f xs) ≡ true
     → AllByRecursion (λ y. f y ≡ false) xs
 none_pass f [] h = tt
@@ -66,8 +66,8 @@ none_pass f (x ∷ xs) h = none_head f x xs (f x) refl (none_pass f xs) h
 
 -- ---- Rising records
 
--- The numbers of the records rise strictly, are at or above `p`, and are below `q`. If there are no records, `p` is at
--- most `q`.
+-- The sequence numbers of the records rise strictly, are at or above `p`, and are below `q`. If there are no records,
+-- `p` is at most `q`.
 abbrev pub IsRising : ℕ → List Logged → ℕ → Type 0
 IsRising p [] q = p ≤ q
 IsRising p (r ∷ rs) q = (p ≤ r.seq) × IsRising (r.seq + 1) rs q
@@ -87,8 +87,8 @@ pub rising_below : (p p' : ℕ) (rs : List Logged) (q : ℕ) → p ≤ p' → Is
 rising_below p p' [] q le h = omega arith
 rising_below p p' (r ∷ rs) q le h = (omega (arith, h.0), h.1)
 
--- If the numbers of records rise from `p` and stay below `q`, they still rise with a record of the number `q` at the
--- end.
+-- Let the numbers of the records `rs` rise from `p` and stay below `q`. If a record with the number `q` is added at the
+-- end, the numbers rise from `p` and stay below `q + 1`.
 pub rising_push : (p : ℕ) (rs : List Logged) (q : ℕ) (r : Logged) → IsRising p rs q → r.seq ≡ q
     → IsRising p (rs ++ (r ∷ [])) (q + 1)
 rising_push p [] q r h e = (omega arith, omega arith)
@@ -99,7 +99,8 @@ rising_cond : (b : Bool) (p : ℕ) (r : Logged) (rs : List Logged) (q : ℕ) →
 rising_cond true p r rs q le h = (le, h)
 rising_cond false p r rs q le h = rising_below p (r.seq + 1) rs q (omega arith) h
 
--- If the numbers of records rise, those of the records for which `f` is true rise too.
+-- If the numbers of the records `rs` rise from `p` and stay below `q`, so do the numbers of those records for which `f`
+-- is true.
 pub rising_filter : (f : Logged → Bool) (p : ℕ) (rs : List Logged) (q : ℕ) → IsRising p rs q
     → IsRising p (filter f rs) q
 rising_filter f p [] q h = h
@@ -111,8 +112,9 @@ from_cond : (f : Logged → Bool) (b : Bool) (m : ℕ) (r : Logged) (rs : List L
 from_cond f true m r rs q is g h k = (g r is, h)
 from_cond f false m r rs q is g h k = k
 
--- If the numbers of records rise, and each record for which `f` is true has at least the number `m`, the numbers of the
--- records for which `f` is true rise from `m` on.
+-- Let the numbers of the records `rs` rise and stay below `q`, let `m` be at most `q`, and let `f` be true only for
+-- records with a number at or above `m`. Then the numbers of the records of `rs` for which `f` is true rise from `m`
+-- and stay below `q`.
 pub rising_filter_from : (f : Logged → Bool) (p m : ℕ) (rs : List Logged) (q : ℕ) → IsRising p rs q → m ≤ q
     → ((x : Logged) → f x ≡ true → m ≤ x.seq) → IsRising m (filter f rs) q
 rising_filter_from f p m [] q h le g = le
@@ -122,7 +124,8 @@ rising_filter_from f p m (r ∷ rs) q h le g =
 
 -- ---- The numbers of a prefix of rising records
 
--- The numbers of the longest prefix of `rs` with at most `limit` records and `room` bytes.
+-- The sequence numbers of the longest prefix of the records `rs` that has at most `limit` records and at most `room`
+-- bytes.
 abbrev pub taken_numbers : ℕ → ℕ → List Logged → List ℕ
 taken_numbers limit room rs = numbers_of (beginning limit room rs)
 
@@ -131,8 +134,8 @@ abbrev pub RisesTo : ℕ → List ℕ → ℕ → Type 0
 RisesTo p [] q = p ≤ q
 RisesTo p (n ∷ ns) q = (p ≤ n) × RisesTo (n + 1) ns q
 
--- If the numbers `ms` rise from `p` and stay below `q`, and the numbers `ns` rise from `q` and stay below `r`, then `ms
--- ++ ns` rises from `p` and stays below `r`.
+-- Let the numbers `ms` rise from `p` and stay below `q`, and let the numbers `ns` rise from `q` and stay below `r`.
+-- Then `ms ++ ns` rises from `p` and stays below `r`.
 pub rises_append : (p : ℕ) (ms ns : List ℕ) (q r : ℕ) → RisesTo p ms q → RisesTo q ns r → RisesTo p (ms ++ ns) r
 rises_append p [] [] q r h g = omega arith
 rises_append p [] (n ∷ ns) q r h g = (omega (arith, h, g.0), g.1)
@@ -143,8 +146,8 @@ pub rises_from : (p : ℕ) (ns : List ℕ) (q : ℕ) → RisesTo p ns q → Rise
 rises_from p [] q h = tt
 rises_from p (n ∷ ns) q h = (h.0, rises_from (n + 1) ns q h.1)
 
--- `ns` are the numbers of a prefix of the records `rs`. They rise from `p` on, and the position after them is at most
--- `q`. Each record of `rs` below this position is in the prefix.
+-- The numbers `ns` rise from `p` on, and the position after them is at or above `p` and at most `q`. Each record of
+-- `rs` whose number is below this position has its number in `ns`.
 pub record Begins (p : ℕ) (ns : List ℕ) (rs : List Logged) (q : ℕ) : Type 0 where
   pub rises : RisesTo p ns (position_after p ns)
   pub position : position_after p ns ≤ q
@@ -183,8 +186,8 @@ begin_cond true p r ns bs rs q le h is rest =
       );
     })
 
--- If the numbers of the records `rs` rise from `p` and stay below `q`, the longest prefix with at most `limit` records
--- and `room` bytes has each record below the position after it (`Begins`).
+-- Let the numbers of the records `rs` rise from `p` and stay below `q`. Then the longest prefix of `rs` within `limit`
+-- records and `room` bytes has each record of `rs` below the position after this prefix (`Begins`).
 pub begins : (limit room p : ℕ) (rs : List Logged) (q : ℕ) → IsRising p rs q
     → Begins p (taken_numbers limit room rs) rs q
 begins zero room p rs q h = nothing_begins p rs q h
@@ -264,13 +267,14 @@ rising (line ∷ log) legal s sh = rising_by log line s sh (records_step log lin
 
 -- ---- A batch
 
--- The record `r` is below the position `position` of the read, is among the numbers `ns` that were read, or is trimmed.
+-- The number of the record `r` is below `position`, where the read begins, or is one of the numbers `ns`; or the record
+-- is trimmed at the clock `c`.
 abbrev pub IsTaken : Journal → ℕ → ℕ → ℕ → List ℕ → Logged → Type 0
 IsTaken log c s position ns r = (r.seq < position) ⊎ (IsAmong r.seq ns ⊎ (is_trimmed log c s r.arrival ≡ true))
 
--- `ns` are the numbers of a batch that was read at the position `position`. They rise from `position` on, and are below
--- the stream's next sequence number. Each of the shard's records below the position after the batch is in the batch, is
--- trimmed, or is below `position`.
+-- The numbers `ns` rise from `position` on, and the position after them is at least `position` and at most the stream's
+-- next sequence number. Each record of the shard whose number is below the position after `ns` has its number in `ns`,
+-- is trimmed, or is below `position`.
 pub record IsBatch (log : Journal) (c s sh position : ℕ) (ns : List ℕ) : Type 0 where
   pub rises : RisesTo position ns (position_after position ns)
   pub next : position_after position ns ≤ next_number log s
@@ -281,9 +285,9 @@ passes_above : (t : Bool) (p n : ℕ) → (not t && nat_le p n) ≡ true → p �
 passes_above true p n h = absurd cc
 passes_above false p n h = grind (arith, nat_tests)
 
--- A record `r` below the position after the batch is below the position of the read, in the batch, or trimmed
--- (`IsTaken`), if it is in the batch whenever a read may return it. `t` is true if `r` is trimmed, and `b` is true if
--- `r` is at or above the position of the read.
+-- If the number of the record `r` is below the position after `ns`, then the number is below `position` or in `ns`, or
+-- `r` is trimmed (`IsTaken`). The premise is that the number is in `ns` if `r` is untrimmed and at or above `position`.
+-- `t` says whether `r` is trimmed, and `b` whether its number is at or above `position`.
 taken_or : (log : Journal) (c s position : ℕ) (ns : List ℕ) (r : Logged) (t : Bool) → is_trimmed log c s r.arrival ≡ t
     → ((not t && nat_le position r.seq) ≡ true → r.seq < position_after position ns → IsAmong r.seq ns) → (b : Bool)
     → nat_le position r.seq ≡ b → r.seq < position_after position ns → IsTaken log c s position ns r
@@ -302,16 +306,17 @@ left_if : (b : Bool) (floor position : ℕ) (rs : List Logged)
 left_if true floor position rs = refl
 left_if false floor position rs = sym (none_passes rs)
 
--- The records that a read at `position` may return are those that aren't trimmed and have a number at or above
--- `position`.
+-- The records that are left for a read at `position` (`left_from`) are those of the shard that aren't trimmed and have
+-- a number at or above `position`.
 pub left_is : (log : Journal) (c s sh position : ℕ)
     → left_from log c s sh position
     ≡ filter (λ (r : Logged). not (is_trimmed log c s r.arrival) && nat_le position r.seq)
     (records log s sh)
 left_is log c s sh position = left_if (is_live log s) (trim_floor log c s) position (records log s sh)
 
--- In a legal journal, the batch that a read at `position` returns has each of the shard's records from there up to the
--- position after the batch, unless the record is trimmed (`IsBatch`).
+-- In a legal journal, let `position` be at most the stream's next sequence number. Then the batch that a read at
+-- `position` returns has each untrimmed record of the shard from `position` up to the position after the batch
+-- (`IsBatch`).
 pub batch_is : (log : Journal) → IsLegal log → (c s sh position limit : ℕ) → position ≤ next_number log s
     → IsBatch log c s sh position (numbers_of (batch log c s sh position limit))
 batch_is log legal c s sh position limit le =
@@ -336,8 +341,8 @@ batch_is log legal c s sh position limit le =
     subst (λ (rs : List Logged). IsBatch log c s sh position (numbers_of (beginning limit BATCH_BYTES rs)))
     (sym (left_is log c s sh position)) taken
 
--- A record that a read at `position` doesn't return, whatever its limit is, is below `position` or trimmed. `t` is true
--- if it is trimmed.
+-- A record that isn't both untrimmed and at or above `position` is below `position` or trimmed. `t` says whether the
+-- record is trimmed.
 below_or : (log : Journal) (c s position : ℕ) (r : Logged) (t : Bool) → is_trimmed log c s r.arrival ≡ t
     → (not t && nat_le position r.seq) ≡ false → (r.seq < position) ⊎ (is_trimmed log c s r.arrival ≡ true)
 below_or log c s position r true is h = inr is

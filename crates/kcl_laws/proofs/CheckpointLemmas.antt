@@ -1,6 +1,6 @@
--- If a row whose origin is the trim horizon has its checkpoint at a sequence number, its shard has a record with this
--- number or a greater one. Here a position is reached if it isn't beyond all records of the shard: it is 0, or at most
--- one above the number of a record.
+-- If a row whose origin is the trim horizon has its checkpoint at a sequence number, the row's shard has a record with
+-- this number or a greater one. Here a position is reached if it isn't beyond all records of the shard: it is 0, or at
+-- most one above the number of a record.
 use Rattle.std.proofs.Common.{◌≡◌, ℕ, zero, suc, ◌+◌, ◌-◌, ◌≤◌, Bool, true, false, List, [], ◌∷◌, ◌++◌, length, take}
 use Rattle.std.proofs.Common.{Option, Some, None, refl, sym, ap, subst, ◌∙◌, arith, inl, inr}
 use Rattle.std.specs.Prelude.{◌⊎◌, nat_le, cond, if◌then◌else◌}
@@ -91,7 +91,7 @@ all_begun (suc limit) room P (r ∷ rs) are = either (nat_le r.bytes room) (all_
     either true rest = (are.0, rest)
     either false rest = tt
 
--- The position one above each of the records is reached (`IsReached`).
+-- For each of the records, the position one above the record's number is reached (`IsReached`).
 all_reached : (rs : List Logged) → AllByRecursion (λ (r : Logged). IsReached (r.seq + 1) rs) rs
 all_reached [] = tt
 all_reached (r ∷ rs) = (
@@ -126,8 +126,8 @@ batch_reached log c s sh position limit at =
 
 -- ---- Tenures and rows
 
--- The positions of a tenure are reached (`IsReached`): the one where it begins, and the one after each prefix of its
--- reads.
+-- The positions of the tenure `T` are reached (`IsReached`): the position where `T` begins, and the position after each
+-- prefix of its reads.
 AreReached : Journal → TenureState → Type 0
 AreReached log T = (i : ℕ)
     → IsReached (position_after_reads (start_position T.start) (take i T.reads)) (records log T.key.stream T.key.shard)
@@ -160,8 +160,8 @@ take_all : (rs : List ReadDone) → take (length rs) rs ≡ rs
 take_all [] = refl
 take_all (r ∷ rs) = ap (λ xs. r ∷ xs) (take_all rs)
 
--- If the positions of a tenure are reached, they still are after one more read of a batch at the tenure's read
--- position.
+-- If the positions of a tenure are reached (`AreReached`), they are still reached after one more read of a batch at the
+-- tenure's read position.
 read_reached : (log : Journal) (c limit : ℕ) (T : TenureState) (numbers : List ℕ) (ended : Bool)
     → numbers ≡ numbers_of (batch log c T.key.stream T.key.shard (reach T) limit) → AreReached log T
     → AreReached log (with_read numbers ended T)
@@ -189,12 +189,12 @@ read_reached log c limit T numbers ended is at i = either (take_snoc i T.reads r
         (subst (λ ns. IsReached (position_after (reach T) ns) all) (sym is)
         (batch_reached log c T.key.stream T.key.shard (reach T) limit whole)))
 
--- The position at which reading begins after the checkpoint is reached: it isn't beyond all records of the shard `key`.
+-- The position where reading begins after the checkpoint isn't beyond all records of the shard `key` (`IsReached`).
 RowReached : Journal → ShardRef → Checkpoint → Type 0
 RowReached log key checkpoint = IsReached (start_position checkpoint) (records log key.stream key.shard)
 
--- For each row whose origin is the trim horizon, the position after its checkpoint is reached. For each tenure of the
--- key of such a row, the positions of the tenure are.
+-- For each row whose origin is the trim horizon, the position after the row's checkpoint is reached (`RowReached`). For
+-- each tenure of the key of such a row, the tenure's positions are reached (`AreReached`).
 record AllReached (log : Journal) : Type 0 where
   rows : (key : ShardRef) (r : Row) → row log key ≡ Some r → origin_of log key ≡ Some origin.TrimHorizon
       → RowReached log key r.checkpoint
@@ -211,8 +211,8 @@ row_stays : (log : Journal) (line : Line) (key : ShardRef) (checkpoint : Checkpo
 unfolding RowReached
 row_stays log line key checkpoint legal at = reached_stays log line legal key.stream key.shard _ at
 
--- The positions of a new tenure are reached, because it begins at the checkpoint of its row, whose origin is the trim
--- horizon.
+-- Let `AllReached` hold, and let the row of the key `key` have the origin trim horizon. Then the positions of a new
+-- tenure of this row are reached, because the tenure begins at the row's checkpoint.
 begun_reached : (log : Journal) (by : ℕ) (key : ShardRef) (o : Option Row) → row log key ≡ o
     → origin_of log key ≡ Some origin.TrimHorizon → AllReached log
     → AreReached log (new_tenure by key (checkpoint_in o))
@@ -230,8 +230,8 @@ given_reached : (log : Journal) (T : TenureState) → AreReached log T → AreRe
 unfolding AreReached
 given_reached log T at = at
 
--- The positions of the tenure `t` were reached before the line, if its key has a row with the origin trim horizon after
--- the line.
+-- Let `AllReached` hold before the line, and let the key of the tenure `t` have a row with the origin trim horizon
+-- after the line. Then the positions that the tenure had before the line are reached.
 before_reached : (log : Journal) (line : Line) → IsLegal (line ∷ log) → AllReached log → (t : ℕ) (S T : TenureState)
     → tenure log t ≡ Some S → T.key ≡ S.key → origin_of (line ∷ log) T.key ≡ Some origin.TrimHorizon → AreReached log S
 before_reached log line legal all t S T is same from =
@@ -265,8 +265,8 @@ tenure_after_line log line legal all t T (Giving before is at new) from =
     (given_reached log before
     (before_reached log line legal all t before T at (ap (λ (U : TenureState). U.key) new) from))
 
--- The position after the checkpoint that a mark sets is reached, because a mark may only be below the position up to
--- which the tenure's reads are given.
+-- If the positions of the tenure `T` are reached, and `T` may mark the target `to` (`TargetOk`), then the position
+-- after the checkpoint that this mark sets is reached.
 marked_reached : (log : Journal) (T : TenureState) (to : Target) → TargetOk T to → AreReached log T
     → RowReached log T.key (checkpoint_at to)
 unfolding AreReached RowReached
@@ -322,8 +322,8 @@ all_reach (line ∷ log) legal = record {
       (tenure_after_line log line legal (all_reach log legal.1) t T (tenure_step log line t T is) from);
 }
 
--- In a legal journal, if a row whose origin is the trim horizon has its checkpoint at the number `q`, its shard has a
--- record with this number or a greater one.
+-- In a legal journal, let a row have the origin trim horizon and a checkpoint at the number `q`. Then the row's shard
+-- has a record with this number or a greater one.
 pub checkpoint_reached : (log : Journal) → IsLegal log → (key : ShardRef) (r : Row) (q : ℕ) → row log key ≡ Some r
     → origin_of log key ≡ Some origin.TrimHorizon → r.checkpoint ≡ At q → HasFrom q (records log key.stream key.shard)
 unfolding RowReached

@@ -36,8 +36,8 @@ use Rattle.kds_defs.proofs.Walk as walks
 use Rattle.kcl_laws.proofs.Added.{Adds, in_live, draws_one, not_spent, not_past}
 use Rattle.kcl_laws.proofs.ScalingLemmas.{adds_scaling}
 
--- The first number for which `p` is true, in a list that was filtered by `q`, makes `q` true as well. For the list's
--- first item `x`, `b` and `d` say whether `q` and `p` are true.
+-- Let `s` be the first number for which `p` is true in the list `x ∷ rest` after `q` has filtered this list. Then `q`
+-- is true for `s`, if this is so for `rest` alone. `b` and `d` say whether `q` and `p` are true for `x`.
 pub found_by : (b d : Bool) (x s : ℕ) (rest : List ℕ) (p q : ℕ → Bool) → q x ≡ b → p x ≡ d
     → find p (cond b (x ∷ filter q rest) (filter q rest)) ≡ Some s
     → (find p (filter q rest) ≡ Some s → q s ≡ true) → q s ≡ true
@@ -67,16 +67,16 @@ not_both wanted have false h = grind (arith, nat_tests)
 abbrev next_line : Journal → ℕ → ℕ → ℕ → NewItem → Line
 next_line log c by s item = put_line log c by s (next_number log s) item
 
--- The lines of a PutRecords request for the item `item` and the items after it. If `back` is true, `item` is held back,
--- because its shard's limits are exceeded, and has no line.
+-- The lines of a PutRecords request for the item `item` and the items `items` after it. If `back` is true, `item` has
+-- no line: it is held back, because the limits of its shard are exceeded.
 abbrev lines_from : Bool → Journal → ℕ → ℕ → ℕ → NewItem → List NewItem → List Line
 lines_from back log c by s item items =
     if back
     then put_lines log c by s items
     else next_line log c by s item ∷ put_lines (next_line log c by s item ∷ log) c by s items
 
--- If the lines for the items after `item` may be added to the journal, those for `item` and the items after it may be
--- added too (`Adds`). `back` is true if `item` is held back.
+-- If the lines for the items `items` may be added, both with and without the line for `item` before them, then the
+-- lines for `item` and `items` may be added (`Adds`). `back` says whether `item` is held back.
 adds_item : (back : Bool) (item : NewItem) (items : List NewItem) (log : Journal) (c by s : ℕ)
     → is_held_back log c s item ≡ back → item.hash < 2 ^ 128
     → is_live log s ≡ true
@@ -104,8 +104,8 @@ adds_item false item items log c by s is hash live fits legal order skip take =
     (good, legal) (omega arith) in
     record { legal = rest.legal; clock = rest.clock }
 
--- The lines of a PutRecords request may be added to a legal journal (`Adds`). Each item is decided after the lines of
--- the items before it.
+-- The lines of a PutRecords request to a live stream may be added to a legal journal (`Adds`), if the stream has enough
+-- sequence numbers left. Each item is decided after the lines of the items before it.
 adds_puts : (items : List NewItem) (log : Journal) (c by s : ℕ) → AllByRecursion IsItem items → is_live log s ≡ true
     → next_number log s + length (put_lines log c by s items) ≤ last_number → IsLegal log → last_clock log ≤ c
     → Adds log (put_lines log c by s items) c
@@ -116,8 +116,8 @@ adds_puts (item ∷ items) log c by s lawful live fits legal order =
     (λ next is fits' legal' order'.
     adds_puts items next c by s lawful.1 (ap (λ l. is_live l s) is ∙ live) fits' legal' order')
 
--- A command of the tenure `t` was accepted with the lines `lines` and the reply `reply`. The tenure exists and is that
--- of the actor `by`, and the decision `next` on its state accepts with these lines and this reply.
+-- The tenure `t` exists and is that of the actor `by`. The decision `next` on the tenure's state accepts with the lines
+-- `lines` and the reply `reply`.
 pub record Owned (log : Journal) (by t : ℕ) (next : TenureState → Decision) (lines : List Line) (reply : Reply) :
     Type 0 where
   pub state : TenureState
@@ -125,8 +125,8 @@ pub record Owned (log : Journal) (by t : ℕ) (next : TenureState → Decision) 
   pub own : state.by ≡ by
   pub rest : next state ≡ Accepted lines reply
 
--- If a command is accepted that only the tenure's own actor may make, the tenure is the actor's, and the rest of the
--- decision accepts (`Owned`).
+-- If a decision accepts that first tests whether the tenure `t` is the actor's (`with_tenure`), then the tenure is the
+-- actor's. The rest of the decision (`next`) accepts too (`Owned`).
 pub owned : (log : Journal) (by t : ℕ) (next : TenureState → Decision) (lines : List Line) (reply : Reply)
     → with_tenure log by t next ≡ Accepted lines reply
     → Owned log by t next lines reply
@@ -135,26 +135,26 @@ owned log by t next lines reply h =
     let b = passes refusal.NotYours _ _ lines reply a.2 in
     record { state = a.0; begun = a.1; own = equal_unless _ _ b.0; rest = b.1 }
 
--- If there is a parent, it isn't listed, or its row's checkpoint is its end.
+-- If there is a parent, it isn't listed at the clock `c`, or the checkpoint of its row is the shard's end.
 abbrev pub IsParentRead : Journal → ℕ → ℕ → Option ℕ → Type 0
 IsParentRead log c s None = Unit {0}
 IsParentRead log c s (Some parent) = is_unread log c (ref s parent) ≡ false
 
--- If a decision is accepted that begins with the test of a parent, the parent, if there is one, isn't listed or was
--- read to its end, and the rest of the decision (`next`) is accepted.
+-- If a decision accepts that first tests a parent (`past_parent`), then the parent, if there is one, isn't listed or
+-- was read to its end. The rest of the decision (`next`) accepts too.
 pub past_the_parent : (log : Journal) (c s : ℕ) (o : Option ℕ) (next : Decision) (lines : List Line) (reply : Reply)
     → past_parent log c s o next ≡ Accepted lines reply → IsParentRead log c s o × (next ≡ Accepted lines reply)
 past_the_parent log c s None next lines reply h = (tt, h)
 past_the_parent log c s (Some parent) next lines reply h = let a =
     passes (refusal.ParentsOpen (ref s parent)) _ _ lines reply h in (a.0, a.1)
 
--- Each parent of the shard isn't listed, or its row's checkpoint is its end.
+-- If there is a shard, each of its parents isn't listed at the clock `c`, or was read to its end (`IsParentRead`).
 abbrev pub AreParentsRead : Journal → ℕ → ℕ → Option ShardState → Type 0
 AreParentsRead log c s None = Unit {0}
 AreParentsRead log c s (Some x) = IsParentRead log c s x.parent × IsParentRead log c s x.adjacent
 
--- If a decision is accepted that begins with the test of both parents, each parent isn't listed or was read to its end,
--- and the rest of the decision (`next`) is accepted.
+-- If a decision accepts that first tests both parents of a shard (`past_parents`), then each parent isn't listed or was
+-- read to its end. The rest of the decision (`next`) accepts too.
 pub past_the_parents : (log : Journal) (c s : ℕ) (o : Option ShardState) (next : Decision) (lines : List Line)
     (reply : Reply)
     → past_parents log c s o next ≡ Accepted lines reply → AreParentsRead log c s o × (next ≡ Accepted lines reply)
@@ -224,7 +224,7 @@ told_range log c by _ _ _ (walks.Puts name item s named fits) lawful = (lawful.1
 told_range log c by _ _ _ (walks.Keeps name wanted raise s named fits) lawful = (lawful.1, refl)
 told_range log c by _ _ _ _ lawful = (tt, refl)
 
--- If a lawful command is accepted, the lines that it adds may be added to the legal journal (`Adds`).
+-- The lines that a lawful command adds, if it is accepted, may be added to a legal journal (`Adds`).
 outcome_legal : (log : Journal) (c by : ℕ) (what : Command) (lines : List Line) (answer : Result Reply Refusal)
     → walks.Outcome log c by what lines answer
     → ((r : Reply) → answer ≡ Ok r → decide log c by what ≡ Accepted lines r) → IsLawfulCommand what → IsLegal log
@@ -249,7 +249,7 @@ outcome_legal log c by _ _ _ (walks.Scales name goal s named few fits) so lawful
     adds_scaling log c by s goal (live_named log name s named) lawful.1.0 lawful.1.1 (not_past _ _ few)
     (not_past _ _ each.0) (not_past _ _ each.1) legal order
 
--- A decision that isn't a refusal accepts its lines.
+-- If the answer of a decision is the reply `r`, the decision accepts with its lines and with `r`.
 is_accepted : (d : Decision) (r : Reply) → answer_of d ≡ Ok r → d ≡ Accepted (lines_of d) r
 is_accepted (Refused q) r h = absurd cc
 is_accepted (Accepted lines q) r h = let e : q ≡ r = cc in ap (λ x. Accepted lines x) e

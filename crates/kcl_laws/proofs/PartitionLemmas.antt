@@ -19,8 +19,8 @@ use Rattle.kds_defs.specs.Tiled.{IsTiled}
 use Rattle.kds_defs.proofs.Decisions.{passes, holds_so}
 use Rattle.kds_defs.proofs.Tiles.{same_times, tiled_new, tiled_split, tiled_merge}
 
--- If the shards `xs` are tiled (`IsTiled`) and the shard in `o`, which is at the index `sh`, is open and can be split
--- at the key `at`, the shards after this split are tiled.
+-- `o` is the shard at the index `sh` of `xs`. If `xs` is tiled (`IsTiled`), and this shard is open and can be split at
+-- the key `at`, then the shards after the split are tiled.
 split_there : (xs : List ShardState) (sh n m at start : ℕ) (closing : Closing) (p q : Option ℕ) (o : Option ShardState)
     → slice_get xs sh ≡ o → is_open_at o ≡ true → is_inside (range_of o) at ≡ true → IsTiled xs
     → IsTiled (with_closed sh closing xs
@@ -51,7 +51,8 @@ or_else : (b d : Bool) → (b || d) ≡ true → b ≡ false → d ≡ true
 or_else true d h f = absurd cc
 or_else false d h f = h
 
--- If the shards of a stream are tiled (`IsTiled`) before an accepted line, they are tiled after it.
+-- If the shards of a stream that was made are tiled (`IsTiled`) before an accepted line, they are tiled after it. If
+-- the line itself makes the stream, they are tiled after it too.
 tiled_after : (log : Journal) (line : Line) (e : Entry) (reply : Reply) → IsInRange e
     → told log line e ≡ Accepted (line ∷ []) reply
     → (s start : ℕ) → (was_made log s ≡ true → IsTiled (shards log s)) → was_made_after e s (was_made log s) ≡ true

@@ -1,5 +1,5 @@
--- The sequence numbers of a shard's records rise from the shard's starting sequence number on, and the byte count of
--- each record is the length of its payload and its key.
+-- The sequence numbers of a shard's records rise from the shard's starting sequence number on. The byte count of each
+-- record is the length of its payload and its key together.
 use Rattle.std.proofs.Common.{◌≡◌, ℕ, ◌+◌, ◌≤◌, Bool, true, false, List, [], ◌∷◌, ◌++◌, length, Option, Some, None}
 use Rattle.std.proofs.Common.{refl, sym, ap, subst, arith}
 use Rattle.std.specs.Prelude.{◌==◌, ◌&&◌, if◌then◌else◌}
@@ -98,8 +98,8 @@ next_fits (line ∷ log) legal s = next_by log line line.what legal.0.reply s le
 
 -- ---- Bytes
 
--- If the entry is a put, its byte counts are the lengths of the line's payload and key, and both together are within
--- the limit of a record.
+-- If the entry is a put, its byte counts are the lengths of the line's payload and key, and their sum is within the
+-- limit of a record.
 IsSizedEntry : Line → Entry → Type 0
 IsSizedEntry line (entry.Put s sh number hash bytes key_bytes) =
     (bytes ≡ length line.payload) × (key_bytes ≡ length line.key)
@@ -150,7 +150,7 @@ sized_journal h lawful =
     each_journal (λ line. IsSizedEntry line line.what) IsLawful (λ log c turn is line added.
     line_sized log c turn.by turn.what line added is.1) h lawful
 
--- In the journal of a history, each record has the byte count of its payload and key, which fits into one batch
--- (`IsSized`).
+-- In the journal of a history of lawful turns, the byte count of each record is that of its payload and key together,
+-- and fits into one batch (`IsSized`).
 pub all_sized : (h : List Turn) → IsHistory h → (s sh : ℕ) → AllByRecursion IsSized (records (journal h) s sh)
 all_sized h lawful s sh = sized_records (journal h) s sh (sized_journal h lawful)

@@ -227,8 +227,8 @@ elsewhere_cut log c by s b =
     (λ t differ. ap (λ r. if r then split_shards (home log s b) b (record { number = next_number log s; clock = c })
     (next_number (cut_line log c by s b ∷ log) t) (shards log t) else shards log t) (other_stream s t differ))
 
--- If the streams `us` have as many open shards as those of them that aren't `s`, this is still so with the stream `t`,
--- which isn't `s`, in front. `b` is true if `t` is added.
+-- If the streams `us` have as many open shards as the streams of `us` other than `s`, then this is also true of `us`
+-- with the stream `t` in front. Here `t` isn't `s`, and `b` says whether `t` is added.
 beyond_by : (b d : Bool) (log : Journal) (t s : ℕ) (us : List ℕ) → not (t == s) ≡ d → d ≡ true
     → open_in log us ≡ open_in log (others s us)
     → open_in log (cond b (t ∷ us) us) ≡ open_in log (others s (cond b (t ∷ us) us))
@@ -358,8 +358,9 @@ filtered p (x ∷ xs) h = kept (p x) x (filter p xs) h.0 (filtered p xs h.1)
     kept true x ys h g = (h, g)
     kept false x ys h g = g
 
--- The lines of a scaling of the live stream `s` to `target` shards may be added to a legal journal (`Adds`), if the
--- limit on open shards is kept and the stream has enough sequence numbers and shard numbers left.
+-- The lines of a scaling of the live stream `s` to `target` shards (1 to 500) may be added to a legal journal (`Adds`).
+-- The conditions are that the limit on open shards is kept, and that enough sequence numbers and shard numbers are
+-- left.
 pub adds_scaling : (log : Journal) (c by s target : ℕ) → is_live log s ≡ true → 1 ≤ target → target ≤ 500
     → open_elsewhere log s + target ≤ OPEN_SHARDS
     → next_number log s + length (steps_to log s target) ≤ last_number

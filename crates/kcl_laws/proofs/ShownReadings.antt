@@ -36,14 +36,14 @@ use Rattle.kds_defs.specs.Streams.{made_count, made_count_after, name_of, name_o
 use Rattle.kds_defs.specs.Streams.{stream_named, trim_floor, was_made, was_made_after}
 use Rattle.kcl_laws.proofs.BareRecords.{beginning_bare, first_bare, left_bare, none_bare, numbers_bare}
 
--- The shown journal has the same last clock.
+-- The clock of the newest line is the same in the shown journal.
 pub clock_is : (log : Journal) → last_clock (shown_journal log) ≡ last_clock log
 clock_is [] = refl
 clock_is (line ∷ log) = refl
 
 -- ---- Streams
 
--- In the shown journal, as many streams were made.
+-- In the shown journal, as many streams were made as in the journal itself.
 pub made_is : (log : Journal) → made_count (shown_journal log) ≡ made_count log
 made_is [] = refl
 made_is (line ∷ log) = ap (made_count_after line.what) (made_is log)
@@ -90,7 +90,7 @@ pub next_is : (log : Journal) (s : ℕ) → next_number (shown_journal log) s �
 next_is [] s = refl
 next_is (line ∷ log) s = ap (λ n. draws line.what s + n) (next_is log s)
 
--- The shards after a line don't depend on the key and the payload of the line, but on its clock and entry alone.
+-- A line and the line that its text shows (`shown_line`) change the shards of a stream in the same way.
 line_is : (line : Line) (what : Entry) (s start : ℕ) (before : List ShardState)
     → shards_after (shown_line line) what s start before ≡ shards_after line what s start before
 line_is line (entry.Made a name count) s start before = refl
@@ -113,7 +113,7 @@ open_list : (log : Journal) (ss : List ℕ) → open_in (shown_journal log) ss �
 open_list log [] = refl
 open_list log (s ∷ ss) = λ i. length (filter is_open (shards_are log s i)) + open_list log ss i
 
--- In the shown journal, as many shards are open.
+-- In the shown journal, as many shards are open as in the journal itself.
 pub open_is : (log : Journal) → open_count (shown_journal log) ≡ open_count log
 open_is log = ap (open_in (shown_journal log)) (streams_are log) ∙ open_list log (live_streams log)
 
@@ -211,7 +211,7 @@ pub enforced_is : (log : Journal) (s : ℕ) → is_enforced (shown_journal log) 
 enforced_is [] s = refl
 enforced_is (line ∷ log) s = ap (enforced_after line.what s) (enforced_is log s)
 
--- The puts after a line don't depend on the key and the payload of the line, but on its clock and entry alone.
+-- A line and the line that its text shows (`shown_line`) change the puts of a shard in the same way.
 put_one : (line : Line) (what : Entry) (s sh : ℕ) (before : List SizedPut)
     → puts_after (shown_line line) what s sh before ≡ puts_after line what s sh before
 put_one line (entry.Put a shard n hash bytes key_bytes) s sh before = refl
@@ -225,7 +225,7 @@ puts_are (line ∷ log) s sh = put_one line line.what s sh (puts (shown_journal 
 
 -- ---- Rows and tenures
 
--- In the shown journal, as many tenures have begun.
+-- In the shown journal, as many tenures have begun as in the journal itself.
 pub taken_is : (log : Journal) → taken_count (shown_journal log) ≡ taken_count log
 taken_is [] = refl
 taken_is (line ∷ log) = ap (taken_count_after line.what) (taken_is log)

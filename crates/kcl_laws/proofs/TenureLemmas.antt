@@ -98,7 +98,7 @@ all (line ∷ log) t = told_line t line.by log line line.what (all_told log) ref
 pub never : (log : Journal) (t : ℕ) → taking log t ≡ None → tenure log t ≡ None
 never log t is = all log t ∙ ap (λ o. option_map (told_by t (since_taking log t)) o) is
 
--- If the line `l` begins the tenure `t`, its state is the one that `l` and the lines since then determine
+-- If the line `l` begins the tenure `t`, the tenure's state is the one that `l` and the lines since then determine
 -- (`IsToldTenure`).
 pub begun : (log : Journal) (t : ℕ) (l : Told) → taking log t ≡ Some l → IsToldTenure log t l
 begun log t l is =

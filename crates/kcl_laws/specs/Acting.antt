@@ -1,5 +1,5 @@
--- The commands that a tenure may make only while it holds its row, which means that the row names this tenure: Renew,
--- Free, OpenShard and Mark.
+-- The commands Renew, Free, OpenShard and Mark, which a tenure may make only while it holds its row: the row of the
+-- tenure's key names this tenure.
 use Rattle.std.specs.Prelude.{ℕ, ◌≡◌, Option, Some, None, Result, Err}
 use Rattle.kds_defs.specs.declared.command.Command.{Command}
 use Rattle.kds_defs.specs.declared.command.Command.TheVariants as command
@@ -10,8 +10,8 @@ use Rattle.kds_defs.specs.declared.reply.Reply.{Reply}
 use Rattle.kds_defs.specs.Journal.{Journal}
 use Rattle.kds_defs.specs.Leases.{TenureState, row, tenure, tenure_in}
 
--- The tenure that the command names, if the command is a Renew, a Free, an OpenShard or a Mark. Other commands have
--- none here.
+-- The number of the tenure that the command names, if the command is a Renew, a Free, an OpenShard or a Mark. For any
+-- other command it is `None`.
 abbrev pub acting : Command → Option ℕ
 acting (command.Renew t counter) = Some t
 acting (command.Free t counter) = Some t
@@ -25,15 +25,17 @@ pub record ActsBy (log : Journal) (turn : Turn) (t : ℕ) (T : TenureState) : Ty
   pub asks : acting turn.what ≡ Some t
   pub begun : tenure log t ≡ Some T
 
--- The number of the tenure that the row of the key of `T` names, or 0 if the row names none or doesn't exist.
+-- The number of the tenure that holds the row of the key of `T`. It is 0 if no tenure holds this row, or if the key has
+-- no row.
 abbrev pub row_tenure : Journal → TenureState → ℕ
 row_tenure log T = tenure_in (row log T.key)
 
--- The tenure `t`, whose state is `T`, has lost its row: the row of its key names another tenure or none, or doesn't
--- exist.
+-- The tenure `t`, whose state is `T`, has lost its row: the row of the key of `T` doesn't name the tenure `t`, or the
+-- key has no row.
 abbrev pub HasLost : Journal → TenureState → ℕ → Type 0
 HasLost log T t = row_tenure log T ≡ t → ⊥
 
--- The refusal `Lost` with the number of the tenure that the row of the key of `T` names, or 0 if it names none.
+-- The refusal `Lost` with the number of the tenure that holds the row of the key of `T`, or with 0 if there is none
+-- (`row_tenure`).
 abbrev pub lost_answer : Journal → TenureState → Result Reply Refusal
 lost_answer log T = Err (refusal.Lost (row_tenure log T))

@@ -10,23 +10,21 @@ use Rattle.kds_defs.specs.Leases.{TenureState, delivered, origin_of, reach, row,
 use Rattle.kds_defs.specs.Records.{records}
 use Rattle.kds_defs.specs.Safe.{IsCovered, IsRead, IsSettled, SettledBetween}
 
--- Consider the records of the tenure's shard from the number `floor` on, at the clock `c`. Each one below the position
--- up to which the tenure has given its reads (`delivered`) was given or is trimmed. Each one below the position up to
--- which the tenure has read (`reach`) was read by it, was given, or is trimmed.
+-- Each record of the shard of `T` from `floor` on and below the delivered position of `T` (`delivered`) was given, or
+-- is trimmed at the clock `c`. Each one from `floor` on and below the read position of `T` (`reach`) is in a read of
+-- `T`, was given, or is trimmed.
 pub record ReadsOn (log : Journal) (c floor : ℕ) (T : TenureState) : Type 0 where
   pub given : SettledBetween log c T.key floor (delivered T)
   pub read : AllByRecursion (λ r. floor ≤ r.seq → r.seq < reach T → IsRead r.seq T.reads ⊎ IsSettled log c T.key r)
       (records log T.key.stream T.key.shard)
 
--- For each tenure whose key has a row, consider the records of the shard from the row's floor on. Each one below the
--- tenure's delivered position was given or is trimmed, and each one below its read position was read by it, was given
--- or is trimmed (`ReadsOn`). `c` is the clock.
+-- For each tenure whose key has a row, `ReadsOn` holds at the clock `c` from the floor of this row on.
 abbrev pub AreReadOn : Journal → ℕ → Type 0
 AreReadOn log c = (t : ℕ) (T : TenureState) (r : Row) → tenure log t ≡ Some T → row log T.key ≡ Some r
     → ReadsOn log c r.floor T
 
--- For each row whose origin is the trim horizon, each record of its shard up to the row's checkpoint was given or is
--- trimmed at the clock `c`.
+-- For each row whose origin is the trim horizon, each record of the row's shard up to the row's checkpoint was given or
+-- is trimmed at the clock `c`.
 abbrev pub AreWhole : Journal → ℕ → Type 0
 AreWhole log c = (key : ShardRef) (r : Row) → row log key ≡ Some r → origin_of log key ≡ Some TrimHorizon
     → IsCovered log c key 0 r.checkpoint

@@ -1,4 +1,5 @@
--- The sequence numbers and the sizes of the records of a shard, and whether a shard has a record at or above a number.
+-- The sequence numbers and the sizes of the records of a shard, and whether a shard has a record with a given sequence
+-- number or a greater one.
 use Rattle.std.specs.Prelude.{ℕ, ◌+◌, ◌≡◌, ◌≤◌, ◌⊎◌, List, [], ◌∷◌, length, Some}
 use Rattle.kds_base.specs.declared.lease_key.ShardRef.{ShardRef}
 use Rattle.kds_defs.specs.declared.command.Origin.TheVariants.{TrimHorizon}

@@ -10,12 +10,12 @@ abbrev pub blank : ℕ → List ℕ
 blank zero = []
 blank (suc n) = 0 ∷ blank n
 
--- As many zero bytes as the key of the put has. The list is empty for any other entry.
+-- If the entry is a put, as many zero bytes as the put's key has. For any other entry, an empty list.
 abbrev pub blank_key : Entry → List ℕ
 blank_key (entry.Put s sh number hash bytes key_bytes) = blank key_bytes
 blank_key _ = []
 
--- As many zero bytes as the payload of the put has. The list is empty for any other entry.
+-- If the entry is a put, as many zero bytes as the put's payload has. For any other entry, an empty list.
 abbrev pub blank_payload : Entry → List ℕ
 blank_payload (entry.Put s sh number hash bytes key_bytes) = blank bytes
 blank_payload _ = []

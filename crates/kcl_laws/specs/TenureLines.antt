@@ -35,7 +35,8 @@ begins t l = is_taking t l.before l.what
 abbrev pub taking : Journal → ℕ → Option Told
 taking log t = find (begins t) (all_told log)
 
--- Those of the lines that are newer than the one that begins the tenure `t`, or all lines if none begins it.
+-- Those of the lines that are newer than the line that begins the tenure `t`, or all lines if no line begins this
+-- tenure.
 abbrev pub newer_than : ℕ → List Told → List Told
 newer_than t [] = []
 newer_than t (l ∷ ls) = if begins t l then [] else l ∷ newer_than t ls
@@ -68,8 +69,8 @@ is_giving t _ = false
 abbrev pub givings : ℕ → List Told → List Told
 givings t ls = filter (λ l. is_giving t l.what) ls
 
--- The reads `older`, followed by the read that the entry records if this is a read of the tenure `t`. Otherwise only
--- `older`.
+-- The reads `older`, with the read that the entry records added at their end. If the entry isn't a read of the tenure
+-- `t`, `older` alone.
 abbrev pub with_read_told : ℕ → Entry → List ReadDone → List ReadDone
 with_read_told t (entry.Read tenure limit ended numbers) older =
     if tenure == t then older ++ (record { numbers = numbers; ended = ended } ∷ []) else older

@@ -1,4 +1,4 @@
--- The rows and tenures after one more line about a lease still are those of the journal.
+-- After one more line about a lease, the changed rows and tenures are those of the journal with this line.
 use Rattle.std.proofs.Common.{◌≡◌, ◌≢◌, ℕ, ◌+◌, ◌-◌, ◌<◌, ◌≤◌, Bool, true, false, List, [], ◌∷◌, ◌++◌, length, map}
 use Rattle.std.proofs.Common.{slice_set, Option, Some, None, refl, sym}
 use Rattle.std.proofs.Common.{ap, subst, ◌∙◌, arith}
@@ -22,28 +22,28 @@ use Rattle.kcl_leases.proofs.RowChanges.{row_with, row_without}
 use Rattle.kcl_leases.proofs.TenureChanges.{tenure_push, tenure_set}
 use Rattle.kcl_leases.specs.Standing.{AreBounded, AreDistinct, Facing, IsGiven, KeepsShards, Stands, kept, leases}
 
--- If a journal leads to the shards `s`, it still does with one more line about a lease at their clock.
+-- If a journal leads to the shards `s`, so does the journal with one more line about a lease, at the clock of `s`.
 abbrev pub LeaseLines : Facing → Type 0
 LeaseLines s = KeepsShards s.clock s.shows
 
 -- The book of tenures `ts` has the tenures of the journal `log`, in the order of their numbers. There are at most
--- `last_number`, and none has given more reads than it has made.
+-- `last_number` tenures, and no tenure has given more reads than it has made.
 pub record HasTenures (log : Journal) (ts : List TenureValue) : Type 0 where
   pub count_is : taken_count log ≡ length ts
   pub tenure_is : (t : ℕ) → option_map kept (tenure log t) ≡ tenure_at ts t
   pub few : length ts ≤ last_number
   pub given : (t : ℕ) → IfSome (tenure log t) IsGiven
 
--- The lease table `rows` has the rows of the journal `log`, in the order of their keys. No two have the same key, and
--- no checkpoint is at the greatest possible sequence number.
+-- The lease table `rows` has the rows of the journal `log`, in the order of their keys. No two rows have the same key,
+-- and no row has its checkpoint at the greatest possible sequence number.
 pub record HasRows (log : Journal) (rows : List Row) : Type 0 where
   pub keys_are : row_keys log ≡ map (λ (r : Row). r.key) rows
   pub row_is : (key : ShardRef) → row log key ≡ row_of rows key
   pub distinct : AreDistinct rows
   pub bounded : AreBounded rows
 
--- If the journal leads to the shards `s`, the rows `rows` and the tenures `ts`, the leases with these stand for the
--- journal (`Stands`).
+-- Let the journal lead to the shards `s`, and have the rows `rows` and the tenures `ts`. Then the leases with these
+-- shards, rows and tenures stand for the journal (`Stands`).
 pub stands_of : (s : Facing) (rows : List Row) (ts : List TenureValue) (log : Journal) → s.shows log → HasRows log rows
     → HasTenures log ts → Stands (leases s rows ts) log
 stands_of s rows ts log shows rs tenures = record {
@@ -110,8 +110,8 @@ bound_if f key k rows true same bounded new = by (row_of rows k) (ap (row_of row
     by None e = horizon
     by (Some r) e = new r e
 
--- If the rows are those of the journal (`HasRows`), then after a line that changes the row of the key `key` by `f`, the
--- rows with this change are.
+-- Let the rows be those of the journal (`HasRows`), and let a line change the row of the key `key` by `f`. Then the
+-- rows with this change are those of the journal with the line.
 pub changed_rows : (log : Journal) (line : Line) (rows : List Row) (f : Row → Row) (key : ShardRef)
     → ((r : Row) → (f r).key ≡ r.key) → ((ks : List ShardRef) → row_keys_after line.what ks ≡ ks)
     → ((k : ShardRef) (o : Option Row)
@@ -127,8 +127,8 @@ changed_rows log line rows f key keeps keys after new rs = record {
       (bound_if f key k rows (same_key key k) refl rs.bounded new);
 }
 
--- If the rows are those of the journal (`HasRows`), then after a line that makes the row `new`, the rows with `new`
--- inserted are.
+-- Let the rows be those of the journal (`HasRows`), and let a line make the row `new`. Then the rows with `new`
+-- inserted are those of the journal with the line.
 pub made_rows : (log : Journal) (line : Line) (rows : List Row) (new : Row) → row_of rows new.key ≡ None
     → row_keys_after line.what (row_keys log) ≡ map (λ (r : Row). r.key) (with_row new rows)
     → ((k : ShardRef) (o : Option Row)
@@ -148,8 +148,8 @@ made_rows log line rows new none keys after bound rs = record {
     by k true = bound
     by k false = rs.bounded k
 
--- If the rows are those of the journal (`HasRows`), then after a line that removes the row of the key `key`, the rows
--- without it are.
+-- Let the rows be those of the journal (`HasRows`), and let a line remove the row of the key `key`. Then the rows
+-- without this row are those of the journal with the line.
 pub removed_rows : (log : Journal) (line : Line) (rows : List Row) (key : ShardRef)
     → row_keys_after line.what (row_keys log) ≡ map (λ (r : Row). r.key) (without_row key rows)
     → ((k : ShardRef) (o : Option Row) → row_after log line line.what k o ≡ (if same_key key k then None else o))
@@ -183,8 +183,8 @@ given_if : (b : Bool) (g : TenureState → TenureState) (T : TenureState) (o : O
 given_if true g T o here new old = subst (λ p. IfSome (option_map g p) IsGiven) (sym (here refl)) new
 given_if false g T o here new old = old
 
--- If the tenures are those of the journal (`HasTenures`), then after a line that changes the tenure `t` by `g`, the
--- tenures with this change are.
+-- Let the tenures be those of the journal (`HasTenures`), and let a line change the tenure `t` by `g`. Then the tenures
+-- with this change are those of the journal with the line.
 pub tenure_goes_on : (log : Journal) (line : Line) (ts : List TenureValue) (t : ℕ) (g : TenureState
     → TenureState) (T : TenureState) (y : TenureValue)
     → ((n : ℕ) → taken_count_after line.what n ≡ n)
@@ -215,8 +215,8 @@ begun_given : (b : Bool) (T : TenureState) (o : Option TenureState) → IsGiven 
 begun_given true T o new old = new
 begun_given false T o new old = old
 
--- If the tenures are those of the journal (`HasTenures`), then after a line that begins a tenure with the state `T`,
--- the tenures with this one at the end are.
+-- Let the tenures be those of the journal (`HasTenures`), and let a line begin a tenure with the state `T`. Then the
+-- tenures with this one at their end are those of the journal with the line.
 pub tenure_begins : (log : Journal) (line : Line) (ts : List TenureValue) (T : TenureState) (y : TenureValue)
     → ((n : ℕ) → taken_count_after line.what n ≡ n + 1)
     → ((u : ℕ) (o : Option TenureState)

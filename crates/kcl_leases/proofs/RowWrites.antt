@@ -80,7 +80,7 @@ pub is_shard : (log : Journal) (key : ShardRef) (y : Shard) → Some y ≡ optio
     → IsShard log key y
 is_shard log key y h = shard_by log key (shard_at log key.stream key.shard) (is_live log key.stream) y refl refl h
 
--- The starting sequence number of `y`, as callers see it, is that of the shard.
+-- The shard of the key `key`, as callers see it (`y`), has the starting sequence number of this shard in the journal.
 pub starts_at : (log : Journal) (key : ShardRef) (y : Shard) → IsShard log key y
     → y.start ≡ start_of (shard_at log key.stream key.shard)
 starts_at log key y of = ap (λ (z : Shard). z.start) of.is_shown ∙ sym (ap start_of of.at)
@@ -159,8 +159,8 @@ module _ (s : Facing) (rs : List Row) (ts : List TenureValue) (by : ℕ) (key : 
   no_row None h = refl
   no_row (Some x) h = absurd cc
 
-  -- If the key `key` has no row and its shard is listed, MakeLease is accepted, and the new row is inserted. Its origin
-  -- `counts` is the one that a new row gets if `from` was asked for.
+  -- If the key `key` has no row and its shard is listed, MakeLease is accepted, and the new row is inserted. The origin
+  -- `counts` of the new row is the one that a new row gets if `from` was asked for.
   pub make_done : (y : Shard) (from counts : Origin) (floor : ℕ) (start : Checkpoint) → LeaseLines s
       → ◌≡◌ {A = Result (Unit {0}) Refusal} (Ok tt) (if is_some (row_of rs key) then Err refusal.LeaseThere else Ok tt)
       → ((log : Journal) → Stands (leases s rs ts) log → true ≡ is_listed_key log s.clock key)
@@ -191,8 +191,8 @@ module _ (s : Facing) (rs : List Row) (ts : List TenureValue) (by : ℕ) (key : 
 
 -- ---- A row is taken
 
--- The decision on a take of the row `o` at the counter `counter`, which `next` gives if nothing refuses it. `spent` is
--- true if no number is left for a further tenure.
+-- The decision on a take of the row `o` at the counter `counter`. If no test refuses, it is what `next` gives for the
+-- row. `spent` is true if no number is left for a further tenure.
 abbrev taking : Option Row → ℕ → Bool → (Row → Decision) → Decision
 taking o counter spent next =
     with o or refusal.NoLease then λ r.
@@ -251,7 +251,7 @@ is_taken (Some x) counter spent start h =
           ∙ ap (λ b. if b then Err refusal.Spent else Ok (x.counter + 1)) both.0;
     }
 
--- If `n` is at most `last_number` and isn't `last_number` (`b` is false), it is below it.
+-- If `n` is at most `last_number`, and isn't `last_number` (`b` is false), then `n` is below `last_number`.
 pub below_last : (n : ℕ) (b : Bool) → b ≡ (n == last_number) → b ≡ false → n ≤ last_number → n < last_number
 below_last n b is apart le = let other : n ≢ last_number = differ_so n last_number (sym is ∙ apart) in
     omega arith
@@ -321,8 +321,8 @@ module _ (s : Facing) (rs : List Row) (ts : List TenureValue) (by : ℕ) (key : 
 
 -- ---- A row is removed
 
--- The decision on the removal of the row `o` at the counter `counter`, which is `next` if nothing refuses it. `listed`
--- is true if the row's shard is listed.
+-- The decision on the removal of the row `o` at the counter `counter`. If no test refuses, it is `next`. `listed` is
+-- true if the row's shard is listed.
 abbrev cutting : Option Row → ℕ → Bool → Decision → Decision
 cutting o counter listed next =
     with o or refusal.NoLease then λ r.

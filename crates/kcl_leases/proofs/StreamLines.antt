@@ -1,4 +1,4 @@
--- A line about a stream, which is about no lease, changes no row and no tenure.
+-- A line about a stream is about no lease, and changes no row and no tenure.
 use Rattle.std.proofs.Common.{◌≢◌, List, ◌∷◌, None}
 use Rattle.kds_defs.proofs.Elsewhere.{keys_same, row_same, taken_same, tenure_same}
 use Rattle.kds_defs.specs.declared.reply.Row.{Row}
@@ -22,8 +22,8 @@ tenures_beside log line ts of has =
     same_tenures log line ts (λ n. taken_same line.what n of) (λ t before. tenure_same log line line.what t before of)
     has
 
--- If leases stand for a journal, then after a line about a stream that leads to the shards `new`, the same rows and
--- tenures with these shards stand for the journal with this line.
+-- Let leases stand for a journal. If the journal with one more line about a stream leads to the shards `new`, the same
+-- rows and tenures with the shards `new` stand for this longer journal.
 pub stands_beside : (old new : Facing) (rows : List Row) (ts : List TenureValue) (log : Journal) (line : Line)
     → stream_of line.what ≢ None
     → new.shows (line ∷ log) → Stands (leases old rows ts) log → Stands (leases new rows ts) (line ∷ log)

@@ -1,4 +1,5 @@
--- The shards, rows and tenures as the commands on leases see them, and the journal for which they stand.
+-- The shards, rows and tenures as the commands on leases see them, and the journals for which they stand. A journal
+-- leads to shards, rows or tenures if these result from its lines.
 use Rattle.std.specs.Prelude.{ℕ, ◌≡◌, ◌≢◌, ◌≤◌, if◌then◌else◌, List, [], ◌∷◌, drop, length, map, Option, None, Result}
 use Rattle.std.specs.Prelude.{IfSome}
 use Rattle.std.specs.Option.{option_map}
@@ -35,8 +36,8 @@ pub record Facing : Type 1 where
 abbrev pub facing : ℕ → (Journal → Type 0) → Facing
 facing clock shows = record { clock = clock; shows = shows }
 
--- If a journal leads to the shards (`shows`), it still does with one more line at the clock `clock` that is about no
--- stream. Such a line is about a lease, and changes no shard.
+-- If a journal leads to the shards (`shows`), so does the journal with one more line that is about no stream and has
+-- the clock `clock`. Such a line is about a lease, and changes no shard.
 abbrev pub KeepsShards : ℕ → (Journal → Type 0) → Type 0
 KeepsShards clock shows = (log : Journal) (line : Line) → shows log → line.clock ≡ clock → stream_of line.what ≡ None
     → shows (line ∷ log)
@@ -59,7 +60,7 @@ over clock shows rows ts = leases (facing clock shows) rows ts
 -- ---- Tenures
 
 -- The reads in the form in which the book of tenures keeps them: for each read, the position after it, and whether it
--- ended the shard. The first read begins at `position`, and each other one where the one before it ended.
+-- ended the shard. The first read begins at `position`, and each later read begins where the one before it ended.
 abbrev pub pending_from : ℕ → List ReadDone → List PendingRead
 pending_from position [] = []
 pending_from position (r ∷ rs) =

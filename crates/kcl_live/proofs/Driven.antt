@@ -28,8 +28,8 @@ use Rattle.kcl_live.proofs.Histories.{before_own, none_told, told_more}
 
 -- ---- Events that aren't turns
 
--- Between the records `past` and `later`, no command was answered: both have the same turns and the same deals. If each
--- answer in `past` came right after its command, each answer in `later` did too.
+-- Between the records `past` and `later`, no command was answered: the two records have the same turns and the same
+-- deals. If each answer in `past` came right after its command, each answer in `later` did too.
 record IsQuiet (by : ℕ) (made : WorkerMade) (past later : WorkerPast) : Type 0 where
   turns : turns_in by made later ≡ turns_in by made past
   deals : deals_after made later ≡ deals_after made past
@@ -45,7 +45,7 @@ quiet_calls by made (a ∷ asked) past =
 
 module _ {P F : Type 0} (stands : P → List Call → Type 0) (by : ℕ) (seen own : List Turn) where
   -- `IsDriven` still holds for a later record in which no more commands were answered (`IsQuiet`), if the worker `v`
-  -- stands for it.
+  -- stands for this later record.
   driven_quiet : (w v : WorkerStanding P F) (past later : WorkerPast) → v.made ≡ w.made → IsQuiet by w.made past later
       → StandsFor stands v later → IsDriven stands by seen own w past → IsDriven stands by seen own v later
   driven_quiet w v past later made q stood d = record {
@@ -62,7 +62,7 @@ module _ {P F : Type 0} (stands : P → List Call → Type 0) (by : ℕ) (seen o
   driven_called w v past asked made stood d =
       driven_quiet w v past (with_calls asked past) made (quiet_calls by w.made asked past) stood d
 
-  -- `IsDriven` still holds after the worker was told to stop, since this is no turn.
+  -- `IsDriven` still holds after the worker was told to stop, since a stop is no turn.
   pub driven_stopped : (w v : WorkerStanding P F) (past : WorkerPast) → v.made ≡ w.made
       → StandsFor stands v (Stopped ∷ past) → IsDriven stands by seen own w past
       → IsDriven stands by seen own v (Stopped ∷ past)
@@ -105,7 +105,7 @@ deal_answer : (what : Command) (a : Result Reply Refusal) (o : Option Pending) (
 deal_answer what a o p deals is same =
     ap (λ x. with_deal x a deals) is ∙ ap (λ (c : Command). record { what = c; answer = a } ∷ deals) same
 
--- In this module, the worker `w`, which is driven (`IsDriven`), gave the command `what` at the moment `at` and became
+-- In this module, `IsDriven` holds for the worker `w`, which gave the command `what` at the moment `at` and so became
 -- `u`.
 module _ {P F : Type 0} (stands : P → List Call → Type 0) (by : ℕ) (seen own : List Turn) (w u v : WorkerStanding P F)
     (past : WorkerPast) (at : ℕ) (what : Command) (given : u.made ≡ w.made) (d : IsDriven stands by seen own w past)
@@ -127,8 +127,8 @@ module _ {P F : Type 0} (stands : P → List Call → Type 0) (by : ℕ) (seen o
   last_turn before = with_answer by at what (worker_after u.made (Gave_command at ∷ past)).waiting (adds past d.stood).0
       before waits (adds past d.stood).2
 
-  -- If the command became a turn right after the turns `older`, and the worker took the answer to it and became `v`,
-  -- then `IsDriven` holds for `v` with this turn added.
+  -- If the command became a turn right after the turns `older`, and the worker took the answer to this turn and became
+  -- `v`, then `IsDriven` holds for `v` with this turn added.
   pub answered_driven : (older : List Turn) → Continues older seen
       → turns_by by (record { by = by; at = at; what = what } ∷ older) ≡ record { by = by; at = at; what = what } ∷ own
       → v.made ≡ u.made
@@ -157,8 +157,8 @@ module _ {P F : Type 0} (stands : P → List Call → Type 0) (by : ℕ) (seen o
 
 -- ---- A turn of the pass
 
--- In this module, the worker `w` with the pass `before`, which is driven (`IsDriven`), gave the command `what` at the
--- moment `at` and became `u`. `after` is the pass later.
+-- In this module, `IsDriven` holds for the worker `w` with the pass `before`. The worker gave the command `what` at the
+-- moment `at` and so became `u`. `after` is the pass later.
 module _ {P F : Type 0} (stands : P → List Call → Type 0) (w u : WorkerStanding P F) (before after : PassValue)
     (past : WorkerPast) (at : ℕ) (what : Command) (given : u.made ≡ w.made)
     (d : IsDriven stands before.by before.seen before.own w past) (adds : AddsCommand stands w u at what)
@@ -176,8 +176,8 @@ module _ {P F : Type 0} (stands : P → List Call → Type 0) (w u : WorkerStand
   asked : IsDriven stands before.by before.seen before.own u (Gave_command at ∷ past)
   asked = asked_driven stands before.by before.seen before.own w u u past at what given d adds
 
-  -- If the command became a turn, which the answer `a` answered, and the worker took this answer and became `v`, then
-  -- `HasTurned` holds.
+  -- If the command became a turn with the answer `a`, and the worker took this answer and became `v`, then `HasTurned`
+  -- holds for `v`.
   pub has_turned : (v : WorkerStanding P F) (a : Result Reply Refusal)
       → IsAnswered (record { by = before.by; at = at; what = what }) a before after → v.made ≡ u.made
       → AddsAnswer stands u v at a → HasTurned stands after v at past
@@ -200,8 +200,8 @@ module _ {P F : Type 0} (stands : P → List Call → Type 0) (w u : WorkerStand
         alone = t.all_own;
       }
 
-  -- If the command became a turn, and memory ran out when the worker took the answer, which left the worker as it was,
-  -- then the run was cut short (`WasCut`).
+  -- If the command became a turn, and memory ran out when the worker took the answer, so that the worker stayed as it
+  -- was, then the run was cut short (`WasCut`).
   pub answer_failed : (v : WorkerStanding P F) (a : Result Reply Refusal)
       → IsAnswered (record { by = before.by; at = at; what = what }) a before after → v ≡ u → IsSome u.waiting
       → (e : TurnErr) → e ≡ failed.Memory → WasCut stands v after e

@@ -1,5 +1,5 @@
--- A worker has a due call, or is idle, exactly if the record for which it stands says so. These lemmas go from the one
--- to the other.
+-- A worker has a due call, or is idle, exactly if this is so in the state after the record for which the worker stands.
+-- These lemmas conclude what callers see of a worker from this state.
 use Rattle.std.proofs.Common.{rules, ◌≡◌, false, List, [], ◌∷◌, Option, Some, None, refl, sym, ap, subst, ◌∙◌}
 use Rattle.std.specs.Prelude.{◌&&◌, cond, not, is_some, IsSome}
 use Rattle.std.specs.List.{find}
@@ -15,7 +15,7 @@ use Rattle.kcl_worker.proofs.Happenings.{stage_known}
 use Rattle.kcl_worker.proofs.Outlooks.{none_due}
 use Rattle.kcl_worker.specs.Standing.{ConsumersStand, StandsFor, WorkerStanding, is_due_in, is_giving_in, is_idle_in}
 
--- If none of the record's consumers has a due call, none of the worker's consumers `cs` has one.
+-- If none of the record's consumers has a due call, none of the worker's consumers `cs` has a due call.
 none_due_in : {P : Type 0} (stands : P → List Call → Type 0) (cs : List (ConsumerValue P)) (ks : List Known)
     → find is_due_known ks ≡ None → ConsumersStand stands cs ks → due_in cs ≡ None
 none_due_in stands [] [] none s = refl
@@ -34,7 +34,7 @@ none_due_in stands (c ∷ cs) (k ∷ ks) none s =
 some_is : {A : Type 0} (x : A) → IsSome (Some x)
 some_is x = search rules
 
--- If `o` is the same Option as `u`, and `u` has a value, then `o` has one.
+-- If `o` is the same Option as `u`, and `u` has a value, then `o` has a value.
 pub is_some_of : {A : Type 0} (o u : Option A) (x : A) → o ≡ u → u ≡ Some x → IsSome o
 is_some_of o u x e is = subst IsSome (sym (e ∙ is)) (some_is x)
 
@@ -61,7 +61,7 @@ due_again stands w v past made s t some =
     (ap (λ m. find is_due_known (worker_after m past).consumers) (sym made)
     ∙ none_due stands v.consumers (worker_after v.made past).consumers none t.shows.consumers) s.shows.consumers)
 
--- A worker whose record has no stop isn't idle.
+-- If a worker isn't stopped in the state after its record, the worker isn't idle.
 pub not_idle : {P F : Type 0} (stands : P → List Call → Type 0) (w : WorkerStanding P F) (past : WorkerPast)
     → StandsFor stands w past → is_stopping (worker_after w.made past).round ≡ false → is_idle_in w ≡ false
 not_idle stands w past s going =

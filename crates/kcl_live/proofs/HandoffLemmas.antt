@@ -54,8 +54,8 @@ goes_on stands at x y z q r s same g f = λ start p before since by along.
 
 -- ---- Answers
 
--- If each answer of the hand-off is the one to its command in the history `older`, the same is true in each history
--- `later` that goes on from `older`.
+-- If each answer of the hand-off is the one to its command in the history `older` (`AreAnswered`), then this also holds
+-- in each history `later` that goes on from `older`.
 answered_later : (by at : ℕ) (h : Held) (m : Tenancy) (before : Past) (seen : List Turn) (since : HandPast)
     (older later : List Turn) → Continues later older
     → AreAnswered by at h m before seen since older → AreAnswered by at h m before seen since later
@@ -74,8 +74,8 @@ answered_later by at h m before seen (Hand_answered r ∷ since) older later c a
       },
     )
 
--- `AreAnswered` doesn't change if an equal lease takes the place of the lease, and equal values the place of those that
--- the consumer was made with.
+-- `AreAnswered` still holds if an equal lease takes the place of the lease, and equal values take the place of the
+-- values from which the consumer was made.
 answered_of : (by at : ℕ) (h g : Held) (m n : Tenancy) (before : Past) (seen : List Turn) (since : HandPast)
     (later : List Turn) → h ≡ g → m ≡ n
     → AreAnswered by at h m before seen since later → AreAnswered by at g n before seen since later
@@ -83,7 +83,7 @@ answered_of by at h g m n before seen since later e f a =
     subst (λ k. AreAnswered by at g k before seen since later) f
     (subst (λ k. AreAnswered by at k m before seen since later) e a)
 
--- `Goes` holds for a hand-off that stays as it is, if the pass has seen more turns or as many but made none of its own.
+-- `Goes` holds for a hand-off that stays as it is, if the pass has perhaps seen newer turns but has made none itself.
 pub goes_later : {P : Type 0} (stands : P → List Call → Type 0) (at : ℕ) (x y : HandStanding P) (q r : PassValue)
     → y ≡ x
     → r.by ≡ q.by → r.own ≡ q.own → Continues r.seen q.seen → Goes stands at x y q r
@@ -104,18 +104,18 @@ goes_later stands at x y q r is same own seen =
 
 -- ---- A call
 
--- In this module, the due call of the hand-off `x` was made, or ran out of memory, which left `y`. The pass is `q`
--- before and after, since a call is no turn.
+-- In this module, the due processor call of the hand-off `x` returned or ran out of memory, and the hand-off became
+-- `y`. The pass is `q` before and after this call, since a call is no turn.
 module _ {P : Type 0} (stands : P → List Call → Type 0) (at : ℕ) (x y : HandStanding P) (q : PassValue)
     (held : y.held ≡ x.held)
     (made : y.consumer.made ≡ x.consumer.made) where
-  -- The own turns of the pass are still the answered commands of the hand-off.
+  -- The own turns of the pass are still those from before the hand-off, with the hand-off's answered commands added.
   same_own : (start : P) (p : PassValue) (before : Past) (since : HandPast) → IsAlong stands at start x p q before since
       → q.own ≡ turns_at p.by at (hand_commands y.held y.consumer.made before since) ++ p.own
   same_own start p before since along =
       along.own ∙ (λ i. turns_at p.by at (hand_commands (sym held i) (sym made i) before since) ++ p.own)
 
-  -- The actor's deals are still those before the hand-off with the hand-off's added.
+  -- The actor's deals are still those from before the hand-off, with the hand-off's deals added.
   same_told : (start : P) (p : PassValue) (before : Past) (since : HandPast)
       → IsAlong stands at start x p q before since
       → (deals : List Deal) → OfEachLater p.by p.seen p.own (λ h. deals_of p.by h ≡ deals)
@@ -155,7 +155,7 @@ module _ {P : Type 0} (stands : P → List Call → Type 0) (at : ℕ) (x y : Ha
         },
       )
 
-  -- The hand-off goes on (`Goes`) if its due call ran out of memory, so that it is still due.
+  -- The hand-off goes on (`Goes`) if its due call ran out of memory, so that this call is still due.
   pub goes_uncalled : AddsNothing stands x y → KeepsCalls stands x y → Goes stands at x y q q
   goes_uncalled nothing keeps start p before since by along = (
     since,
@@ -236,8 +236,8 @@ module _ {P : Type 0} (stands : P → List Call → Type 0) (at : ℕ) (x y : Ha
 
 -- ---- The worker with its hand-off
 
--- After a release and the events `since` of its hand-off, the worker and its hand-offs have the deals from before the
--- release (`joint_deals`). The hand-off's answered commands, with their answers, are added as the newest deals.
+-- The deals of the joint record (`joint_deals`) after a release and the events `since` of its hand-off. They are the
+-- deals from before the release, with the hand-off's answered commands and their answers added as the newest.
 joint_hand : (key : ShardRef) (made : WorkerMade) (joint : JointPast) (r : Release)
     → released key (worker_in made joint) ≡ Some r → (since : HandPast)
     → joint_deals made (with_hand key since made joint)
@@ -251,8 +251,8 @@ joint_hand key made joint r which (Hand_answered a ∷ since) =
     ∙ ap (answered_deals (hand_command r.held r.known.made (state_of (hand_of r since))) a)
     (joint_hand key made joint r which since)
 
--- If the joint record is possible (`AreOrderly`), it is still possible with a release and the events of its hand-off
--- added. The worker must be able to release, and each answer among the events must be the one to its command.
+-- If `AreOrderly` holds for a joint record, it also holds for this record with a release and the events of its hand-off
+-- added. This requires that the release may happen, and that each answer among the events is the one to its command.
 joint_orderly : (key : ShardRef) (made : WorkerMade) (joint : JointPast) (r : Release)
     → released key (worker_in made joint) ≡ Some r
     → MayHappen made (Released key) (worker_in made joint)
@@ -292,8 +292,9 @@ module _ {P F : Type 0} (stands : P → List Call → Type 0) (at : ℕ) (key : 
     handed = λ t later alone lawful. handed q.by t w.made joint lawful tells.orderly (tells.told t later alone);
   }
 
-  -- The release and the events of its hand-off so far happened as `HasReleased` says. The hand-off `y` is in the stage
-  -- and at the point to which these events lead, and its processor stands for the calls of these events.
+  -- The release and the events of its hand-off so far happened as `HasReleased` says. The consumer of the hand-off `y`
+  -- is in the stage to which these events lead, and what comes next in `y` is what comes next after these events. The
+  -- processor of `y` stands for the calls of the consumer's record.
   record Went (past : WorkerPast) : Type 0 where
     so_far : HasReleased stands at key w v p q past
     stage : y.consumer.stage ≡ stage_after so_far.release.known.made (release_state so_far.release so_far.since).past
@@ -304,8 +305,7 @@ module _ {P F : Type 0} (stands : P → List Call → Type 0) (at : ℕ) (key : 
     added : (earlier : List Call) → stands c.processor earlier
         → stands y.consumer.processor (release_calls so_far.release so_far.since earlier)
 
-  -- If the worker `w` stands for the record `past`, then `Went` holds: its release and the hand-off so far happened as
-  -- `HasReleased` says.
+  -- If the worker `w` stands for the record `past`, then `Went` holds for this record.
   went : (past : WorkerPast) → StandsFor stands w past → Went past
   went past st =
       let rel = adds past st in

@@ -7,7 +7,7 @@ use Rattle.kds_defs.specs.Histories.{answer}
 use Rattle.kcl_defs.specs.Lives.{Deal, deals_of}
 use Rattle.kds_turn.specs.Known.{Continues, turns_by}
 
--- A longer history has at least as many turns of the actor.
+-- A history with newer turns added has at least as many turns of the actor `by` as before.
 no_fewer : (by : ℕ) (newer h : List Turn) → length (turns_by by h) ≤ length (turns_by by (newer ++ h))
 no_fewer by [] h = omega arith
 no_fewer by (t ∷ newer) h = one (t.by == by) (no_fewer by newer h)
@@ -31,16 +31,16 @@ same_deals by (t ∷ newer) h e = one (t.by == by) e (same_deals by newer h)
     one true e rest = absurd (omega (arith, e, no_fewer by newer h))
     one false e rest = rest e
 
--- The newest turn of a history is `t`, and `older` is the history before `t`. If the turns of the actor of `t` are `t`
--- and `own`, then its turns in `older` are `own`.
+-- The newest turn of a history is `t`, and `older` is the history before `t`. If the turns of the actor of `t` in the
+-- whole history are `t` and `own`, then this actor's turns in `older` are `own`.
 pub before_own : (t : Turn) (older own : List Turn) → turns_by t.by (t ∷ older) ≡ t ∷ own → turns_by t.by older ≡ own
 before_own t older own e =
     let same : t ∷ turns_by t.by older ≡ t ∷ own =
     sym (ap (λ b. cond b (t ∷ turns_by t.by older) (turns_by t.by older)) (is_itself t.by)) ∙ e in
     cc (same)
 
--- `deals` are the commands and answers of the actor of `t` in the history `older`. If the actor has one more turn in
--- `h`, namely `t` right after `older`, then its commands and answers in `h` are `deals` and those of `t`.
+-- `deals` are the commands and answers of the actor of `t` in the history `older`. If this actor has one more turn in
+-- `h`, namely `t` right after `older`, then the actor's commands and answers in `h` are `deals` and those of `t`.
 pub told_more : (t : Turn) (older own h : List Turn) (deals : List Deal) → turns_by t.by (t ∷ older) ≡ t ∷ own
     → Continues h (t ∷ older) → turns_by t.by h ≡ t ∷ own → deals_of t.by older ≡ deals
     → deals_of t.by h ≡ record { what = t.what; answer = answer older t } ∷ deals

@@ -23,19 +23,19 @@ moment_left n m tick at e le low = subst (λ x. x < 2 ^ 62) (sym (next_at n tick
 pub length_added : (at : ℕ) (own more : List Turn) → HasAdded at own more → length more ≡ length own + 1
 length_added at own more a = ap length a.1 ∙ omega arith
 
--- If each turn so far is at its moment, and one more is added at the next moment, then each turn is at its moment
+-- If each turn so far is at its moment, and one more turn is added at the next moment, then each turn is at its moment
 -- (`AreOnLeasesAt`).
 pub moments_added : (tick now at n : ℕ) (own more : List Turn) → HasAdded now own more → now ≡ at → n ≡ length own
     → at ≡ (n + 1) * tick → AreOnLeasesAt tick own → AreOnLeasesAt tick more
 moments_added tick now at n own more a is count next moments =
     subst (AreOnLeasesAt tick) (sym a.1) ((a.2 ∙ is ∙ next ∙ ap (λ k. (k + 1) * tick) count, a.3), moments)
 
--- If fewer than `m` turns were made, and then one more or none was, then at most `m` were made.
+-- If fewer than `m` turns were made, and then one more turn or none, then at most `m` turns were made in all.
 pub most_may : (now m : ℕ) (own more : List Turn) → (more ≡ own) ⊎ HasAdded now own more → length own + 1 ≤ m
     → length more ≤ m
 most_may now m own more (inl same) le = omega (arith, ap length same, le)
 most_may now m own more (inr a) le = omega (arith, length_added now own more a, le)
 
--- Without turns, each turn is at its moment (`AreOnLeasesAt`).
+-- `AreOnLeasesAt` holds for a list without turns.
 pub none_moments : (tick : ℕ) (own : List Turn) → own ≡ [] → AreOnLeasesAt tick own
 none_moments tick own none = subst (AreOnLeasesAt tick) (sym none) tt

@@ -1,5 +1,6 @@
--- A round of a worker, its due calls and one turn, keeps the worker going (`IsGoing`) before its stop, and finishing
--- (`IsFinishing`) after it. In both cases its answered commands are the turns of its pass.
+-- In a round, a worker makes its due calls and one turn. Before its stop, the worker is still going after a round
+-- (`IsGoing`). After its stop, the worker is still finishing after a round (`IsFinishing`). In each case, the worker's
+-- answered commands are the turns of its pass.
 use Rattle.std.proofs.Common.{◌≡◌, ℕ, ◌+◌, ◌*◌, ◌≤◌, false, List, [], ◌∷◌, length, None, refl, sym, ap, subst, ◌∙◌}
 use Rattle.std.proofs.Common.{arith, inl}
 use Rattle.std.specs.Prelude.{IsSome}
@@ -40,7 +41,7 @@ module _ {P F : Type 0} (stands : P → List Call → Type 0) where
     going = refl;
   }
 
-  -- A worker that is going (`IsGoing`) still is after calls of its processors.
+  -- A worker that is going (`IsGoing`) is still going after calls of its processors.
   pub going_called : (w u : WorkerStanding P F) (p : PassValue) → u.made ≡ w.made → HasCalled w u → IsGoing stands w p
       → IsGoing stands u p
   going_called w u p made called g =
@@ -72,7 +73,8 @@ module _ {P F : Type 0} (stands : P → List Call → Type 0) where
             ∙ answered_on u.made at at t.answer g.past g.going;
       }
 
-  -- If memory ran out in a call of a processor of a worker that is going (`IsGoing`), its run was cut short (`WasCut`).
+  -- If memory ran out in a call of a processor of a worker that is going (`IsGoing`), the worker's run was cut short
+  -- (`WasCut`).
   pub going_failed : (w u : WorkerStanding P F) (p : PassValue) (e : TurnErr) → u.made ≡ w.made → HasCalled w u
       → IsGoing stands w p → IsSome (due_in u.consumers) → e ≡ failed.Memory → WasCut stands u p e
   going_failed w u p e made called g due is =
@@ -100,7 +102,7 @@ module _ {P F : Type 0} (stands : P → List Call → Type 0) where
 
   -- ---- After the stop
 
-  -- A stopped worker that is finishing (`IsFinishing`) still is after calls of its processors.
+  -- A stopped worker that is finishing (`IsFinishing`) is still finishing after calls of its processors.
   pub finishing_called : (w u : WorkerStanding P F) (p : PassValue) (most : ℕ) → u.made ≡ w.made → HasCalled w u
       → IsFinishing stands w p most → IsFinishing stands u p most
   finishing_called w u p most made called f =
@@ -117,13 +119,13 @@ module _ {P F : Type 0} (stands : P → List Call → Type 0) where
         few = omega (arith, f.few, less);
       }
 
-  -- If a worker that is finishing has no due call, its record has none.
+  -- If a worker that is finishing has no due call, then no call is due in the state after its record.
   quiet : (w : WorkerStanding P F) (p : PassValue) (most : ℕ) → (f : IsFinishing stands w p most)
       → due_in w.consumers ≡ None → find is_due_known (worker_after w.made f.past).consumers ≡ None
   quiet w p most f none =
       none_due stands w.consumers (worker_after w.made f.past).consumers none f.driven.stood.shows.consumers
 
-  -- If a worker that is finishing isn't idle, it isn't idle by its record.
+  -- If a worker that is finishing isn't idle, then it isn't idle in the state after its record.
   busy : (w : WorkerStanding P F) (p : PassValue) (most : ℕ) → (f : IsFinishing stands w p most) → is_idle_in w ≡ false
       → is_idle (worker_after w.made f.past) ≡ false
   busy w p most f is = sym (idle_same stands w f.past f.driven.stood) ∙ is
@@ -160,7 +162,8 @@ module _ {P F : Type 0} (stands : P → List Call → Type 0) where
       → HasRun stands w p
   finishing_run w p most f = record { past = f.past; driven = f.driven; alone = f.alone }
 
-  -- If memory ran out in a call of a processor of a worker that is finishing, its run was cut short (`WasCut`).
+  -- If memory ran out in a call of a processor of a worker that is finishing, the worker's run was cut short
+  -- (`WasCut`).
   pub finishing_failed : (w u : WorkerStanding P F) (p : PassValue) (most : ℕ) (e : TurnErr) → u.made ≡ w.made
       → HasCalled w u → IsFinishing stands w p most → IsSome (due_in u.consumers) → e ≡ failed.Memory
       → WasCut stands u p e

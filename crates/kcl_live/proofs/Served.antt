@@ -1,5 +1,5 @@
--- If the answered commands of a worker are the turns of its pass (`IsDriven`), its processors are called for the given
--- reads of their tenures. `law`, which is taken as given, says so for one history.
+-- If the answered commands of a worker are the turns of its pass (`IsDriven`), the worker's processors are called for
+-- the given reads of their tenures. `law`, which is taken as given, says so for one history.
 use Rattle.std.proofs.Common.{ℕ, List, ◌∷◌, inl, inr}
 use Rattle.kds_defs.specs.declared.command.Turn.{Turn}
 use Rattle.kcl_defs.specs.declared.consumer.Call.{Call}
@@ -20,8 +20,8 @@ module _ {P F : Type 0} (stands : P → List Call → Type 0) (w : WorkerStandin
       → AreServedLater stands by seen own w
   driven_served by seen own past d = λ h c same. law by h past d.stood (d.told h c same)
 
-  -- If each command of the worker became a turn and was answered, its processors are called for the given reads of
-  -- their tenures (`AreServedLater`).
+  -- If each command of the worker became a turn and was answered, the worker's processors are called for the given
+  -- reads of their tenures (`AreServedLater`).
   pub run_served : (p : PassValue) → HasRun stands w p → AreServedLater stands p.by p.seen p.own w
   run_served p r = driven_served p.by p.seen p.own r.past r.driven
 

@@ -15,14 +15,14 @@ module _ {M P F G : Type 0} (stands : P → List Call → Type 0) where
   abbrev pub IsReady : HallValue → Member M P F G → Type 0
   IsReady hall m = (m.pass.hall ≡ hall.id) × (m.pass.own ≡ []) × StandsFor stands m.worker []
 
-  -- The member `before` became `after` by a run of `turns` turns, each `tick` milliseconds after the one before, and
-  -- then the turns of the stopped worker. The pass keeps its hall, its number and its joined passes, the worker keeps
-  -- its settings, and the pass has seen more turns or as many. The own turns of the pass are commands on leases, the
-  -- k-th at k times `tick` milliseconds, and at most 3 * `turns`. If the run ended without an error, these turns are
-  -- the answered commands of the worker (`HasRun`), and the pass has at least `turns` turns of its own. Also, the
-  -- worker is idle, and its processors were called for each read that was given in one of their tenures
-  -- (`AreServedLater`). After an error, the run was cut short (`WasCut`), and the processors were called for the reads
-  -- that were given after all turns of the pass, or after all but the last (`AreServedSoFar`).
+  -- The member `before` became `after` by a run of `turns` turns, and then the turns of the stopped worker. The pass
+  -- keeps its hall, its number and its joined passes, the worker keeps its settings, and the pass has seen the turns
+  -- from before and perhaps newer ones. The own turns of the pass are commands on leases. The k-th of them is at k
+  -- times `tick` milliseconds, and there are at most 3 * `turns` of them. If the run ended without an error, these
+  -- turns are the answered commands of the worker (`HasRun`), there are at least `turns` of them, and the worker is
+  -- idle. Also, the processors were then called for the given reads of their tenures (`AreServedLater`). After an
+  -- error, the run was cut short (`WasCut`). The processors were then called for the reads that are given after all
+  -- turns of the pass, or after all turns but the last (`AreServedSoFar`).
   pub record HasEnded (turns tick : ℕ) (before after : Member M P F G) : Type 0 where
     pub kept : (after.pass.hall ≡ before.pass.hall) × (after.pass.by ≡ before.pass.by)
         × (after.pass.joined ≡ before.pass.joined)

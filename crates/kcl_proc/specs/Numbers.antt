@@ -16,7 +16,7 @@ numbers_in [] = []
 numbers_in (call.Process batch ∷ calls) = numbers_in calls ++ numbers_of batch
 numbers_in (_ ∷ calls) = numbers_in calls
 
--- What asks for a checkpoint at the first sequence number of a batch, or for none if the batch is empty.
+-- The request for a checkpoint at the first sequence number of a batch, or for no checkpoint if the batch is empty.
 abbrev pub first_ask : List Stored → Ask
 first_ask [] = ask.None
 first_ask (r ∷ batch) = ask.At r.seq

@@ -26,7 +26,7 @@ bytes_in [] = 0
 bytes_in (call.Process batch ∷ calls) = bytes_in calls + payload_bytes batch
 bytes_in (_ ∷ calls) = bytes_in calls
 
--- The greatest value of a count. A count that has reached it stays there.
+-- The greatest value of a count. A count that has reached this value stays there.
 abbrev pub most : ℕ
 most = 2 ^ 64 - 1
 

@@ -105,8 +105,8 @@ worker_form = record { spells = worker_spells; again = λ n v. (count_form great
 
 -- ---- Two values, one after the other
 
--- If two kinds of values are each read as they are written, so are a value of the first kind and one of the second with
--- the byte `sep` between them. No text of the first kind may contain this byte.
+-- If two kinds of values are each read as they are written, so are pairs: a value of the first kind, the byte `sep`,
+-- and a value of the second kind. No text of the first kind may contain this byte.
 pub two_form : {A B : Type 0} {V : A → Type 0} {f : List ℕ → Option A} {s : A → List ℕ} {W : B → Type 0} {g : List ℕ
     → Option B} {u : B → List ℕ}
     → (sep : ℕ) → (sep == sep) ≡ true → ((x : A) → V x → Lacks sep (s x)) → IsForm V f s → IsForm W g u

@@ -1,4 +1,5 @@
--- A value with an origin after it is read as it is written (`IsForm`).
+-- A value with an origin after it is read as it is written (`IsForm`): a text that is read as the two is the text of
+-- the two, and the text of the two is read as the two.
 use Rattle.std.proofs.Common.{◌≡◌, ℕ, ◌<◌, ◌^◌, List, ◌∷◌, ◌++◌, Bool, true, false, Option, Some, None, refl, sym, ap}
 use Rattle.std.proofs.Common.{◌∙◌, codes, decimal, subst}
 use Rattle.std.proofs.lemmas.List.{append-nil}

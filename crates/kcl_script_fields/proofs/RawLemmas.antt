@@ -164,11 +164,13 @@ longer_spells text c h =
 
 -- ---- All commands of raw lines
 
--- The command `r.0` can be that of a raw line, with the choice `r.1` of its answer, and `text` is its text.
+-- The command `r.0` can be that of a raw line, `r.1` says whether its answer is to have each row, and `text` is the
+-- text of this command.
 abbrev SpellsRaw : List ℕ → Command × Bool → Type 0
 SpellsRaw text r = IsAsked r.0 r.1 × (text ≡ raw_text r.0 r.1)
 
--- The text of a survey, in its longer or shorter form, is the text of this command.
+-- A text that is the word of a survey, with each row in the answer or without, is the text of this command
+-- (`SpellsRaw`).
 survey_spells : (word text : List ℕ) (long : Bool) (r : Command × Bool) → word ≡ raw_text command.Survey long
     → bytes_eq text word ≡ true
     → Some (command.Survey, long) ≡ Some r → SpellsRaw text r
@@ -194,7 +196,7 @@ command_spells text r h =
     (λ h. choose (bytes_eq text (codes "rows")) _ _ r h (survey_spells (codes "rows") text true r refl)
     (more_spells text r))
 
--- The text of a command without the longer answer is read as this command.
+-- The text of a command is read as this command, and as one whose answer isn't to have each row.
 short_again : (what : Command) → IsRaw what → command_of (command_text what) ≡ Some (what, false)
 short_again command.Survey v = refl
 short_again (command.MakeLease key from) v =
@@ -225,7 +227,8 @@ short_again (command.CutLease key counter) v =
     (cut_form.again (key, counter) v.numbers)
 short_again _ v = absurd (cc v.lease)
 
--- The text of a command that a raw line can have is read as this command, with the choice of its answer.
+-- The text of a command that a raw line can have is read as this command, together with whether its answer is to have
+-- each row.
 pub command_again : (what : Command) (long : Bool) → IsAsked what long
     → command_of (raw_text what long) ≡ Some (what, long)
 command_again what false a = short_again what a.0

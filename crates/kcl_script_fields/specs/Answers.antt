@@ -50,8 +50,8 @@ survey_text long shards rows =
     if long then codes "ok " ++ (decimal (length rows) ++ rows_text rows) else codes "ok "
     ++ (decimal shards ++ 32 ∷ decimal (length rows))
 
--- The text of the reply to a command on leases. `long` says whether the answer to a survey has each row. The text of
--- any other reply is empty.
+-- The text of the reply to a command on leases. `long` says whether the answer to a survey has each row. The text of a
+-- reply to any other command is empty.
 abbrev pub reply_text : Bool → Reply → List ℕ
 reply_text long reply.Done = codes "ok"
 reply_text long (reply.Leased from) = codes "ok"

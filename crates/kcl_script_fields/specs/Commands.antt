@@ -27,7 +27,7 @@ target_text target.End = codes "end"
 target_text (target.At q) = decimal q
 
 -- The key and the origin that the text denotes, in the form `KEY`, `KEY latest` or `KEY time M`. In the first form, the
--- origin is TRIM_HORIZON.
+-- origin is TRIM_HORIZON. Any other text gives None.
 abbrev pub row_of : List ℕ → Option (ShardRef × Origin)
 row_of text = with_origin key_of text
 
@@ -88,15 +88,15 @@ words_of word text =
 abbrev pub longer_of : List ℕ → Option Command
 longer_of text = field text >>= λ p. words_of p.0 p.1
 
--- The command that the text denotes, and whether the answer is to have each row. This is so only for `rows`, which is a
--- survey as `survey` is. It is None if the text denotes no command on leases.
+-- The command that the text denotes, and whether its answer is to have each row. Only `rows` has such an answer, and it
+-- is a survey, as `survey` is. The result is None if the text denotes no command on leases.
 abbrev pub command_of : List ℕ → Option (Command × Bool)
 command_of text =
     if bytes_eq text (codes "survey") then Some (command.Survey, false)
     else if bytes_eq text (codes "rows") then Some (command.Survey, true)
     else option_map (λ c. (c, false)) (longer_of text)
 
--- The text of a command on leases. For any other command, it is empty.
+-- The text of a command on leases. For any other command, the text is empty.
 abbrev pub command_text : Command → List ℕ
 command_text command.Survey = codes "survey"
 command_text (command.MakeLease key from) = codes "make " ++ (key_text key ++ origin_text from)
@@ -114,7 +114,7 @@ command_text (command.CutLease key counter) = codes "cut " ++ (key_text key ++ 3
 command_text _ = []
 
 -- The text of the command in a raw line of a schedule. If `long` is true, the answer is to have each row, and the text
--- is `rows`. Otherwise it is that of the command.
+-- is `rows`. Otherwise it is the text of the command.
 abbrev pub raw_text : Command → Bool → List ℕ
 raw_text what long = if long then codes "rows" else command_text what
 

@@ -16,8 +16,9 @@ time_of text = field text >>= λ p.
 abbrev pub origin_of : List ℕ → Option Origin
 origin_of text = if bytes_eq text (codes "latest") then Some origin.Latest else time_of text
 
--- What `read` reads, and the origin that follows it. The last argument is the text parted at its first space. If there
--- is no space (None), `read` reads the whole text, and the origin is TRIM_HORIZON.
+-- What `read` reads from the first field of the text, and the origin that follows this field. The last argument is the
+-- text parted at its first space. If there is no space (None), `read` reads the whole text, and the origin is
+-- TRIM_HORIZON.
 abbrev pub with_origin_at : {A : Type 0} → (List ℕ → Option A) → List ℕ → Option (List ℕ × List ℕ) → Option (A × Origin)
 with_origin_at read text None = option_map (λ a. (a, origin.TrimHorizon)) (read text)
 with_origin_at read text (Some p) = read p.0 >>= λ a. option_map (λ o. (a, o)) (origin_of p.1)

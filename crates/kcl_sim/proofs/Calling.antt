@@ -119,15 +119,16 @@ all_made e is = ap (λ past. record e { past = past }) (none_called e.kind (stat
 
 -- ---- What a processor asks for in a call
 
--- Processors of the kinds `maker` and `kind` ask for the same checkpoint after each batch. Then what one of `maker`
--- asks for in a call at the stage `p` is what one of `kind` asks for.
+-- Processors of the kinds `maker` and `kind` ask for the same checkpoint after each batch. Then in the call that is due
+-- in the stage `p`, a processor of the kind `maker` asks for what a processor of the kind `kind` asks for.
 pub ask_is : (maker kind : Kind) → ((batch : List Stored) → asked_of maker batch ≡ asked_of kind batch)
     → (p : Stage) (a : Ask) → IsAsk (λ batch b. b ≡ asked_of maker batch) p a → a ≡ ask_in kind p
 ask_is maker kind same (Holding reach waiting) a h = h ∙ same _
 ask_is maker kind same _ a h = h
 
--- Processors of the kinds `maker` and `kind` ask for the same checkpoint after each batch. If one of `maker` asked for
--- `a` in the due call of the consumer `o`, then `o` has a consumer `k`, and `a` is what one of `kind` asks for.
+-- Processors of the kinds `maker` and `kind` ask for the same checkpoint after each batch. A processor of the kind
+-- `maker` asked for `a` in the due call of the consumer `o`. Then `o` is a consumer `k`, and `a` is what a processor of
+-- the kind `kind` asks for.
 pub ask_of : (maker kind : Kind) → ((batch : List Stored) → asked_of maker batch ≡ asked_of kind batch)
     → (o : Option Known) (a : Ask) → IsAskOf (λ batch b. b ≡ asked_of maker batch) o a
     → (k : Known) × (o ≡ Some k) × (a ≡ ask_in kind (stage_of_known k))

@@ -18,7 +18,7 @@ employ_length [] (e ∷ es) s = absurd s
 employ_length (w ∷ ws) [] s = absurd s
 employ_length (w ∷ ws) (e ∷ es) s = ap suc (employ_length ws es s.1)
 
--- If all workers stand for their records, they still do after a worker and its record were added at the end.
+-- If all workers stand for their records, all workers still do after a worker and its record were added at the end.
 pub employ_more : (ws : List Stepped) (es : List Employed) (w : Stepped) (e : Employed) → EmployAll ws es → Employs w e
     → EmployAll (ws ++ w ∷ []) (es ++ e ∷ [])
 employ_more [] [] w e s h = (h, tt)
@@ -36,8 +36,8 @@ employ_at (v ∷ ws) (e ∷ es) zero w s is = let same : v ≡ w = cc in
     (e, refl, subst (λ (u : Stepped). Employs u e) same s.0)
 employ_at (v ∷ ws) (e ∷ es) (suc index) w s is = employ_at ws es index w s.1 is
 
--- If all workers stand for their records, they still do after the worker at the index `index` was replaced by `w`, and
--- the record there by `e`, for which `w` stands.
+-- The worker at the index `index` was replaced by `w`, and the record at this index by `e`, for which `w` stands. If
+-- all workers stood for their records before, all workers still do.
 pub employ_set : (ws : List Stepped) (es : List Employed) (index : ℕ) (w : Stepped) (e : Employed) → EmployAll ws es
     → Employs w e → EmployAll (slice_set ws index w) (slice_set es index e)
 employ_set [] [] index w e s h = tt
@@ -73,8 +73,8 @@ placed_by false true by count index l w h =
     let lt : index_of by < count = grind (arith, nat_tests) in
     (refl, same, subst (λ n. n < count) same lt)
 
--- If the actor `by` has the index `index` among `count` workers, then `by` is above `MOST_ACTOR`, `index` is the one
--- computed from `by`, and it is below `count`.
+-- If the actor `by` has the index `index` among `count` workers, then `by` is above `MOST_ACTOR`, and `index` is the
+-- index that is computed from `by`, and is below `count`.
 placed : (by count index : ℕ) → index_among by count ≡ Some index → (nat_le by MOST_ACTOR ≡ false)
     × (index_of by ≡ index) × (index < count)
 placed by count index h = placed_by (nat_le by MOST_ACTOR) (nat_lt (index_of by) count) by count index refl refl h
@@ -92,8 +92,8 @@ pub got_there : (ws : List Stepped) (index : ℕ) (d w : Stepped) → index < le
     → slice_get ws index ≡ Some w
 got_there ws index d w lt is = slice_get-get_or ws index d lt ∙ ap Some (sym is)
 
--- The run that a call sees, `inside`, is the one that callers see, `shown`. Then the worker `w` that the call reads at
--- the actor's index is the one that callers see at this index.
+-- `inside`, the run that a call sees, is `shown`, the run that callers see. The worker `w` that the call reads at the
+-- actor's index is the worker that callers see at this index.
 pub shown_there : (inside shown : SimValue) (by index : ℕ) (d w : Stepped) → inside ≡ shown
     → index_among by (length shown.workers) ≡ Some index
     → w ≡ get_or inside.workers index d → slice_get shown.workers index ≡ Some w
@@ -102,13 +102,13 @@ shown_there inside shown by index d w is there got =
     (placed by (length shown.workers) index there).2 in
     ap (λ (v : SimValue). slice_get v.workers index) (sym is) ∙ got_there inside.workers index d w lt got
 
--- If no worker waits for an answer, the worker at the index `index`, if there is one, doesn't (`IsFree`).
+-- If no worker waits for an answer, the worker at the index `index`, if there is one, waits for no answer (`IsFree`).
 pub free_at : (ws : List Stepped) (index : ℕ) → AllByRecursion IsFree ws → IfSome (slice_get ws index) IsFree
 free_at [] index h = tt
 free_at (v ∷ ws) zero h = h.0
 free_at (v ∷ ws) (suc index) h = free_at ws index h.1
 
--- If the index is within the list, the list has the worker `w` there after `w` was written at it.
+-- If the index is within the list and `w` was written at this index, the list has the worker `w` at this index.
 pub got_set : (ws : List Stepped) (index : ℕ) (w : Stepped) → index < length ws
     → slice_get (slice_set ws index w) index ≡ Some w
 got_set [] index w lt = absurd (omega arith)

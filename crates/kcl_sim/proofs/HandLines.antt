@@ -1,7 +1,7 @@
 -- The line of a schedule that hands off a lease leads to the run that `with_line` defines. In the lemmas, `old` is the
 -- run before the line, which stands for `ran`, and `new` is the run after it. `before` and `after` are the output
--- before and after, and `wanted` says whether answers are output. `GoesOn`: the line was run, its output was added if
--- answers are wanted, and memory didn't run out.
+-- before and after the line, and `wanted` says whether answers are output. `GoesOn`: the line was run, its output was
+-- added if answers are wanted, and memory didn't run out.
 use Rattle.std.proofs.Common.{◌≡◌, ℕ, Bool, zero, suc, true, false, List, [], ◌∷◌, ◌++◌, length, Some, None, codes}
 use Rattle.std.proofs.Common.{refl, sym, ap, subst, ◌∙◌, inr}
 use Rattle.std.specs.Prelude.{option_map, slice_get, slice_set}
@@ -31,16 +31,16 @@ use Rattle.kcl_sim.proofs.Running.{replaced, works}
 
 -- ---- A worker releases a lease
 
--- A release of the key `key` takes a lease out of the worker with the record `e`. Then `v` is the hand-off that this
--- release begins, and the worker `now` stands for `e` with the release and any events of the hand-off added.
+-- A release of the key `key` takes a lease out of the worker with the record `e`. `v` is the hand-off that this release
+-- begins. The worker `now` stands for `e` with the release and any events of the hand-off added.
 pub record IsReleased (key : ShardRef) (e : Employed) (now : Stepped) (v : Handing) : Type 0 where
   pub release : Release
   pub which : release_by key (Some e) ≡ Some release
   pub hand : IsHandOf v (hand_of release [])
   pub worker : (since : HandPast) → Employs now (record e { past = with_hand key since e.made e.past })
 
--- A release of the worker `was` left the worker `now` and returned the lease `h` with its consumer `c`, from which the
--- hand-off `v` was made. Then `IsReleased` holds for every record that `was` stands for.
+-- The worker `was` released the lease `h` with its consumer `c` and became `now`, and the hand-off `v` was made from
+-- `h` and `c`. Then `IsReleased` holds for every record that `was` stands for.
 pub released_so : (was now : Stepped) (key : ShardRef) (h : Held) (c : ConsumerValue Stock) (v : Handing)
     → AddsRelease Calls was now key (h, c)
     → now.made ≡ was.made → now.maker ≡ was.maker
@@ -120,8 +120,8 @@ nothing_hands wanted old new ran at by index key was now before after s going th
 
 -- ---- The hand-off ran to its end
 
--- If the worker released a lease, which left the worker `next`, and the hand-off `v` of this lease ran to its end, then
--- the hand-off line was run (`GoesOn`).
+-- If the worker released a lease and became `next`, and the hand-off `v` of this lease ran to its end, then the
+-- hand-off line was run (`GoesOn`).
 pub hand_goes : (wanted : Bool) (old mid now new : SimValue) (ran : Ran) (at by index : ℕ) (key : ShardRef)
     (was next : Stepped) (v : Handing) (before after : List ℕ)
     → RunsSo old ran → old.unfinished ≡ false

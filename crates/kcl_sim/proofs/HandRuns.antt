@@ -1,5 +1,5 @@
 -- A hand-off that is run command by command does what the definition `hand_run` says. In the lemmas, `old` is the run
--- before the hand-off, `v` is the hand-off as it was then, and `x` is a record that `v` stands for (`IsHandOf`).
+-- before the hand-off, `v` is the hand-off before the run, and `x` is a record that `v` stands for (`IsHandOf`).
 -- `wanted` says whether answers are output.
 use Rattle.std.proofs.Common.{◌≡◌, ℕ, Bool, zero, suc, ◌+◌, ◌-◌, ◌<◌, ◌≤◌, List, [], ◌∷◌, ◌++◌, Some, None, Result}
 use Rattle.std.proofs.Common.{refl, sym, ap, subst, ◌∙◌, arith, ◌⊎◌, inl, inr}
@@ -50,8 +50,7 @@ pub next_is : (v : Handing) (x : HandOff) → IsHandOf v x → command_at v.held
     ≡ hand_command x.held x.made (state_of x)
 next_is v x s = λ i. command_at (s.held i) (s.made i) (stage_is v x s i) (stand_is v x s i)
 
--- If the consumer is in a stage that comes after the loss of a lease (`IsLeaving`), it is in such a stage after an
--- answer too.
+-- If the consumer is in a stage after the loss of a lease (`IsLeaving`), it is also in such a stage after an answer.
 answered_leaves_at : (h : Held) (made : Tenancy) (a : Result Reply Refusal) (s : HandState) (st : Stand)
     → IsLeaving (stage_after made s.past)
     → IsLeaving (stage_after made (answered_at h made a s st).past)
@@ -71,12 +70,12 @@ hand_on : (w : Handing) (x : HandOff) → w.held ≡ x.held → w.consumer.made 
     → IsLeaving (stage_after x.made (state_of x).past) → IsHandOf w x
 hand_on w x held made s l = record { held = held; made = made; stands = s; leaving = leaves_so w x held made s l }
 
--- If no call is due, the record after its due call is the record itself.
+-- If no call is due for the record `x`, `called_up` doesn't change `x`.
 pub called_none : (x : HandOff) → hand_due x.made (state_of x) ≡ None → called_up x ≡ x
 called_none x is = ap (λ o. called_if o x) is
 
--- If the hand-off `v` took the answer `a` to the command `what`, which left the hand-off `w`, then `w` is the hand-off
--- of the record with this answer added (`IsHandOf`).
+-- If the hand-off `v` took the answer `a` to the command `what` and became `w`, then `w` is the hand-off of the record
+-- with this answer added (`IsHandOf`).
 pub answered_on : (at by : ℕ) (h : List Turn) (what : Command) (a : Result Reply Refusal) (v w : Handing)
     → w.held ≡ v.held
     → w.consumer.made ≡ v.consumer.made → AddsHandAnswer Calls a v w → a ≡ answer h (raw_turn at by what)
@@ -90,12 +89,13 @@ answered_on at by h what a v w held made adds is x s =
 
 -- ---- The first commands of a hand-off
 
--- The run `r` with the commands `deals` and their answers put before its own.
+-- The run in the second argument with the commands and answers `deals` put before its own.
 pub with_deals : List Deal → HandRun → HandRun
 with_deals deals r = record r { deals = deals ++ r.deals }
 
 -- The first `n` commands of the hand-off `x` after the history `h`, with the answers in `deals`, lead to the hand-off
--- `y` and the history `k`. Any further `j` commands of `x` are `j` commands of `y` from `k` on.
+-- `y` and the history `k`. That is, a run of `x` with at most `n + j` commands is a run of `y` from `k` on with at most
+-- `j` commands, with `deals` put before.
 abbrev pub IsRest : ℕ → ℕ → List Turn → HandOff → ℕ → List Deal → List Turn → HandOff → Type 0
 IsRest at by h x n deals k y = (j : ℕ) → run_hand (n + j) at by h x ≡ with_deals deals (run_hand j at by k y)
 
@@ -114,8 +114,8 @@ rest_begins at by h x none j =
     let same : 0 + j ≡ j = omega arith in
     ap (λ m. run_hand m at by h x) same ∙ run_called j at by h x none
 
--- If `IsRest` holds after `n` commands, it holds after one more command `what`, if no call is due before this command,
--- and none after the call that follows it.
+-- If `IsRest` holds after `n` commands, `IsRest` also holds after one more command `what`. This requires that no call
+-- is due before this command, and that no call is due after the call that follows this command.
 rest_more : (at by : ℕ) (h : List Turn) (x : HandOff) (n : ℕ) (deals : List Deal) (k : List Turn) (y : HandOff)
     (what : Command)
     → IsRest at by h x n deals k y → hand_command y.held y.made (state_of y) ≡ Some what
@@ -150,10 +150,10 @@ deals_more (d ∷ deals) deal = ap (λ z. deal_text d ++ z) (deals_more deals de
 
 -- ---- A hand-off in the middle of its run
 
--- The first commands of the hand-off `v` became turns of the run, and the due calls were made, which left the hand-off
--- `w` without a due call. `now` is the run after them, with the workers of `old`, and `text` is what was written for
--- them.
--- The number of these commands, `ran_of_it`, and of those that `w` may still make is at most three together.
+-- The hand-off `v` made its first `ran_of_it` commands, each of which became a turn, and all due calls. The run was
+-- `old` before and is `now`, with the same workers. The hand-off is now `w`, and has no due call. If answers are
+-- wanted, `text` is the output for the commands so far, and otherwise `text` is empty. `ran_of_it` and the number of
+-- turns that `w` still makes are together at most three.
 pub record UnderWay (wanted : Bool) (at by : ℕ) (old now : SimValue) (v w : Handing) (text : List ℕ) : Type 0 where
   pub ran_of_it : ℕ
   pub deals : List Deal
@@ -166,13 +166,13 @@ pub record UnderWay (wanted : Bool) (at by : ℕ) (old now : SimValue) (v w : Ha
   pub rest : (x : HandOff) → IsHandOf v x → (y : HandOff) × IsHandOf w y
       × IsRest at by old.history x ran_of_it deals now.history y
 
--- If the hand-off `w` has no due call, its record `y` has none.
+-- If the hand-off `w` has no due call, its record `y` has no due call either.
 none_of : (w : Handing) (y : HandOff) → IsHandOf w y → due_call w.consumer.stage ≡ None
     → hand_due y.made (state_of y) ≡ None
 none_of w y s none = sym (due_is w y s) ∙ none
 
--- `UnderWay` holds before the first command, once the due call of `v`, if any, was made, which left `w`. `v` may make
--- at most three commands.
+-- The due call of `v`, if any, was made, and `v` became `w`. If `v` may make at most three commands, `UnderWay` holds
+-- before the first of them.
 pub way_begins : (wanted : Bool) (at by : ℕ) (old now : SimValue) (v w : Handing) (text : List ℕ) → now ≡ old
     → text ≡ [] → turns_left_in v ≤ 3
     → turns_left_in w ≤ turns_left_in v → due_call w.consumer.stage ≡ None
@@ -195,8 +195,8 @@ way_begins wanted at by old now v w text same empty few fewer none called = reco
       );
 }
 
--- If the hand-off `w` makes one more round (`MadeRound`), a command and then the due call, which leaves the hand-off
--- `u`, then `UnderWay` still holds, with `u` in place of `w`.
+-- If the hand-off `w` makes one more round, a command and then the due call (`MadeRound`), and becomes `u`, then
+-- `UnderWay` still holds with `u` in place of `w`.
 pub way_goes : (wanted : Bool) (at by : ℕ) (old now new : SimValue) (v w u : Handing) (text more : List ℕ)
     → UnderWay wanted at by old now v w text
     → MadeRound wanted at by now new w u text more → new.unfinished ≡ now.unfinished → new.workers ≡ now.workers
@@ -253,8 +253,8 @@ whole_run wanted at by old now v w text way over x s =
     ap (λ m. run_hand m at by old.history x) three ∙ y.2 left ∙ ap (with_deals way.deals)
     (ends_so left at by now.history y.0 quiet (none_of w y.0 y.1 way.none_due))
 
--- If the hand-off `w` has ended, and its line of output with how it ended was added, then the hand-off `v` ran to its
--- end (`RanToEnd`).
+-- If the hand-off `w` has ended, and its line of output, which says how it ended, was added, then the hand-off `v` ran
+-- to its end (`RanToEnd`).
 pub way_ends : (wanted : Bool) (at by : ℕ) (old now new : SimValue) (v w : Handing) (text line before after : List ℕ)
     → UnderWay wanted at by old now v w text
     → IsSome (left_at w.stand) → line ≡ text ++ if_wanted wanted (left_text (left_at w.stand) ++ 10 ∷ [])
@@ -275,8 +275,8 @@ way_ends wanted at by old now new v w text line before after way over line_is wr
 
 -- ---- Out of memory
 
--- If memory ran out between two commands of the hand-off, then only its first commands became turns, perhaps none
--- (`RanFirst`).
+-- If memory ran out between two commands of the hand-off, then only the hand-off's first commands became turns, perhaps
+-- none (`RanFirst`).
 pub broke_between : (wanted : Bool) (at by : ℕ) (old now new : SimValue) (v w : Handing) (text : List ℕ)
     → UnderWay wanted at by old now v w text
     → new.history ≡ now.history
@@ -296,8 +296,8 @@ one_left (stand.Ended left) stage going = absurd cc
 one_left stand.Consumer (Giving reach waiting asked lost) going = omega arith
 one_left _ _ going = omega arith
 
--- If memory ran out after one more command of the hand-off became a turn (`RanCommand`), then only its first commands
--- became turns, this one included (`RanFirst`).
+-- If memory ran out after one more command of the hand-off became a turn (`RanCommand`), then only the hand-off's first
+-- commands became turns, up to and including this one (`RanFirst`).
 pub broke_after : (wanted : Bool) (at by : ℕ) (old now new : SimValue) (v w : Handing) (text : List ℕ)
     → UnderWay wanted at by old now v w text
     → left_at w.stand ≡ None
@@ -313,8 +313,8 @@ broke_after wanted at by old now new v w text way going r = record {
       ∙ ap (λ z. z.history) (sym (y.2 1));
 }
 
--- If memory ran out in a round, before or after its command became a turn, then only the first commands of the hand-off
--- became turns (`RanFirst`).
+-- If memory ran out in a round, before or after the round's command became a turn, then only the first commands of the
+-- hand-off became turns (`RanFirst`).
 pub broke_round : (wanted : Bool) (at by : ℕ) (old now new : SimValue) (v w : Handing) (text : List ℕ)
     → UnderWay wanted at by old now v w text
     → left_at w.stand ≡ None
@@ -332,8 +332,8 @@ comes_next : (v : Handing) (what : Command) → Some what ≡ command_at v.held 
     → ComesNext v what
 comes_next v what is x s = sym (next_is v x s) ∙ sym is
 
--- The next command of the hand-off `v` became a turn, and its answer was taken, which left `mid`. If then the due call
--- was made, which left `w`, a round was made (`MadeRound`).
+-- The next command of the hand-off `v` became a turn, and the hand-off took the answer and became `mid`. If the due
+-- call of `mid`, if any, was then made, and `mid` became `w`, a round was made (`MadeRound`).
 pub round_made : (wanted : Bool) (at by : ℕ) (old new : SimValue) (v mid w : Handing) (what : Command)
     (a : Result Reply Refusal) (before after : List ℕ)
     → Some what ≡ command_at v.held v.consumer.made v.consumer.stage v.stand

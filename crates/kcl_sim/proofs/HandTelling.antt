@@ -53,9 +53,9 @@ released_free (Some r) w h = h
 
 -- ---- The record with the hand-off
 
--- Consider the joint record `past` with a release of the key `key` added, and with the events `since` of the hand-off
--- that this release begins. This record is possible (`AreOrderly`), and its answered commands are the actor's turns in
--- `h`.
+-- Take the joint record `past` with a release of the key `key` added, and with the events `since` of the hand-off that
+-- this release begins. The events of this record may happen in their order (`AreOrderly`), and its answered commands
+-- are the actor's turns in `h`.
 pub record IsTellingHand (by : ℕ) (h : List Turn) (key : ShardRef) (made : WorkerMade) (past : JointPast)
     (since : HandPast) : Type 0 where
   pub orderly : AreOrderly made (with_hand key since made past)
@@ -63,8 +63,8 @@ pub record IsTellingHand (by : ℕ) (h : List Turn) (key : ShardRef) (made : Wor
 
 module _ (at by : ℕ) (key : ShardRef) (made : WorkerMade) (past : JointPast) (r : Release)
     (which : released key (worker_in made past) ≡ Some r) where
-  -- If the hand-off's next command `what` becomes a turn of the actor `by` and is answered, the actor's turns are still
-  -- those of the joint record, which has the answer added.
+  -- If the hand-off's next command `what` becomes a turn of the actor `by` and is answered, the actor's turns are those
+  -- of the joint record with this answer added.
   answered_tells : (h : List Turn) (since : HandPast) (what : Command)
       → hand_command r.held r.known.made (state_of (hand_of r since)) ≡ Some what
       → IsTellingHand by h key made past since
@@ -83,20 +83,22 @@ module _ (at by : ℕ) (key : ShardRef) (made : WorkerMade) (past : JointPast) (
             ∙ sym (deals_with_hand key made past r which since what a is);
       }
 
-  -- If the due call of the hand-off, if any, is made, the actor's turns are still those of the joint record, which has
-  -- the call added. A call isn't a turn.
+  -- If the due call of the hand-off, if any, is made, the actor's turns are those of the joint record with this call
+  -- added. A call isn't a turn.
   called_tells : (h : List Turn) (since : HandPast) (o : Option Due) → IsTellingHand by h key made past since
       → IsTellingHand by h key made past (called_if o (hand_of r since)).since
   called_tells h since None t = t
   called_tells h since (Some due) t = record { orderly = (tt, t.orderly); told = t.told }
 
-  -- A hand-off with a call added is the hand-off that the release begins, with the events of the former.
+  -- If a call is added to a hand-off that the release begins, this is still the hand-off that the release begins, with
+  -- the call among its events.
   called_hand : (since : HandPast) (o : Option Due)
       → called_if o (hand_of r since) ≡ hand_of r (called_if o (hand_of r since)).since
   called_hand since None = refl
   called_hand since (Some due) = refl
 
-  -- After the run `run` of the hand-off, the actor's turns are those of the joint record with the hand-off's events.
+  -- After the run of the hand-off in the argument, the actor's turns are those of the joint record with the hand-off's
+  -- events, and these events may happen in their order (`IsTellingHand`).
   Tells : HandRun → Type 0
   Tells run = IsTellingHand by run.history key made past run.hand.since
 
@@ -112,8 +114,8 @@ module _ (at by : ℕ) (key : ShardRef) (made : WorkerMade) (past : JointPast) (
       rest (turn_of at by what ∷ h) (Hand_answered (answer h (turn_of at by what)) ∷ since)
       (answered_tells h since what is t)
 
-  -- After a run of at most `n` commands, the actor's turns are those of the joint record with the hand-off's events, if
-  -- they were before.
+  -- A run of at most `n` commands of the hand-off keeps this true: the actor's turns are those of the joint record with
+  -- the hand-off's events.
   runs_tell : (n : ℕ) (h : List Turn) (since : HandPast) → IsTellingHand by h key made past since
       → Tells (run_hand n at by h (hand_of r since))
   unfolding Tells
@@ -124,8 +126,8 @@ module _ (at by : ℕ) (key : ShardRef) (made : WorkerMade) (past : JointPast) (
       (round_tells n h (called_if o (hand_of r since)).since _ refl (called_tells h since o t)
       (λ k later s. runs_tell n k later s))
 
-  -- After the hand-off has run to its end, the actor's turns are those of the joint record with the hand-off's events,
-  -- if they were so right after the release.
+  -- If the actor's turns are those of the joint record right after the release, they still are once the hand-off has
+  -- run to its end. Then the joint record has the hand-off's events added.
   pub run_tells : (h : List Turn) → IsTellingHand by h key made past []
       → IsTellingHand by (run_hand 3 at by h (hand_of r [])).history key made past
       (run_hand 3 at by h (hand_of r [])).hand.since

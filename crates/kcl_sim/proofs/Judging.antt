@@ -1,6 +1,6 @@
--- The lines of a schedule are run one after another: what holds after some lines, and what is written for them, is
--- continued by the next line. `judge` reads texts as lines up to the first that isn't one. `wanted` says whether
--- answers are output. If not, a text gathered from the turns is.
+-- The lines of a schedule are run one after another. What holds after some lines, and what is written for them, is
+-- continued by the next line. `judge` reads texts as lines, up to the first text that isn't a line. `wanted` says
+-- whether answers are output. If they aren't, a text that is gathered from the turns is output.
 use Rattle.std.proofs.Common.{◌≡◌, ℕ, ◌+◌, Bool, true, false, List, [], ◌∷◌, ◌++◌, length, Option, Some, None, refl}
 use Rattle.std.proofs.Common.{sym, ap, subst, ◌∙◌, arith, inl, inr}
 use Rattle.std.proofs.lemmas.List.{append_assoc, append-nil}
@@ -32,7 +32,7 @@ with_schedule-append ran [] ks = refl
 with_schedule-append ran (l ∷ ls) ks = with_schedule-append (with_line ran l) ls ks
 
 -- The step of `judge_from` for one more text in front, which is read as `o`. If this text and all of `texts` are lines,
--- the judgement of them and then `more` is the judgement of `more`, with these lines before it.
+-- the judgement of this text, `texts` and `more` is the judgement of `more` with these lines in front.
 judge_form_more : (count : ℕ) (texts more : List (List ℕ)) (o : Option Line) (end : End)
     → ((judge (count + 1) texts input.whole).ending ≡ whole
     → judge (count + 1) (texts ++ more) end
@@ -45,8 +45,8 @@ judge_form_more count texts more None end later are = absurd (cc)
 judge_form_more count texts more (Some l) end later are =
     ap (λ j. record { lines = l ∷ j.lines; ending = j.ending }) (later are)
 
--- If all of `texts` are lines, the judgement of `texts` and then `more`, where `count` lines come before, is the
--- judgement of `more` with the lines of `texts` before it.
+-- `count` lines come before `texts`. If all of `texts` are lines, the judgement of `texts` and then `more` is the
+-- judgement of `more` with the lines of `texts` in front.
 judge_from : (count : ℕ) (texts more : List (List ℕ)) (end : End) → (judge count texts input.whole).ending ≡ whole
     → judge count (texts ++ more) end
     ≡ preceded_by (judge count texts input.whole).lines (judge (count + length texts) more end)
@@ -55,15 +55,15 @@ judge_from count (text ∷ texts) more end are =
     let next : count + length (text ∷ texts) ≡ count + 1 + length texts = omega arith in
     rw next (judge_form_more count texts more (line_of text) end (judge_from (count + 1) texts more end) are)
 
--- If all of `texts` are lines, the judgement of `texts` and then `more` is the judgement of `more` after these lines,
--- with the lines of `texts` before it.
+-- If all of `texts` are lines, the judgement of `texts` and then `more` is the judgement of `more`, as texts that come
+-- after these lines, with the lines of `texts` in front.
 pub judge_more : (texts more : List (List ℕ)) (end : End) → (judged_texts texts).ending ≡ whole
     → judge 0 (texts ++ more) end ≡ preceded_by (judged_texts texts).lines (judge (length texts) more end)
 judge_more texts more end are = let none : 0 + length texts ≡ length texts = omega arith in
     rw none at (judge_from 0 texts more end are)
 
--- If all of `texts` are lines and `text` is the line `l`, then the judgement of them together has the lines of `texts`
--- and then `l`, and ends after all of them.
+-- If all of `texts` are lines and `text` is the line `l`, then the judgement of `texts` and `text` together has the
+-- lines of `texts` and then `l`. Its ending is `whole`.
 one_more : (texts : List (List ℕ)) (text : List ℕ) (l : Line) → (judged_texts texts).ending ≡ whole
     → line_of text ≡ Some l
     → judged_texts (texts ++ text ∷ []) ≡ record { lines = (judged_texts texts).lines ++ l ∷ []; ending = whole }
@@ -72,8 +72,8 @@ one_more texts text l are is =
     ∙ ap (λ o. preceded_by (judged_texts texts).lines
     (judge_form (length texts) o (judge (length texts + 1) [] input.whole))) is
 
--- If `old` is the run of the lines `texts`, and `new` is this run after one more line `l` with the text `text`, then
--- `new` is the run of `texts` and `text` (`Took`).
+-- `old` is the run of the lines `texts`, and `new` is this run after one more line `l` with the text `text`. Then `new`
+-- is the run of `texts` and `text` (`Took`).
 pub took_more : (old new : SimValue) (texts : List (List ℕ)) (text : List ℕ) (l : Line) → Took old texts
     → line_of text ≡ Some l → RunsSo new (with_line (with_schedule fresh (judged_texts texts).lines) l)
     → Took new (texts ++ text ∷ [])
@@ -85,7 +85,7 @@ took_more old new texts text l t is made =
     ∙ ap (λ z. with_schedule fresh z.lines) (sym j) in
     record { are_lines = ap (λ z. z.ending) j; made = subst (λ (r : Ran). RunsSo new r) same made }
 
--- The output of `texts` and one more line is the output of `texts`, followed by that of the line `l`.
+-- The output of `texts` and one more line is the output of `texts`, followed by the output of the line `l`.
 output_more : (texts : List (List ℕ)) (text : List ℕ) (l : Line) → (judged_texts texts).ending ≡ whole
     → line_of text ≡ Some l → texts_output (texts ++ text ∷ []) ≡ texts_output texts
     ++ output_of (with_schedule fresh (judged_texts texts).lines) l
@@ -96,11 +96,11 @@ output_more texts text l are is =
 
 -- ---- What is written for the lines
 
--- If a turn is added to a history, its `text` is the text before with something added at the end.
+-- If a turn is added to a history, the `text` of the new history begins with the `text` of the old one.
 abbrev pub Grows : (List Turn → List ℕ) → Type 0
 Grows text = (h : List Turn) (turn : Turn) → TextGoesOn (text h) (text (turn ∷ h))
 
--- If any number of turns is added to a history, its `text` is the text before with something added at the end.
+-- If any number of turns is added to a history, the `text` of the new history begins with the `text` of the old one.
 text_grows : (text : List Turn → List ℕ) → Grows text → (more h : List Turn) → TextGoesOn (text h) (text (more ++ h))
 text_grows text grows [] h = ([], sym (append-nil (text h)))
 text_grows text grows (turn ∷ more) h =
@@ -108,8 +108,7 @@ text_grows text grows (turn ∷ more) h =
     let then = grows (more ++ h) turn in
     (first.0 ++ then.0, then.1 ∙ ap (λ z. z ++ then.0) first.1 ∙ append_assoc (text h) first.0 then.0)
 
--- The text of the history after the line `l` is the text of the history before the line, with something added at the
--- end.
+-- The `text` of the history after the line `l` begins with the `text` of the history before this line.
 line_text_grows : (text : List Turn → List ℕ) → Grows text → (ran : Ran) (l : Line)
     → TextGoesOn (text ran.history) (text (with_line ran l).history)
 line_text_grows text grows ran l =
@@ -117,7 +116,7 @@ line_text_grows text grows ran l =
     let t = text_grows text grows g.more ran.history in
     (t.0, ap text g.grows ∙ t.1)
 
--- The text of the history of `texts` and one more line is that of the history after the line `l` is run.
+-- The `text` of the history of `texts` and one more line is the `text` of the history after the line `l` is run.
 text_more : (text : List Turn → List ℕ) (texts : List (List ℕ)) (line_text : List ℕ) (l : Line)
     → (judged_texts texts).ending ≡ whole
     → line_of line_text ≡ Some l
@@ -127,8 +126,8 @@ text_more text texts line_text l are is =
     ap (λ z. text (with_schedule fresh z.lines).history) (one_more texts line_text l are is)
     ∙ ap (λ (r : Ran). text r.history) (with_schedule-append fresh (judged_texts texts).lines (l ∷ []))
 
--- What is written for `texts` and one more line is what is written for `texts`, followed by some text `added`. This
--- text is what was added to the output for the line `l`.
+-- What is written for `texts` and one more line is what is written for `texts`, followed by some text `added`. `added`
+-- is also what was added to the output for the line `l`.
 told_more : (wanted : Bool) (text : List Turn → List ℕ) (texts : List (List ℕ)) (line_text : List ℕ) (l : Line)
     (before after : List ℕ)
     → (judged_texts texts).ending ≡ whole → line_of line_text ≡ Some l
@@ -140,7 +139,7 @@ told_more true text texts line_text l before after are is wrote =
 told_more false text texts line_text l before after are is wrote =
     (wrote.0, text_more text texts line_text l are is ∙ wrote.1, wrote.2)
 
--- What is written for `texts` and one more line is what is written for `texts`, with something added at the end.
+-- What is written for `texts` and one more line begins with what is written for `texts`.
 told_grows : (wanted : Bool) (text : List Turn → List ℕ) → Grows text
     → (texts : List (List ℕ)) (line_text : List ℕ) (l : Line)
     → (judged_texts texts).ending ≡ whole → line_of line_text ≡ Some l
@@ -182,8 +181,8 @@ breaks_by wanted text grows old new line_text l is texts t (inl (inr made)) =
 breaks_by wanted text grows old new line_text l is texts t (inr part) =
     inr (inr (record { are_lines = t.are_lines; line = l; is = is; part = part }))
 
--- If memory ran out at the line `l`, then `new` is the run of the lines `texts` with or without this line (`Took`), or
--- it broke off in its middle (`Broke`).
+-- Memory ran out at the line `l` after the lines `texts`. Then `new` is the run of `texts` with or without this line
+-- (`Took`), or the run broke off in the middle of this line (`Broke`).
 pub breaks : (wanted : Bool) (text : List Turn → List ℕ) → Grows text
     → (old new : SimValue) (line_text : List ℕ) (l : Line) → line_of line_text ≡ Some l
     → ((ran : Ran) → RunsSo old ran → MayHaveBroken new ran l)

@@ -73,7 +73,7 @@ rounds_lawful n at by h x (Some what) is early limit past rest =
     rest (turn_of at by what ∷ h) (answered_by at by h x what) limit
     ((early, stand_lawful x.held x.made (stage_after x.made (state_of x).past) (state_of x).stand what is limit), past)
 
--- If at most `n` commands of a hand-off are run after a lawful history, the history after them is lawful.
+-- If at most `n` commands of a hand-off are run after a lawful history, the history after these commands is lawful.
 run_lawful : (n at by : ℕ) (h : List Turn) (x : HandOff) → at < 2 ^ 62 → IsLimit x.made.limit → IsHistory h
     → IsHistory (run_hand n at by h x).history
 run_lawful zero at by h x early limit past = past
@@ -119,8 +119,8 @@ employed_part n at by h k key ws None is part early bound past = absurd cc
 employed_part n at by h k key ws (Some e) is part early bound past =
     released_part n at by h k key e (release_by key (Some e)) refl part early (bounded_by by ws e is bound) past
 
--- Consider a hand-off line `l` of which at most the first `n` commands were run, which gave the history `k`. The turns
--- of `k` are lawful.
+-- If at most the first `n` commands of the hand-off line `l` were run, and this gave the history `k`, then the turns of
+-- `k` are lawful.
 pub part_lawful : (n : ℕ) (ran : Ran) (l : Line) (k : List Turn) → part_of n ran l ≡ Some k → IsLine l
     → AreBounded ran.workers → IsHistory ran.history
     → IsHistory k

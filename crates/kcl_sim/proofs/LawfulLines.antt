@@ -19,8 +19,8 @@ use Rattle.kcl_sim.proofs.LawfulSteps.{AreBounded, line_bounded, step_lawful, st
 use Rattle.kcl_sim.specs.Schedule.{Judged, judge_form, judge, judged, history}
 use Rattle.kcl_sim.specs.Standing.{HasRunPart, SimValue}
 
--- The turn of a request is lawful if its moment is below 2^62 and its command is one that a request may have
--- (`IsRequest`).
+-- The turns of a history stay lawful after a request, if the request's moment is below 2^62 and its command is one that
+-- a request may have (`IsRequest`).
 pub request_lawful : (h : List Turn) (at : ℕ) (r : Result Command Fault) → at < 2 ^ 62
     → ((what : Command) → r ≡ Ok what → IsRequest what) → IsHistory h → IsHistory (requested h at r)
 request_lawful h at (Ok what) early lawful past = ((early, (lawful what refl).0), past)
@@ -30,12 +30,12 @@ request_lawful h at (Err f) early lawful past = past
 abbrev pub AreLines : Judged → Type 0
 AreLines j = AllByRecursion IsLine j.lines
 
--- The first of two laws that the lemmas take as given: the command that a request is read as is one that a request may
--- have (`IsRequest`).
+-- The first of two laws that the lemmas take as given: if a request is read as a command, this command is one that a
+-- request may have (`IsRequest`).
 abbrev pub AskLawfully : Type 0
 AskLawfully = (operation body : List ℕ) (what : Command) → asked operation body ≡ Ok what → IsRequest what
 
--- The second of these two laws: the line that a text is read as has values in their ranges (`IsLine`).
+-- The second of these two laws: if a text is read as a line, this line has values in their ranges (`IsLine`).
 abbrev pub ReadLines : Type 0
 ReadLines = (text : List ℕ) (line : Line) → line_of text ≡ Some line → IsLine line
 
@@ -77,7 +77,8 @@ module _ (asks : AskLawfully) (reads : ReadLines) where
   line_lawful ran (Hand at by key) is bound past =
       hand_lawful ran at by key (employed_by by ran.workers) refl is.0 bound past
 
-  -- Such lines, one after another, keep all turns of the run lawful.
+  -- Lines with values in their ranges (`IsLine`), one after another, keep all turns of the run lawful, if the workers
+  -- of the run are bounded.
   schedule_lawful : (ran : Ran) (ls : List Line) → AllByRecursion IsLine ls → AreBounded ran.workers
       → IsHistory ran.history → IsHistory (with_schedule ran ls).history
   schedule_lawful ran [] are bound past = past

@@ -1,7 +1,7 @@
 -- The lines of a schedule that start, step or stop a worker lead to the run that `with_line` defines. In the lemmas,
 -- `old` is the run before the line, which stands for `ran`, and `new` is the run after it. `before` and `after` are the
--- output before and after, and `wanted` says whether answers are output. `GoesOn`: the line was run, its output was
--- added if answers are wanted, and memory didn't run out.
+-- output before and after the line, and `wanted` says whether answers are output. `GoesOn`: the line was run, its
+-- output was added if answers are wanted, and memory didn't run out.
 use Rattle.std.proofs.Common.{◌≡◌, ℕ, ◌+◌, ◌<◌, Bool, true, false, List, [], ◌∷◌, ◌++◌, length, Option, Some, None}
 use Rattle.std.proofs.Common.{Result, Ok, Err, codes, decimal, sym, ap, subst, ◌∙◌, arith, inl, inr, ◌⊎◌}
 use Rattle.std.specs.Prelude.{IsSome, MatchOption, OnErr, OnOk, get_or, slice_get, slice_set}
@@ -30,15 +30,15 @@ pub on_any : {A B : Type 0} {P : Type 0} (r : Result A B) → P → OnOk r P
 on_any (Ok x) h = h
 on_any (Err e) h = tt
 
--- If `P` holds if the result is Ok, so does everything that follows from `P`.
+-- If `P` implies `Q`, and `P` holds if the result is Ok, then `Q` holds if the result is Ok.
 pub on_ok_so : {A B : Type 0} {P Q : Type 0} (r : Result A B) → OnOk r P → (P → Q) → OnOk r Q
 on_ok_so (Ok x) h f = f h
 on_ok_so (Err e) h f = tt
 
 -- ---- One more worker
 
--- The worker `w` was made with the name, the kind and the origin of a line that starts a worker. If it was added to the
--- run, and its actor's number to the output, the line was run (`GoesOn`).
+-- The worker `w` was made with the name, the kind and the origin of a line that starts a worker. If `w` was added to
+-- the run, and the number of its actor was added to the output, the line was run (`GoesOn`).
 pub hired_goes : (wanted : Bool) (old new : SimValue) (ran : Ran) (w : Stepped) (at name by : ℕ) (kind : Kind)
     (from : Origin) (before after : List ℕ)
     → RunsSo old ran → old.unfinished ≡ false
@@ -64,7 +64,7 @@ hired_goes wanted old new ran w at name by kind from before after s going is mad
 
 -- ---- An actor without a worker
 
--- If the actor `by` has no worker, a line that stops its worker changes nothing, and its output is "none".
+-- If the actor `by` has no worker, a line that stops the actor's worker changes nothing, and its output is "none".
 pub nobody_stops : (wanted : Bool) (old new : SimValue) (ran : Ran) (at by : ℕ) (before after : List ℕ) → RunsSo old ran
     → old.unfinished ≡ false → new ≡ old
     → index_among by (length old.workers) ≡ None
@@ -79,7 +79,7 @@ nobody_stops wanted old new ran at by before after s going same none wrote =
       going = ap (λ (v : SimValue). v.unfinished) same ∙ going;
     }
 
--- If the actor `by` has no worker, a line that steps its worker changes nothing, and its output is "none".
+-- If the actor `by` has no worker, a line that steps the actor's worker changes nothing, and its output is "none".
 pub nobody_steps : (wanted : Bool) (old new : SimValue) (ran : Ran) (at by : ℕ) (before after : List ℕ) → RunsSo old ran
     → old.unfinished ≡ false → new ≡ old
     → index_among by (length old.workers) ≡ None
@@ -96,8 +96,8 @@ nobody_steps wanted old new ran at by before after s going same none wrote =
 
 -- ---- The worker of an actor
 
--- The worker `was` at the index `index` is that of the actor `by`. It stands for the record `e`, which is the actor's
--- in `ran`, and all workers of `old` stand for those of `ran`.
+-- `index` is the index of the actor `by`, and `e` is the record of this actor's worker in `ran`. The worker `was`
+-- stands for `e`, and all workers of `old` stand for those of `ran`.
 pub record Works (old : SimValue) (ran : Ran) (by index : ℕ) (was : Stepped) : Type 0 where
   pub e : Employed
   pub is : employed_by by ran.workers ≡ Some e
@@ -116,7 +116,7 @@ works old ran by index was s going there stood =
     let b = somebody by (length old.workers) index ran.workers there in
     record { e = f.0; is = b.1 ∙ f.1; employs = f.2; all = all; at_index = b.0 }
 
--- If the actor's worker and its record are replaced by the worker `new` and the record `d` for which it stands, then
+-- The actor's worker is replaced by the worker `new`, and its record by the record `d`, for which `new` stands. Then
 -- all workers still stand for the records of the run (`EmployAll`).
 pub replaced : (old : SimValue) (ran : Ran) (by index : ℕ) (was new : Stepped) (d : Employed)
     → Works old ran by index was → Employs new d
@@ -147,8 +147,8 @@ stop_goes wanted old new ran at by index was now before after s going there stoo
       going = going;
     })
 
--- If `h` is the history of the run, the record of a worker after a step at `h` is that after a step at the run's
--- history.
+-- If `h` is the history of the run, a worker that stands for the record after a step at `h` stands for the record after
+-- a step at the run's history.
 same_employed : (h : List Turn) (ran : Ran) (at by : ℕ) (o : Option Command) (e : Employed) → h ≡ ran.history
     → (v : Stepped) → Employs v (employed_after h at by o e) → Employs v (employed_after ran.history at by o e)
 same_employed h ran at by o e is v s = subst (λ k. Employs v (employed_after k at by o e)) is s
@@ -210,7 +210,7 @@ step_may old new ran at by index s going there unfinished (inr t) =
       workers = λ g. absurd (apart new.unfinished unfinished g);
     })))
 
--- If `P` holds if the result is an error, so does everything that follows from `P`.
+-- If `P` implies `Q`, and `P` holds if the result is an error, then `Q` holds if the result is an error.
 pub err_so : {A B : Type 0} {P Q : Type 0} (r : Result A B) → OnErr r P → (P → Q) → OnErr r Q
 err_so (Ok x) h f = tt
 err_so (Err e) h f = f h
@@ -218,7 +218,7 @@ err_so (Err e) h f = f h
 -- ---- A step in its parts
 
 -- The worker at the index `index` made its due calls and was then asked for a command at the moment `at`. `result` is
--- the command that it gave, or None if it is idle, and the worker is now `now`.
+-- the command that the worker gave, or None if the worker is idle. The worker is now `now`.
 pub record Asked (at index : ℕ) (old : SimValue) (result : Option Command) (now : Stepped) : Type 0 where
   pub was : Stepped
   pub stood : slice_get old.workers index ≡ Some was
@@ -236,8 +236,8 @@ where_some : {A : Type 0} (P : Type 0) (Q : A → Type 0) (o : Option A) (x : A)
 where_some P Q None x is h = absurd cc
 where_some P Q (Some y) x is h = subst Q (same_some y x is) h
 
--- The worker at the index `index` was borrowed to make its due calls, which left the worker `called`, and then borrowed
--- again and asked for a command, which left the worker `now`. Then `Asked` holds.
+-- The worker at the index `index` was borrowed to make its due calls, and became `called`. Then it was borrowed again
+-- and asked for a command, and became `now`. Then `Asked` holds.
 pub asked_at : (old : SimValue) (at index : ℕ) (ws : List Stepped) (first second was called lent now : Stepped)
     (result : Option Command) → ws ≡ old.workers → index < length ws
     → was ≡ get_or ws index first → lent ≡ get_or (slice_set ws index called) index second
@@ -263,7 +263,7 @@ asked_at old at index ws first second was called lent now result same lt got aga
           (stands (all_called e) (on e h));
     }
 
--- If the worker was asked for a command and gave none, then it made a step without a command (`StepsAt`).
+-- If the worker was asked for a command and gave none, then the worker made a step without a command (`StepsAt`).
 pub idle_steps : (wanted : Bool) (old new : SimValue) (at by index : ℕ) (result : Option Command) (now : Stepped)
     (before after : List ℕ)
     → Asked at index old result now → result ≡ None
@@ -284,8 +284,8 @@ idle_steps wanted old new at by index result now before after a none is wrote =
       wrote = wrote;
     }
 
--- If the worker was asked and gave the command `what`, which became a turn, and the worker took the answer, then it
--- made a step with this command (`StepsAt`).
+-- If the worker was asked and gave the command `what`, this command became a turn, and the worker took the answer, then
+-- the worker made a step with this command (`StepsAt`).
 turn_steps_of : (wanted : Bool) (old new : SimValue) (at by index : ℕ) (result : Option Command) (what : Command)
     (mid : List Stepped) (now : Stepped) (before after : List ℕ) → Asked at index old result now → result ≡ Some what
     → mid ≡ slice_set old.workers index now → index < length old.workers
@@ -319,7 +319,7 @@ turn_steps_of wanted old new at by index result what mid now before after a some
     }
 
 -- The lemma `turn_steps_of`, with the name `h` for the history before the turn: if the command `what` became a turn and
--- the worker took the answer, then it made a step (`StepsAt`).
+-- the worker took the answer, then the worker made a step (`StepsAt`).
 pub turn_steps : (wanted : Bool) (old new : SimValue) (at by index : ℕ) (result : Option Command) (what : Command)
     (h : List Turn) (mid : List Stepped) (now : Stepped) (before after : List ℕ) → Asked at index old result now
     → result ≡ Some what
@@ -350,7 +350,8 @@ turn_may old new at by index result what h now a some same (inr is) =
       history = is ∙ ap (λ k. raw_turn at by what ∷ k) same;
     })
 
--- If `P`, `Q` and `R` hold if the result is Ok, so does everything that follows from the three together.
+-- If `P`, `Q` and `R` together imply `S`, and each of the three holds if the result is Ok, then `S` holds if the result
+-- is Ok.
 pub on_ok_all : {A B : Type 0} {P Q R S : Type 0} (r : Result A B) → OnOk r P → OnOk r Q → OnOk r R → (P → Q → R → S)
     → OnOk r S
 on_ok_all (Ok x) p q h f = f p q h
@@ -381,14 +382,14 @@ step_done wanted old mid now new at by index before after before_is after_is t =
     (steps_as wanted old now true false at by index before after
     (subst (λ v. StepsAt wanted at by index v now before after) before_is t))
 
--- If a turn was added from a run with some value of `unfinished`, it was added from the run with its own value.
+-- `TurnRan` doesn't depend on the value of `unfinished` in the run before the turn.
 ran_as : (old new : SimValue) (b : Bool) (at by index : ℕ) → TurnRan at by index (record old { unfinished = b }) new
     → TurnRan at by index old new
 ran_as old new b at by index t =
     record { was = t.was; stood = t.stood; what = t.what; next = t.next; history = t.history }
 
--- If memory ran out in a step for which `unfinished` had been set to true, then either no turn was added to the run
--- `old`, or the turn of the step was (`TurnRan`).
+-- Memory ran out in a step for which `unfinished` had been set to true. Then either no turn was added to the run `old`,
+-- or the turn of the step was added (`TurnRan`).
 pub step_broke : (old mid new : SimValue) (at by index : ℕ) → mid ≡ record old { unfinished = true }
     → (new.history ≡ mid.history) ⊎ TurnRan at by index mid new → (new.history ≡ old.history)
     ⊎ TurnRan at by index old new

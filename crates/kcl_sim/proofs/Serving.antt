@@ -1,6 +1,6 @@
--- The turns of each worker's actor are the answered commands of the worker's joint record, in the run of every
--- schedule. So the laws for one worker hold for each worker: its processors are called for the given reads of their
--- tenures, and records of a hand-off that freed its row aren't read again.
+-- In the run of every schedule, the turns of each worker's actor are the answered commands of the worker's joint
+-- record. So the laws for one worker hold for each worker: the processors are called for the given reads of their
+-- tenures, and what was given before a hand-off freed its row isn't read again.
 use Rattle.std.proofs.Common.{◌≡◌, ℕ, zero, suc, pred, ◌<◌, ◌≤◌, Bool, true, false, List, [], ◌∷◌, ◌++◌, length}
 use Rattle.std.proofs.Common.{Option, Some, None, Result, Ok, Err, refl, sym, ap, subst, ◌∙◌, arith, ◌⊎◌, inl, inr}
 use Rattle.std.specs.Prelude.{◌==◌, if◌then◌else◌, nat_le, option_map, slice_get, slice_set}
@@ -47,8 +47,8 @@ use Rattle.kcl_sim.specs.Workers.{Employed, actor_at, all_called, answered, ask_
 use Rattle.kcl_sim.specs.Workers.{index_of, release_by, state_of, stopped, with_calls}
 use Rattle.kcl_sim.proofs.HandTelling.{of_another_run, released_free, run_tells, worker_past_hand}
 
--- The turns of the actor `by` in `h` are the answered commands of the joint record of the worker `e`. This record is
--- possible (`AreOrderly`), and no command of the worker waits for its answer.
+-- The turns of the actor `by` in `h` are the answered commands of the joint record of the worker `e`. The events of
+-- this record may happen in their order (`AreOrderly`), and no command of the worker waits for its answer.
 record IsTold (h : List Turn) (by : ℕ) (e : Employed) : Type 0 where
   orderly : AreOrderly e.made e.past
   told : AreToldIn by h e.made e.past
@@ -62,8 +62,8 @@ record AreTold (ran : Ran) : Type 0 where
 
 -- ---- Events of a worker that aren't turns
 
--- The joint record `later` has the same answered commands as `past`, it is possible (`AreOrderly`), and no command of
--- the worker waits for its answer after it.
+-- The joint record `later` has the same answered commands as `past`, and its events may happen in their order
+-- (`AreOrderly`). After `later`, no command of the worker waits for its answer.
 record Follows (made : WorkerMade) (past later : JointPast) : Type 0 where
   orderly : AreOrderly made later
   deals : joint_deals made later ≡ joint_deals made past
@@ -74,8 +74,8 @@ either_follows : (b : Bool) (made : WorkerMade) (past p q : JointPast) → Follo
 either_follows true made past p q h g = h
 either_follows false made past p q h g = g
 
--- If the due calls of the consumers `ks` are added to a record, it has the same answered commands, and no command waits
--- (`Follows`).
+-- If the due calls of the consumers `ks` are added to a record, its answered commands stay the same, and no command
+-- waits (`Follows`).
 calls_follow : (made : WorkerMade) (kind : Kind) (ks : List Known) (past : JointPast) → AreOrderly made past
     → (worker_in made past).waiting ≡ None
     → Follows made past (with_calls kind ks past)
@@ -129,16 +129,16 @@ absorbed_free : (made : WorkerMade) (now : ℕ) (a : Result Reply Refusal) (w : 
 absorbed_free made now a w p is =
     ap (λ o. (absorbed made now a w o).waiting) is ∙ chore_free made now a p.chore (record w { waiting = None }) refl
 
--- If the command that comes next is `what`, where `b` says whether the worker is idle, then `o` has a value, and its
--- command is `what`.
+-- `b` says whether the worker is idle, and `o` is its next command with the chore. If the worker isn't idle and its
+-- next command is `what`, then `o` has a value with the command `what`.
 pending_by : (b : Bool) (o : Option Pending) (what : Command) → (if b then None else option_map (λ p. p.what) o)
     ≡ Some what → (p : Pending) × (o ≡ Some p) × (p.what ≡ what)
 pending_by true o what h = absurd cc
 pending_by false None what h = absurd cc
 pending_by false (Some p) what h = (p, refl, cc)
 
--- If the worker's next command `what` becomes a turn of its actor and the worker takes the answer, `IsTold` holds after
--- both.
+-- If the worker's next command `what` becomes a turn of its actor and the worker takes the answer, `IsTold` still holds
+-- after this turn and answer.
 told_answered : (h : List Turn) (at by : ℕ) (e : Employed) (what : Command) → command_at at e ≡ Some what
     → IsTold h by e
     → IsTold (raw_turn at by what ∷ h) by (answered at (answer h (raw_turn at by what)) e)
@@ -161,7 +161,7 @@ told_answered h at by e what next t =
 -- ---- A hand-off of what a worker releases
 
 -- If the worker releases a lease and the hand-off of this lease runs to its end, `IsTold` holds for the history and the
--- joint record after it.
+-- joint record after the hand-off.
 told_handed : (h : List Turn) (at by : ℕ) (key : ShardRef) (e : Employed) (r : Release)
     → released key (state_of e) ≡ Some r → IsTold h by e
     → IsTold (hand_run at by h (hand_of r [])).history by
@@ -206,8 +206,8 @@ outer ran turn low t = record {
 
 -- ---- One worker changes
 
--- After `x` was put at the index `p` of a list, the worker at the index `q` is `x` if `q` is `p`, and otherwise it is
--- the one that was there before.
+-- After `x` was put at the index `p` of a list, the worker at the index `q` is `x` if `q` is `p`. Otherwise it is the
+-- worker that was at the index `q` before.
 got_with : (es : List Employed) (p q : ℕ) (x e : Employed) → slice_get (slice_set es p x) q ≡ Some e
     → ((p ≡ q) × (x ≡ e)) ⊎ ((p ≡ q → ⊥) × (slice_get es q ≡ Some e))
 got_with [] p q x e is = absurd cc
@@ -221,8 +221,8 @@ got_with (d ∷ es) (suc p) (suc q) x e is = on (got_with es p q x e is)
     on (inl h) = inl (ap suc h.0, h.1)
     on (inr h) = inr ((λ same. h.0 (ap pred same)), h.1)
 
--- If `IsTold` holds for the worker `x`, which was put at the index `p`, and for the workers at all other indexes, then
--- it holds for each worker of the new list.
+-- The worker `x` was put at the index `p` of a list. If `IsTold` holds for `x` and for the workers at all other
+-- indexes, then `IsTold` holds for each worker of the new list.
 changed : (h : List Turn) (es : List Employed) (p : ℕ) (x : Employed) → IsTold h (actor_at p) x
     → ((q : ℕ) (e : Employed) → (p ≡ q → ⊥) → slice_get es q ≡ Some e → IsTold h (actor_at q) e)
     → (index : ℕ) (e : Employed) → slice_get (slice_set es p x) index ≡ Some e → IsTold h (actor_at index) e
@@ -324,7 +324,7 @@ stop_told ran by (Some e) is t =
     (told_stopped ran.history (actor_at (index_of by)) e (t.each (index_of by) e p.1))
 
 -- `AreTold` still holds after the worker of the actor `by` released a lease, if it has one to release, and the hand-off
--- ran.
+-- of this lease ran.
 release_told : (ran : Ran) (at by : ℕ) (key : ShardRef) (e : Employed) (o : Option Release)
     → release_by key (Some e) ≡ o → by ≡ actor_at (index_of by)
     → index_of by < length ran.workers → AreTold ran
@@ -349,8 +349,8 @@ hand_told ran at by key (Some e) is t =
     release_told ran at by key e (release_by key (Some e)) refl p.0 (slice_get_within ran.workers (index_of by) e p.1)
     t told
 
--- After `x` was added at the end of a list, the worker at the index `q` is `x` if `q` is the old length, or else the
--- one that was there before.
+-- After `x` was added at the end of a list, the worker at the index `q` is `x` if `q` is the old length. Otherwise it
+-- is the worker that was at the index `q` before.
 got_more : (es : List Employed) (x : Employed) (q : ℕ) (e : Employed) → slice_get (es ++ x ∷ []) q ≡ Some e
     → ((q ≡ length es) × (x ≡ e)) ⊎ (slice_get es q ≡ Some e)
 got_more [] x zero e is = inl (refl, cc)
@@ -409,9 +409,9 @@ all_told ls are =
     nothing : (index : ℕ) (e : Employed) → slice_get fresh.workers index ≡ Some e → ⊥
     nothing index e is = absurd cc
 
--- The first of three laws for one worker that the lemmas take as given. If the joint record is possible (`AreOrderly`),
--- and the actor's turns are its answered commands, then the processors of the worker and of its hand-offs are called
--- for the given reads of their tenures (`AreServed`).
+-- The first of three laws for one worker that the lemmas take as given. Assume that the events of the joint record may
+-- happen in their order (`AreOrderly`), and that the actor's turns are its answered commands. Then the processors of
+-- the worker and of its hand-offs are called for the given reads of their tenures (`AreServed`).
 abbrev pub Serves : Type 0
 Serves = (by : ℕ) (h : List Turn) (made : WorkerMade) (past : JointPast) → AreOrderly made past
     → AreToldIn by h made past → AreServed by h made past
@@ -424,15 +424,16 @@ all_served serves ls are =
     λ index e is. serves (actor_at index) (with_schedule fresh ls).history e.made e.past (t.each index e is).orderly
     (t.each index e is).told
 
--- The second of these laws. The actor's turns are the answered commands of the joint record. Then for each hand-off
--- that has freed its row, every batch that its processor was handed is given. The records that were given in its tenure
--- are at or below the row's checkpoint.
+-- The second of these laws. Assume that the actor's turns are the answered commands of the joint record, and that a
+-- hand-off has freed its row. Then every batch that the hand-off's processor was handed is given, and the records that
+-- were given in the hand-off's tenure are at or below the row's checkpoint.
 abbrev pub Hands : Type 0
 Hands = (by : ℕ) (h : List Turn) (made : WorkerMade) (past : JointPast) → IsHistory h → AreOrderly made past
     → AreToldIn by h made past
     → AllByRecursion (IsHandedOffIfFreed by h) (hands_after made past)
 
--- If the law `Hands` holds, it holds for the hand-offs of all workers of the run of the lines `ls` (`AreHandedOff`).
+-- If the law `Hands` holds, then what this law says of hand-offs is true of the hand-offs of all workers of the run of
+-- the lines `ls` (`AreHandedOff`).
 pub all_handed : Hands → (ls : List Line) → AllByRecursion IsLine ls → IsHistory (with_schedule fresh ls).history
     → AreHandedOff (with_schedule fresh ls)
 all_handed hands ls are lawful =
@@ -440,16 +441,16 @@ all_handed hands ls are lawful =
     λ index e is. hands (actor_at index) (with_schedule fresh ls).history e.made e.past lawful
     (t.each index e is).orderly (t.each index e is).told
 
--- The third of these laws. The actor's turns in `before` are the answered commands of the joint record, which has a
--- hand-off that has freed its row. Then a tenure of the key that begins in `h` right after `before` reads no record
+-- The third of these laws. Assume that the actor's turns in `before` are the answered commands of the joint record, and
+-- that a hand-off has freed its row. Then a tenure of the key that begins in `h` right after `before` reads no record
 -- that was given in the hand-off's tenure.
 abbrev pub ReadsOnce : Type 0
 ReadsOnce = (by : ℕ) (h before : List Turn) (made : WorkerMade) (past : JointPast) → IsHistory h → IsHistory before
     → AreOrderly made past
     → AreToldIn by before made past → AllByRecursion (IsNeverReadAgain by h before) (hands_after made past)
 
--- If the law `ReadsOnce` holds, the same is true of the hand-offs of all workers of the run of the lines `ls`, where
--- `before` is the history of this run (`AreNeverReadAgain`).
+-- If the law `ReadsOnce` holds, then what this law says of hand-offs is true of the hand-offs of all workers of the run
+-- of the lines `ls` (`AreNeverReadAgain`). `before` is the history of this run.
 pub all_read_once : ReadsOnce → (h : List Turn) (ls : List Line) → AllByRecursion IsLine ls → IsHistory h
     → IsHistory (with_schedule fresh ls).history
     → AreNeverReadAgain h (with_schedule fresh ls)

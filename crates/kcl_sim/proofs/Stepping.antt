@@ -22,8 +22,9 @@ pub no_some : {A : Type 0} (o : Option A) → false ≡ is_some o → o ≡ None
 no_some None h = refl
 no_some (Some x) h = absurd cc
 
--- `old` stands for the record `d`, which leads to the same record as `e` once all due calls are made. If one due call
--- was made, which gave `new`, then `new` stands for a record `f` that leads there too.
+-- The worker `old` stands for the record `d`. Once all due calls are made, `d` and `e` become the same record
+-- (`all_called`). If one due call of `old` was made and `old` became `new`, then `new` stands for a record `f` that
+-- becomes this record too.
 pub called_on : (old new : Stepped) (e d : Employed) → new.made ≡ old.made → new.maker ≡ old.maker
     → AddsCall Calls (λ batch a. a ≡ asked_of old.maker batch) old new
     → Employs old d → all_called d ≡ all_called e → (f : Employed) × Employs new f × (all_called f ≡ all_called e)
@@ -37,8 +38,8 @@ called_on old new e d made maker adds s same =
       one_called d k.0 r.0 is k.2 ∙ same,
     )
 
--- The worker `w` stands for a record `d` that leads to the same record as `e` once all due calls are made. If no call
--- of `w` is due any more, then `w` stands for that record, `all_called e`.
+-- The worker `w` stands for the record `d`. Once all due calls are made, `d` and `e` become the same record
+-- (`all_called`). If no call of `w` is due any more, then `w` stands for this record.
 pub all_done : (w : Stepped) (e d : Employed) → due_in w.consumers ≡ None → Employs w d → all_called d ≡ all_called e
     → Employs w (all_called e)
 all_done w e d none s same =
@@ -56,8 +57,8 @@ idle_command w e at idle s =
     ∙ sym (idle_same Calls w (worker_past e.past) s.stands) ∙ idle in
     ap (λ b. if b then None else option_map (λ p. p.what) (next_pending e.made at (state_of e))) is
 
--- If the worker `old` isn't idle and gave the command `what`, which left the worker `new`, then `what` comes next for
--- its record `e`, and `new` waits for the answer (`HasAsked`).
+-- If the worker `old` isn't idle, gave the command `what` and became `new`, then `what` comes next for its record `e`,
+-- and `new` waits for the answer (`HasAsked`).
 pub next_command : (old new : Stepped) (e : Employed) (at : ℕ) (what : Command) → is_idle_in old ≡ false
     → new.made ≡ old.made → new.maker ≡ old.maker → AddsCommand Calls old new at what → Employs old e
     → (command_at at e ≡ Some what) × HasAsked at new e
@@ -73,8 +74,8 @@ next_command old new e at what busy made maker adds s =
       record { made = made ∙ s.made; kind = λ batch. ap (λ m. asked_of m batch) maker ∙ s.kind batch; stands = r.3 },
     )
 
--- The worker `old` of the record `e` waits for the answer to a command. If it took the answer `answer`, which left the
--- worker `new`, then `new` stands for `e` with the command and the answer added.
+-- The worker `old` of the record `e` waits for the answer to a command. If `old` took the answer `answer` and became
+-- `new`, then `new` stands for `e` with the command and the answer added.
 pub answer_on : (old new : Stepped) (e : Employed) (at : ℕ) (answer : Result Reply Refusal) → new.made ≡ old.made
     → AllowsSame (λ batch a. a ≡ asked_of new.maker batch) (λ batch a. a ≡ asked_of old.maker batch)
     → AddsAnswer Calls old new at answer → HasAsked at old e → Employs new (answered at answer e)
@@ -85,8 +86,8 @@ answer_on old new e at answer made same adds s =
       stands = adds (Gave_command at ∷ worker_past e.past) s.stands;
     }
 
--- If the worker `old` of the record `e` was told to stop, which left the worker `new`, then `new` stands for `e` with
--- this event added.
+-- If the worker `old` of the record `e` was told to stop and became `new`, then `new` stands for `e` with this stop
+-- added.
 pub stop_on : (old new : Stepped) (e : Employed) → new.made ≡ old.made → new.maker ≡ old.maker → AddsStop Calls old new
     → Employs old e → Employs new (stopped e)
 stop_on old new e made maker adds s =

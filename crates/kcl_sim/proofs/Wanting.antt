@@ -1,5 +1,5 @@
--- The texts that a run adds to its output if it outputs answers (`wanted` is true). If it doesn't, `if_wanted` makes
--- each of these texts empty.
+-- The texts that a run adds to its output. What is wanted of a text is the whole text if the run outputs answers
+-- (`wanted` is true), and otherwise nothing (`if_wanted`).
 use Rattle.std.proofs.Common.{◌≡◌, ℕ, Bool, true, false, List, [], ◌++◌, refl, sym, ap, ◌∙◌}
 use Rattle.std.specs.Prelude.{Result, Ok, Err}
 use Rattle.std.proofs.lemmas.List.{append-nil}
@@ -27,8 +27,8 @@ said wanted text before after is wrote = wrote ∙ ap (λ w. before ++ if_wanted
 pub unsaid : (wanted : Bool) (text before : List ℕ) → false ≡ wanted → before ≡ before ++ if_wanted wanted text
 unsaid wanted text before is = sym (append-nil before) ∙ ap (λ w. before ++ if_wanted w text) is
 
--- If answers are wanted, and a function added `text` or failed without adding anything (`AddsWhole`), then the same is
--- true of what is wanted of `text`.
+-- If answers are wanted, and a function added `text` or failed without adding anything (`AddsWhole`), then `AddsWhole`
+-- also holds with what is wanted of `text`.
 pub said_whole : {A E : Type 0} (wanted : Bool) (result : Result A E) (before after text : List ℕ) → true ≡ wanted
     → AddsWhole result before after text → AddsWhole result before after (if_wanted wanted text)
 said_whole wanted result before after text is added = record {

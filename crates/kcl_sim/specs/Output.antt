@@ -32,7 +32,7 @@ body_part (b ∷ bs) = 32 ∷ b ∷ bs
 abbrev pub printed : ℕ × List ℕ → List ℕ
 printed r = decimal r.0 ++ (body_part r.1 ++ 10 ∷ [])
 
--- If `result` is Ok, the output `new` is the output `old` with `text` added. If it is an error, `new` is `old`.
+-- If `result` is Ok, the output `new` is the output `old` with `text` added. If `result` is an error, `new` is `old`.
 pub record AddsWhole {A E : Type 0} (result : Result A E) (old new text : List ℕ) : Type 0 where
   pub ok : OnOk result (new ≡ old ++ text)
   pub err : OnErr result (new ≡ old)
@@ -47,11 +47,11 @@ pub record Ran : Type 0 where
 abbrev pub fresh : Ran
 fresh = record { history = []; workers = [] }
 
--- The run `ran` with the turn added to its history. The workers stay.
+-- The run `ran` with the turn added to its history. The workers stay the same.
 abbrev pub with_turn : Ran → Turn → Ran
 with_turn ran turn = record ran { history = turn ∷ ran.history }
 
--- The run `ran` with `e` in the place of the worker of the actor `by`. The history stays.
+-- The run `ran` with `e` in the place of the worker of the actor `by`. The history stays the same.
 abbrev pub with_worker : Ran → ℕ → Employed → Ran
 with_worker ran by e = record ran { workers = with_employed by e ran.workers }
 
@@ -79,35 +79,36 @@ raw_output h turn long = answer_text long (answer h turn) ++ 10 ∷ []
 
 -- ---- Steps of workers
 
--- The run after the worker `e` of the actor `by` gave its next command, whose due calls were made before. The command
--- becomes a turn at the moment `at`, and the worker takes the answer. For None there is no turn.
+-- The due calls of the worker `e` of the actor `by` were made. This is the run after the worker's next command (the
+-- last argument) became a turn at the moment `at`, and the worker took the answer. If there is no next command (None),
+-- no turn is added.
 abbrev pub with_command : Ran → ℕ → ℕ → Employed → Option Command → Ran
 with_command ran at by e None = with_worker ran by e
 with_command ran at by e (Some what) =
     with_worker (with_turn ran (raw_turn at by what)) by (answered at (answer ran.history (raw_turn at by what)) e)
 
--- The output of a step of the actor `by` after the history `h`: its command with the answer, or "idle" if there is no
--- command.
+-- The output of a step of the actor `by` after the history `h`: the step's command with the answer, or "idle" if there
+-- is no command.
 abbrev pub command_output : List Turn → ℕ → ℕ → Option Command → List ℕ
 command_output h at by None = codes "idle" ++ 10 ∷ []
 command_output h at by (Some what) =
     command_text what ++ (codes " = " ++ (answer_text false (answer h (raw_turn at by what)) ++ 10 ∷ []))
 
--- The run after a step of the worker of the actor `by` at the moment `at`: all its due calls are made, and then its
--- next command, if any, becomes a turn. Without a worker (None), nothing changes.
+-- The run after a step of the worker of the actor `by` at the moment `at`: all due calls of the worker are made, and
+-- then its next command, if any, becomes a turn. If there is no worker (None), nothing changes.
 abbrev pub with_step : Ran → ℕ → ℕ → Option Employed → Ran
 with_step ran at by None = ran
 with_step ran at by (Some e) = with_command ran at by (all_called e) (command_at at (all_called e))
 
--- The output of this step: the command with its answer, "idle" if no command comes next, or "none" if the actor `by`
--- has no worker.
+-- The output of a step of the worker of the actor `by` at the moment `at`: the command with its answer, or "idle" if no
+-- command comes next. If the actor has no worker, the output is "none".
 abbrev pub step_output : Ran → ℕ → ℕ → Option Employed → List ℕ
 step_output ran at by None = codes "none" ++ 10 ∷ []
 step_output ran at by (Some e) = command_output ran.history at by (command_at at (all_called e))
 
 -- ---- Stops
 
--- The run after a stop of the worker of the actor `by`. Without a worker (None), nothing changes.
+-- The run after a stop of the worker of the actor `by`. If there is no worker (None), nothing changes.
 abbrev pub with_stop : Ran → ℕ → Option Employed → Ran
 with_stop ran by None = ran
 with_stop ran by (Some e) = with_worker ran by (stopped e)
@@ -119,22 +120,22 @@ stop_output (Some e) = codes "stopping" ++ 10 ∷ []
 
 -- ---- Hand-offs
 
--- The run after the worker `e` of the actor `by` released a lease of the key `key`, and `run` was the run of its
--- hand-off. The history is the one at the end of `run`, and the release and the events of the hand-off are added to the
--- record of `e`.
+-- The run after the worker `e` of the actor `by` released a lease of the key `key`, and `run` was the run of this
+-- lease's hand-off. The history is the one at the end of `run`. The release and the events of the hand-off are added to
+-- the record of `e`.
 abbrev pub with_hand_run : Ran → ℕ → ShardRef → Employed → HandRun → Ran
 with_hand_run ran by key e run =
     with_worker (record ran { history = run.history }) by
     (record e { past = with_hand key run.hand.since e.made e.past })
 
--- The run after the release `r` of a lease of the worker `e`, whose hand-off runs to its end at the moment `at`. If no
--- lease was released (None), nothing changes.
+-- The run after the worker `e` of the actor `by` released the lease of the release `r`, and the hand-off of this lease
+-- ran to its end at the moment `at`. If no lease was released (None), nothing changes.
 abbrev pub with_release : Ran → ℕ → ℕ → ShardRef → Employed → Option Release → Ran
 with_release ran at by key e None = ran
 with_release ran at by key e (Some r) = with_hand_run ran by key e (hand_run at by ran.history (hand_of r []))
 
--- The run after a hand-off of the key `key` by the worker of the actor `by`. Without a worker (None), or if the worker
--- releases no lease, nothing changes.
+-- The run after a hand-off of the key `key` by the worker of the actor `by`. If there is no worker (None), or if the
+-- worker releases no lease, nothing changes.
 abbrev pub with_handed : Ran → ℕ → ℕ → ShardRef → Option Employed → Ran
 with_handed ran at by key None = ran
 with_handed ran at by key (Some e) = with_release ran at by key e (release_by key (Some e))
@@ -164,12 +165,12 @@ hand_output h at by None = codes "none" ++ 10 ∷ []
 hand_output h at by (Some r) = run_text (hand_run at by h (hand_of r []))
 
 -- The history after at most the first `n` commands of the hand-off that the release `r` begins. `h` is the history
--- before it.
+-- before the hand-off.
 abbrev pub history_at : ℕ → List Turn → ℕ → ℕ → Release → List Turn
 history_at n h at by r = (run_hand n at by h (hand_of r [])).history
 
--- The history after at most the first `n` commands of the hand-off that the line makes. It is None if the line isn't a
--- hand-off, or if no lease is released.
+-- The history after at most the first `n` commands of the hand-off that the line makes. The result is None if the line
+-- isn't a hand-off, or if no lease is released.
 abbrev pub part_of : ℕ → Ran → Line → Option (List Turn)
 part_of n ran (Hand at by key) =
     option_map (history_at n ran.history at by) (release_by key (employed_by by ran.workers))
@@ -177,7 +178,7 @@ part_of n ran _ = None
 
 -- ---- Lines
 
--- The run after one more line. A `raw` line always adds a turn, even if its command is refused.
+-- The run `ran` after the line in the second argument. A `raw` line always adds a turn, even if its command is refused.
 abbrev pub with_line : Ran → Line → Ran
 with_line ran (Api at operation body) = record ran { history = requested ran.history at (asked operation body) }
 with_line ran (Raw at by what long) = with_turn ran (raw_turn at by what)
@@ -200,7 +201,7 @@ abbrev pub with_schedule : Ran → List Line → Ran
 with_schedule ran [] = ran
 with_schedule ran (l ∷ ls) = with_schedule (with_line ran l) ls
 
--- The output of the lines, one after another, if `ran` is the run before the first of them.
+-- The output of the lines, one after another, if `ran` is the run before the first line.
 abbrev pub outputs : Ran → List Line → List ℕ
 outputs ran [] = []
 outputs ran (l ∷ ls) = output_of ran l ++ outputs (with_line ran l) ls

@@ -38,13 +38,14 @@ judge_end count input.whole = whole
 judge_end count input.unfinished = bad_line (count + 1)
 judge_end count input.too_long = too_long
 
--- The judgement of a text and those after it, where `count` lines come before it. The Option is the line that the text
--- was read as, or None if it isn't a line. `later` is the judgement of the texts after it.
+-- The judgement of a text and the texts after it, where `count` lines come before this text. The Option is the line
+-- that the text was read as, or None if the text isn't a line. `later` is the judgement of the texts after this one.
 abbrev pub judge_form : ℕ → Option Line → Judged → Judged
 judge_form count None later = decided (bad_line (count + 1))
 judge_form count (Some l) later = preceded l later
 
--- The judgement of the texts, where `count` lines come before them. `end` is how the input ends after these texts.
+-- The judgement of the texts, where `count` lines come before the first of them. `end` is how the input ends after the
+-- last of them.
 abbrev pub judge : ℕ → List (List ℕ) → End → Judged
 judge count [] end = decided (judge_end count end)
 judge count (text ∷ texts) end = judge_form count (line_of text) (judge (count + 1) texts end)

@@ -21,9 +21,9 @@ use Rattle.kcl_sim.specs.Workers.{Employed, all_called, answered, command_at, in
 abbrev pub Stepped : Type 0
 Stepped = WorkerStanding Stock Kind
 
--- A run as callers see it: all its turns, the newest first, and its workers. `since` are the turns that came before the
--- text gathered from the turns was last emptied. `unfinished`: whether a worker's step or a hand-off was begun and
--- hasn't finished, since memory ran out in it.
+-- A run as callers see it: all its turns, the newest first, and its workers. `since` has the turns that were made
+-- before the text gathered from the turns was last emptied. `unfinished` says whether a worker's step or a hand-off has
+-- begun but not finished. It stays true if memory runs out in the step or hand-off.
 pub record SimValue : Type 0 where
   pub history : List Turn
   pub since : List Turn
@@ -38,8 +38,8 @@ turned s turn = record s { history = turn ∷ s.history }
 abbrev pub IsFree : Stepped → Type 0
 IsFree w = w.waiting ≡ None
 
--- The worker `w` stands for the record of `e`: both were made with the same settings, their processors ask for the same
--- checkpoint after each batch, and `w` stands for the worker's own events in the record.
+-- The worker `w` stands for the record of `e`: `w` and `e` were made with the same name and settings, and their
+-- processors ask for the same checkpoint after each batch. `w` stands for the worker's own events in the record.
 pub record Employs (w : Stepped) (e : Employed) : Type 0 where
   pub made : w.made ≡ e.made
   pub kind : (batch : List Stored) → asked_of w.maker batch ≡ asked_of e.kind batch
@@ -52,30 +52,32 @@ EmployAll (w ∷ ws) (e ∷ es) = Employs w e × EmployAll ws es
 EmployAll [] (e ∷ es) = ⊥
 EmployAll (w ∷ ws) [] = ⊥
 
--- `s` stands for the run `ran`: it has the same history, and its workers stand for those of `ran`. If memory ran out in
--- a worker's step or a hand-off (`unfinished`), only the history is the same.
+-- `s` stands for the run `ran`: `s` has the history of `ran`, and the workers of `s` stand for those of `ran`. If
+-- memory ran out in a worker's step or a hand-off (`unfinished`), nothing is claimed about the workers.
 pub record RunsSo (s : SimValue) (ran : Ran) : Type 0 where
   pub history : s.history ≡ ran.history
   pub workers : s.unfinished ≡ false → EmployAll s.workers ran.workers
 
 -- ---- What a line changes
 
--- The line was run: `ran` is the run before it, and `s` stands for the run after it and isn't over. If answers are
--- wanted (`wanted`), the line's output was added to the output, which was `before` and is now `after`.
+-- The line was run: `ran` is the run before the line, `s` stands for the run after it, and no step or hand-off is
+-- unfinished in `s`. If answers are wanted (`wanted`), the line's output was added to the output, which was `before`
+-- and is now `after`.
 pub record GoesOn (wanted : Bool) (s : SimValue) (ran : Ran) (line : Line) (before after : List ℕ) : Type 0 where
   pub made : RunsSo s (with_line ran line)
   pub wrote : after ≡ before ++ if_wanted wanted (output_of ran line)
   pub going : s.unfinished ≡ false
 
--- What is to be written for a line, run after `ran`, was added to the output, which was `before` and is now `after`. If
--- the Bool is true, this is the line's output. Otherwise it is what the line's turns add to the text of the history.
+-- The line is run after `ran`, and what is to be written for it was added to the output, which was `before` and is now
+-- `after`. If the Bool is true, the line's output is to be written. If the Bool is false, what the line's turns add to
+-- the text of the history is to be written.
 abbrev pub IsTold : Bool → (List Turn → List ℕ) → Ran → Line → List ℕ → List ℕ → Type 0
 IsTold true text ran line before after = after ≡ before ++ output_of ran line
 IsTold false text ran line before after = AddsText (text ran.history) (text (with_line ran line).history) before after
 
--- The line was run: `ran` is the run before it, and `s` stands for the run after it. What is to be written for it was
--- added to the output, which was `before` and is now `after` (`IsTold`): its answer if `wanted` is true, and otherwise
--- what `text` gains by its turns.
+-- The line was run: `ran` is the run before the line, and `s` stands for the run after it. What is to be written for
+-- the line was added to the output, which was `before` and is now `after` (`IsTold`). This is the line's output if
+-- `wanted` is true, and otherwise what `text` gains by the line's turns.
 pub record Tells (wanted : Bool) (text : List Turn → List ℕ) (s : SimValue) (ran : Ran) (line : Line)
     (before after : List ℕ) : Type 0 where
   pub made : RunsSo s (with_line ran line)
@@ -86,8 +88,9 @@ pub record Tells (wanted : Bool) (text : List Turn → List ℕ) (s : SimValue) 
 abbrev pub MayHaveRun : SimValue → Ran → Line → Type 0
 MayHaveRun s ran line = RunsSo s ran ⊎ RunsSo s (with_line ran line)
 
--- Memory ran out in the middle of the line, which is a hand-off: `s` has the history of `ran` and of the first turns of
--- the line, at most three and perhaps none. `s` is over, so it runs no further line.
+-- Memory ran out in the middle of the line, which is a hand-off. The history of `s` is that of `ran` with the first
+-- turns of the hand-off added, at most three and perhaps none. The hand-off is `unfinished` in `s`, so no further line
+-- is run.
 pub record HasRunPart (s : SimValue) (ran : Ran) (line : Line) : Type 0 where
   pub ran_of_it : ℕ
   pub few : ran_of_it ≤ 3
@@ -112,15 +115,15 @@ abbrev pub index_among : ℕ → ℕ → Option ℕ
 index_among by count =
     if nat_le by MOST_ACTOR then None else (if nat_lt (index_of by) count then Some (index_of by) else None)
 
--- The worker `w` was made as the record `e` says, and it stands for the events of `e` and a command that it gave at the
--- moment `at`. This command waits for its answer.
+-- The worker `w` was made as the record `e` says. `w` stands for the worker's own events in `e`, followed by a command
+-- that it gave at the moment `at`, which waits for its answer.
 pub record HasAsked (at : ℕ) (w : Stepped) (e : Employed) : Type 0 where
   pub made : w.made ≡ e.made
   pub kind : (batch : List Stored) → asked_of w.maker batch ≡ asked_of e.kind batch
   pub stands : StandsFor Calls w (Gave_command at ∷ worker_past e.past)
 
--- The worker `w` was asked for its next command at the moment `at`, and this was `what`. After it took the answer,
--- which is the one after the history `h`, it is `v`.
+-- The worker `w` gave the command `what` at the moment `at`, and waits for the answer. After `w` took the answer that
+-- this command gets after the history `h`, the worker is `v`, and no command of `v` waits.
 abbrev pub TookAnswer : ℕ → ℕ → Command → List Turn → Stepped → Stepped → Type 0
 TookAnswer at by what h w v =
     IsFree v × ((e : Employed) → HasAsked at w e → Employs v (answered at (answer h (raw_turn at by what)) e))
@@ -146,16 +149,17 @@ abbrev pub employed_after : List Turn → ℕ → ℕ → Option Command → Emp
 employed_after h at by None e = all_called e
 employed_after h at by (Some what) e = answered at (answer h (raw_turn at by what)) (all_called e)
 
--- The worker `w` became `v` by a step at the moment `at`: all due calls were made, and then `what` was the next
--- command, if there was one. Its answer, the one after the history `h`, was taken.
+-- The worker `w` became `v` by a step at the moment `at`. All due calls were made, and then `what` was the next
+-- command, or None if there was no next command. The worker took the answer that this command gets after the history
+-- `h`. No command of `v` waits for its answer.
 abbrev pub MadeStep : ℕ → ℕ → Option Command → List Turn → Stepped → Stepped → Type 0
 MadeStep at by what h w v =
     IsFree v × ((e : Employed) → Employs w e → (command_at at (all_called e) ≡ what)
     × Employs v (employed_after h at by what e))
 
--- The worker at the index `index` made a step at the moment `at`, in which `what` was its command, if it had one. `old`
--- and `new` are the run before and after. If answers are wanted (`wanted`), the output of the step was added to the
--- output, which was `before` and is now `after`.
+-- The worker at the index `index` made a step at the moment `at`, and `what` is the command of this step, if there was
+-- one. `old` and `new` are the run before and after the step. If answers are wanted (`wanted`), the output of the step
+-- was added to the output, which was `before` and is now `after`.
 pub record StepsAt (wanted : Bool) (at by index : ℕ) (old new : SimValue) (before after : List ℕ) : Type 0 where
   pub what : Option Command
   pub history : new.history ≡ history_after old.history at by what
@@ -163,7 +167,7 @@ pub record StepsAt (wanted : Bool) (at by index : ℕ) (old new : SimValue) (bef
   pub wrote : after ≡ before ++ if_wanted wanted (command_output old.history at by what)
 
 -- Memory ran out in a step of the worker at the index `index`, after its command `what` became a turn. `old` and `new`
--- are the run before and after.
+-- are the run before and after this turn.
 pub record TurnRan (at by index : ℕ) (old new : SimValue) : Type 0 where
   pub was : Stepped
   pub stood : slice_get old.workers index ≡ Some was

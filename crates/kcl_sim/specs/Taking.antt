@@ -8,7 +8,7 @@ use Rattle.kcl_sim.specs.Output.{fresh, with_schedule, outputs}
 use Rattle.kcl_sim.specs.Standing.{HasRunPart, RunsSo, SimValue}
 use Rattle.kcl_sim.specs.Schedule.{Judged, judge, whole}
 
--- The texts read as the lines of a schedule that ends after them.
+-- The judgement of `texts` as the texts of a schedule that ends after them.
 abbrev pub judged_texts : List (List ℕ) → Judged
 judged_texts texts = judge 0 texts input.whole
 
@@ -33,13 +33,13 @@ IsNoLine texts text = line_of text ≡ None
 abbrev pub texts_output : List (List ℕ) → List ℕ
 texts_output texts = outputs fresh (judged_texts texts).lines
 
--- What is written for the lines `texts`. If the Bool is true, this is their output, and otherwise it is what the
--- function `text` makes of the history of their run.
+-- What is written for the lines `texts`. If the Bool is true, this is the output of these lines. If the Bool is false,
+-- it is what the function `text` makes of the history of their run.
 abbrev pub told_texts : Bool → (List Turn → List ℕ) → List (List ℕ) → List ℕ
 told_texts true text texts = texts_output texts
 told_texts false text texts = text (with_schedule fresh (judged_texts texts).lines).history
 
--- If `text` makes no text of an empty history, nothing is written for no lines.
+-- If `text` makes no text of an empty history, nothing is written for an empty list of lines.
 pub nothing_told : (wanted : Bool) (text : List Turn → List ℕ) → text [] ≡ [] → told_texts wanted text [] ≡ []
 nothing_told true text none = refl
 nothing_told false text none = none

@@ -1,5 +1,5 @@
--- The workers of a run. The state of a worker is determined by the list of the events that happened to it (Kinesis
--- Client Library, scheduler).
+-- The workers of a run. The state of a worker is determined by the list of its events (Kinesis Client Library,
+-- scheduler).
 use Rattle.std.specs.Prelude.{ℕ, ◌+◌, ◌-◌, nat_le, if◌then◌else◌, List, [], ◌∷◌, slice_get, slice_set, Option, Some}
 use Rattle.std.specs.Prelude.{None, option_map, Result}
 use Rattle.kds_base.specs.declared.lease_key.ShardRef.{ShardRef}
@@ -19,7 +19,7 @@ use Rattle.kcl_proc.specs.declared.stock.Kind.{Kind}
 use Rattle.kcl_proc.specs.Stocks.{asked_of}
 
 -- A worker of a run: the kind of its processors, the name and settings that it was made with, and the joint record of
--- it and its hand-offs, the newest event first.
+-- the worker and its hand-offs, the newest event first.
 pub record Employed : Type 0 where
   pub kind : Kind
   pub made : WorkerMade
@@ -29,8 +29,8 @@ pub record Employed : Type 0 where
 abbrev pub state_of : Employed → WorkerState
 state_of e = worker_in e.made e.past
 
--- A new worker with the name `name`, processors of the kind `kind`, and the usual settings. Only the origin of the rows
--- that it makes is another one, `from`.
+-- A new worker with the name `name`, processors of the kind `kind`, and the usual settings. The origin of the rows that
+-- the worker makes is `from`.
 abbrev pub hired : ℕ → Kind → Origin → Employed
 hired name kind from = record {
   kind = kind;
@@ -53,20 +53,21 @@ index_of by = by - (MOST_ACTOR + 1)
 abbrev pub employed_by : ℕ → List Employed → Option Employed
 employed_by by workers = if nat_le by MOST_ACTOR then None else slice_get workers (index_of by)
 
--- The workers with `e` in the place of the worker of the actor `by`. If there is no such worker, the list stays the
--- same.
+-- The workers with `e` in the place of the worker at the index that is computed from the actor `by` (`index_of`). If
+-- there is no worker at this index, the list stays the same.
 abbrev pub with_employed : ℕ → Employed → List Employed → List Employed
 with_employed by e workers = slice_set workers (index_of by) e
 
 -- ---- What happens to a worker
 
--- What a processor of the kind `kind` asks for when it is called in this stage: after a batch, a checkpoint or none,
--- and after any other call none.
+-- What a processor of the kind `kind` asks for after the call that is due in a stage. After a batch, this is a
+-- checkpoint or nothing, as `asked_of` says. After any other call, it is nothing.
 abbrev pub ask_in : Kind → Stage → Ask
 ask_in kind (Holding reach waiting) = asked_of kind (first_batch waiting)
 ask_in kind _ = ask.None
 
--- The record `past` with a call added for each of the consumers `known` whose processor must be called, in their order.
+-- The record `past` with a call added for each of the consumers `known` whose processor must be called, in the order of
+-- the consumers.
 abbrev pub with_calls : Kind → List Known → JointPast → JointPast
 with_calls kind [] past = past
 with_calls kind (k ∷ known) past =
@@ -78,7 +79,7 @@ with_calls kind (k ∷ known) past =
 abbrev pub all_called : Employed → Employed
 all_called e = record e { past = with_calls e.kind (state_of e).consumers e.past }
 
--- The command that comes next at the moment `at`. It is None if the worker is idle.
+-- The worker's next command at the moment `at`. It is None if the worker is idle, or if no command comes next.
 abbrev pub command_at : ℕ → Employed → Option Command
 command_at at e = if is_idle (state_of e) then None else option_map (λ p. p.what) (next_pending e.made at (state_of e))
 

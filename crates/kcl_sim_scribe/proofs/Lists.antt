@@ -16,8 +16,8 @@ found_is P p (y ∷ ys) x all h = elim (cases_Bool (p y)) [
   | inr there ↦ let e : find p ys ≡ Some x = rw there at h in found_is P p ys x all.1 e
 ]
 
--- If `P` is true of each element, and `Q` is true of `f x` wherever `P` is true of `x`, then `Q` is true of each
--- element of the list changed by `f`.
+-- Let `P` be true of each element of a list, and let `Q` be true of `f x` wherever `P` is true of `x`. Then `Q` is true
+-- of each element of the list changed by `f`.
 pub mapped : {A B : Type 0} (P : A → Type 0) (Q : B → Type 0) (f : A → B) (xs : List A) → ((x : A) → P x → Q (f x))
     → AllByRecursion P xs
     → AllByRecursion Q (map f xs)

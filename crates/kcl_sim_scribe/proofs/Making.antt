@@ -55,8 +55,8 @@ module _ (log : Journal) (c by count : ℕ) (name : List ℕ) where
       let other = above (made_count log) v.no below in
       record { named = rw other k.named; next = omega (arith, k.next); many = rw other k.many; left = k.left }
 
-  -- If the scribe knows the streams before the line, then with the new stream added it knows them after the line. The
-  -- stream must have at least one shard.
+  -- Suppose that the scribe knows the streams before the line, and that the new stream has at least one shard. Then
+  -- what the scribe knows, with the new stream added, is correct after the line.
   pub knows_made : (vs : List Known) → 1 ≤ count → Knows log (made_count log) vs
       → Knows (line ∷ log) (made_count log + 1) (vs ++ new_known (made_count log + 1) name count ∷ [])
   knows_made vs some k =

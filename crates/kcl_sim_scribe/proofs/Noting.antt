@@ -1,4 +1,4 @@
--- The scribe writes the lines that a turn adds to the journal, and knows the streams of the journal after it.
+-- The scribe writes the lines that a turn adds to the journal, and knows the streams of the journal after this turn.
 use Rattle.std.proofs.Common.{false, ◌≡◌, ℕ, ◌+◌, ◌≤◌, max, List, [], ◌∷◌, ◌++◌, map, refl, sym, ap, ◌∙◌, subst}
 use Rattle.std.specs.Prelude.{◌==◌, Ok, Err}
 use Rattle.kds_defs.specs.declared.command.Command.{Command}
@@ -49,7 +49,7 @@ whats : (lines : List Line) (c by : ℕ) (es : List Entry) → map told_by lines
 whats lines c by es h = sym (told_what lines) ∙ ap (map (λ (l : EntryLine). l.what)) h ∙ what_of c by es
 
 module _ (s : ScribeValue) (log : Journal) (c by : ℕ) (k : Knows log s.made s.streams) where
-  -- If the scribe writes the lines of a command other than CreateStream, then it knows the streams after them.
+  -- If the scribe writes the lines of a command other than CreateStream, then it knows the streams after these lines.
   known_all : (what : Command) (lines : List Line) (r : Reply) → Told log c by s.streams what lines r
       → Knows (with_lines lines log) s.made (changed_by (entries_of s.streams what r) s.streams)
   known_all what lines r t =
@@ -128,8 +128,8 @@ refused s h turn q st e =
     let none = refused_by (decision (journal h) (clock (turn ∷ h)) turn) q e in
     (ap (map told_by) (sym none), subst (λ ls. Knows (with_lines ls (journal h)) s.made s.streams) (sym none) st.knows)
 
--- The clock of the scribe `t` is the greater of that of `s` and the turn's moment. If `t` knows the streams after the
--- turn, then it represents the history with the turn.
+-- Suppose that the clock of the scribe `t` is the greater of the clock of `s` and the turn's moment. If `t` knows the
+-- streams after the turn, it represents the history with the turn.
 pub stands_at : (s t : ScribeValue) (h : List Turn) (turn : Turn) → StandsFor s h → t.clock ≡ max s.clock turn.at
     → Knows (journal (turn ∷ h)) t.made t.streams
     → StandsFor t (turn ∷ h)
@@ -149,7 +149,8 @@ pub other_lines : (s : ScribeValue) (c by : ℕ) (what : Command) (r : Reply) �
 other_lines s c by (command.Create name count) r o = absurd o
 other_lines s c by what r o = refl
 
--- For a command other than CreateStream, the scribe knows the streams as its entries change them.
+-- For a command other than CreateStream, what the scribe knows afterwards is what it knew, changed by the command's
+-- entries.
 pub other_after : (s : ScribeValue) (what : Command)
     (r : Reply) → IsOther what → record s { streams = changed_by (entries_of s.streams what r) s.streams }
     ≡ told_after s what r

@@ -1,5 +1,5 @@
--- After lines that make no stream, what the scribe knows of the streams, changed by the entries of these lines, is what
--- the journal says.
+-- Let lines make no stream, and let their entries change what the scribe knows of the streams. Then this is what the
+-- journal with these lines says.
 use Rattle.std.proofs.Common.{◌≡◌, ℕ, ◌+◌, ◌<◌, ◌≤◌, List, [], ◌∷◌, length, map, Bool, true, false, refl, sym, ap, ◌∙◌}
 use Rattle.std.proofs.Common.{arith, inl, inr, subst}
 use Rattle.std.proofs.lemmas.Bool.{cases_Bool, eqb-true, ne_eqb}
@@ -25,8 +25,8 @@ no_of v = v.no
 
 -- ---- The stream with a name
 
--- Searching the numbers of the known streams for a name by the journal finds the same stream as searching what the
--- scribe knows.
+-- Among the known streams, a search for a name by the names in the journal finds the same stream as a search by the
+-- names that the scribe knows.
 named_among : (log : Journal) (name : List ℕ) (vs : List Known) → AllByRecursion (IsKnown log) vs
     → find (λ s. same_name (name_of log s) name) (map no_of vs) ≡ option_map no_of (known_as name vs)
 named_among log name [] all = refl
@@ -88,7 +88,7 @@ none_drawn log _ n f h = refl
 
 -- ---- A stream that the scribe knows
 
--- After an entry, `w` is right for the stream that the scribe knew as `v`: it has the same number and name, and its
+-- After an entry, `w` is correct for the stream that the scribe knew as `v`: it has the same number and name, and its
 -- last sequence number and last shard are those after the entry. A further sequence number is left.
 record Kept (log : Journal) (line : Line) (e : Entry) (v w : Known) : Type 0 where
   same : w.no ≡ v.no
@@ -97,7 +97,8 @@ record Kept (log : Journal) (line : Line) (e : Entry) (v w : Known) : Type 0 whe
   many : (start : ℕ) → length (shards_after line e v.no start (shards log v.no)) ≡ w.shard + 1
   left : w.drawn < last_number
 
--- If the entry takes no sequence number of the stream and leaves its shards as they are, `v` itself is right after it.
+-- If the entry takes no sequence number of the stream and leaves its shards as they are, `v` itself is still correct
+-- after the entry.
 as_before : (log : Journal) (line : Line) (e : Entry) (v : Known) → IsKnown log v → draws e v.no ≡ 0
     → ((start : ℕ) → shards_after line e v.no start (shards log v.no) ≡ shards log v.no) → Kept log line e v v
 as_before log line e v k none shards_same = record {
@@ -108,8 +109,9 @@ as_before log line e v k none shards_same = record {
   left = k.left;
 }
 
--- The entry takes the sequence number `q` of the stream `s`, whose last shard is then `last`. Then what the scribe
--- knows is right if it changes the stream `s` alone to these numbers.
+-- Suppose that the entry takes the sequence number `q` of the stream `s` and that the last shard of `s` is then `last`.
+-- If `v` is the stream `s`, then `v` with these two numbers is correct after the entry. Otherwise `v` itself is
+-- correct.
 drawn_kept : (log : Journal) (line : Line) (e : Entry) (s q last : ℕ) (v : Known) → IsKnown log v
     → q ≡ next_number log s → q < last_number
     → draws e v.no ≡ (if s == v.no then 1 else 0)
@@ -127,7 +129,8 @@ drawn_kept log line e s q last v k drawn left draws_is its_shards same_shards = 
   | inr other ↦ rw other (as_before log line e v k (draws_is ∙ rw other refl) (same_shards other))
 ]
 
--- If an entry fits the journal, the stream `v` with the numbers that the entry leaves (`renumbered`) is right after it.
+-- If an entry fits the journal, the stream `v` with the numbers that the entry leaves (`renumbered`) is correct after
+-- this entry.
 entry_kept : (log : Journal) (line : Line) (e : Entry) (v : Known) → Fits log e → IsKnown log v
     → Kept log line e v (renumbered e v)
 entry_kept log line (entry.Made s name count) v f k = absurd f
@@ -196,8 +199,8 @@ live_after log line made vs f k =
 
 -- ---- Several lines, one after another
 
--- If the scribe knows the streams and a line fits the journal, then it knows the streams after the line, changed by its
--- entry.
+-- If the scribe knows the streams and a line fits the journal, then the streams, changed by the line's entry, are
+-- correct after the line.
 pub knows_after : (log : Journal) (line : Line) (made : ℕ) (vs : List Known) → Fits log line.what → Knows log made vs
     → Knows (line ∷ log) made (changed line.what vs)
 knows_after log line made vs f k = record {
@@ -212,8 +215,8 @@ knows_after log line made vs f k = record {
       omega (arith, none, k.unmade s above);
 }
 
--- If the scribe knows the streams and each of the lines fits the journal, then it knows the streams after these lines,
--- changed by their entries.
+-- If the scribe knows the streams and each of the lines fits the journal, then the streams, changed by the lines'
+-- entries, are correct after the lines.
 pub knows_all : (log : Journal) (lines : List Line) (made : ℕ) (vs : List Known) → FitAll log lines → Knows log made vs
     → Knows (with_lines lines log) made (changed_by (map (λ (l : Line). l.what) lines) vs)
 knows_all log [] made vs f k = k

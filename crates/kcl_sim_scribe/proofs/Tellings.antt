@@ -33,7 +33,7 @@ use Rattle.kcl_sim_scribe.proofs.Readings.{FitAll, live_below, named_is, no_of}
 
 -- ---- Numbers, and streams found by their names
 
--- If a search for a stream gives the number `s`, it found a stream, and this has the number `s`.
+-- If a search for a stream gives the number `s`, it found a stream, and this stream has the number `s`.
 one_of : (o : Option Known) (s : ℕ) → option_map no_of o ≡ Some s → (v : Known) × (o ≡ Some v) × (v.no ≡ s)
 one_of None s h = absurd (cc)
 one_of (Some v) s h = let e : v.no ≡ s = cc in (v, refl, e)
@@ -137,8 +137,9 @@ pub record Told (log : Journal) (c by : ℕ) (vs : List Known) (what : Command) 
 
 -- In this module, `vs` are the live streams that the scribe knows, and what it knows is what the journal `log` says.
 module _ (log : Journal) (c by made : ℕ) (vs : List Known) (k : Knows log made vs) where
-  -- If `s` is the live stream with the name `name`, the scribe finds by this name a stream `v` with the number `s`. It
-  -- knows the stream's next sequence number and number of shards. So whatever follows from these facts holds.
+  -- If `s` is the live stream with the name `name`, the scribe finds by this name a stream `v` with the number `s`. The
+  -- scribe knows the next sequence number and the number of shards of this stream. So whatever follows from these facts
+  -- holds.
   in_named : {A : Type 0} (name : List ℕ) (s : ℕ) → stream_named log name ≡ Some s
       → ((v : Known) → known_as name vs ≡ Some v → s ≡ v.no → s ≤ made_count log → next_number log s ≡ v.drawn + 1
       → length (shards log s) ≡ v.shard + 1

@@ -11,11 +11,11 @@ use Rattle.kcl_journal.specs.Entries.{end_spelling, entry_spelling, heading}
 abbrev pub told_by : Line → EntryLine
 told_by line = record { clock = line.clock; by = line.by; what = line.what }
 
--- The lines that the turn `turn` adds to the journal of the history `h`, as its text shows them.
+-- The lines that the turn `turn` adds to the journal of the history `h`, as the text of a journal shows lines.
 abbrev pub added_entries : List Turn → Turn → List EntryLine
 added_entries h turn = map told_by (lines_of (decision (journal h) (clock (turn ∷ h)) turn))
 
--- The lines of the journal of the history `h` as its text shows them, the oldest first.
+-- The lines of the journal of the history `h`, the oldest first, as the text of this journal shows them.
 abbrev pub history_entries : List Turn → List EntryLine
 history_entries h = reverse (map told_by (journal h))
 
@@ -23,7 +23,7 @@ history_entries h = reverse (map told_by (journal h))
 abbrev pub entries_text : List EntryLine → List ℕ
 entries_text lines = flat_map (λ line. entry_spelling VERSION line ++ 10 ∷ []) lines
 
--- The text of the journal of the history `h`: the heading, the lines with its entries, and the last line with its
--- clock.
+-- The text of the journal of the history `h`: the heading, the lines of the journal, and the last line with the clock
+-- of `h`.
 abbrev pub journal_text : List Turn → List ℕ
 journal_text h = heading ++ 10 ∷ (entries_text (history_entries h) ++ (end_spelling (clock h) ++ 10 ∷ []))

@@ -27,15 +27,15 @@ pub record ScribeValue : Type 0 where
   pub made : ℕ
   pub streams : List Known
 
--- The first of the streams with the name `name`, or None if none has it.
+-- The first of the streams with the name `name`, or None if no stream has this name.
 abbrev pub known_as : List ℕ → List Known → Option Known
 known_as name streams = find (λ v. same_name v.name name) streams
 
 -- ---- The histories that a scribe represents
 
--- What the scribe knows of the stream `v` is what the journal says: its name, its next sequence number, which is one
--- above the last, and the number of its shards, which is one above that of the last. A further sequence number is left
--- for the stream.
+-- What the scribe knows of the stream `v` is what the journal says. The stream has this name, its next sequence number
+-- is one above the last (`drawn`), and it has one shard more than the number of its last shard (`shard`). A further
+-- sequence number is left for the stream.
 pub record IsKnown (log : Journal) (v : Known) : Type 0 where
   pub named : name_of log v.no ≡ v.name
   pub next : next_number log v.no ≡ v.drawn + 1
@@ -58,8 +58,8 @@ pub record StandsFor (s : ScribeValue) (h : List Turn) : Type 0 where
 
 -- ---- What an entry changes in the scribe's knowledge
 
--- The stream `v` after the entry. A put, a split or a merge of this stream changes its last sequence number, and a
--- split or a merge also its last shard. Any other entry changes nothing.
+-- What the scribe knows of the stream `v` after the entry. A put, a split or a merge of this stream changes its last
+-- sequence number, and a split or a merge also its last shard. Any other entry changes nothing.
 abbrev pub renumbered : Entry → Known → Known
 renumbered (entry.Put s sh number hash bytes key_bytes) v = if s == v.no then record v { drawn = number } else v
 renumbered (entry.Split s sh at number low high) v = if s == v.no then record v { drawn = number; shard = high } else v
@@ -72,8 +72,8 @@ abbrev pub is_gone : Entry → ℕ → Bool
 is_gone (entry.Gone s) n = s == n
 is_gone _ n = false
 
--- The streams after the entry, which doesn't make a stream: each has the numbers that the entry leaves, and a deleted
--- one is taken out.
+-- The streams after the entry, which doesn't make a stream: each stream has the numbers that the entry leaves, and a
+-- deleted stream is taken out.
 abbrev pub changed : Entry → List Known → List Known
 changed e streams = filter (λ v. not (is_gone e v.no)) (map (renumbered e) streams)
 
@@ -82,7 +82,7 @@ abbrev pub changed_by : List Entry → List Known → List Known
 changed_by [] streams = streams
 changed_by (e ∷ entries) streams = changed_by entries (changed e streams)
 
--- The stream with this number and name as it is made, with `count` shards.
+-- What the scribe knows of the stream with this number and name right after the stream was made with `count` shards.
 abbrev pub new_known : ℕ → List ℕ → ℕ → Known
 new_known stream name count = record { no = stream; name = name; drawn = 0; shard = count - 1 }
 

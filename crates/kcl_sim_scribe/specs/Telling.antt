@@ -22,13 +22,13 @@ use Rattle.kcl_sim_scribe.specs.Known.{Known, ScribeValue, changed_by, known_as,
 
 -- ---- Commands on a stream
 
--- The entry of a put of the item `item` into the stream `s`. The reply says in which shard and with which sequence
--- number it was stored (`place`).
+-- The entry of a put of the item `item` into the stream `s`. The reply has `place`: the shard and the sequence number
+-- with which the item was stored.
 abbrev pub put_entry : ℕ → NewItem → Place → Entry
 put_entry s item place = entry.Put s place.shard place.seq item.hash (length item.payload) (length item.key)
 
--- The entries of a put of several items into the stream `s`, given the outcome of each. An item that the limits held
--- back has none.
+-- The entries of a put of several items into the stream `s`, given the outcome of each item. An item that the limits
+-- held back has no entry.
 abbrev pub put_entries : ℕ → List NewItem → List Outcome → List Entry
 put_entries s [] outcomes = []
 put_entries s (item ∷ items) [] = []
@@ -93,14 +93,14 @@ abbrev pub of_stream : Option Known → Command → Reply → List Entry
 of_stream None what r = []
 of_stream (Some v) what r = stream_entries v what r
 
--- The entries of an accepted command on the stream with the name, if there is a name. If there is none, the command is
--- one on leases.
+-- The entries of an accepted command on the stream with the name, if there is a name. If there is no name, the command
+-- is one on leases.
 abbrev pub named_entries : Option (List ℕ) → List Known → Command → Reply → List Entry
 named_entries None streams what r = lease_entries what r
 named_entries (Some name) streams what r = of_stream (known_as name streams) what r
 
--- The entries of an accepted command other than CreateStream, given the reply to it and the live streams that the
--- scribe knows.
+-- The entries of an accepted command other than CreateStream, given the reply to the command and the live streams that
+-- the scribe knows.
 abbrev pub entries_of : List Known → Command → Reply → List Entry
 entries_of streams what r = named_entries (changed_name what) streams what r
 
@@ -128,18 +128,18 @@ lines_by clock by entries = map (line_by clock by) entries
 -- ---- An accepted command
 
 -- The lines that the scribe writes for an accepted command of the actor `by` at the clock `clock`, given the reply to
--- it.
+-- the command.
 abbrev pub told_lines : ScribeValue → ℕ → ℕ → Command → Reply → List EntryLine
 told_lines s clock by (command.Create name count) r = line_by clock by (entry.Made (s.made + 1) name count) ∷ []
 told_lines s clock by what r = lines_by clock by (entries_of s.streams what r)
 
--- What the scribe `s` knows after an accepted command, given the reply to it. Its clock stays.
+-- What the scribe `s` knows after an accepted command, given the reply to the command. The clock of `s` stays.
 abbrev pub told_after : ScribeValue → Command → Reply → ScribeValue
 told_after s (command.Create name count) r = with_made name count s
 told_after s what r = record s { streams = changed_by (entries_of s.streams what r) s.streams }
 
--- The scribe can write the lines of the command. If it makes a stream, a number is left for the stream, and it has at
--- least one shard. Otherwise the numbers that the command takes are left (`MayNumber`).
+-- The scribe can write the lines of the command. If the command makes a stream, a number is left for this stream, and
+-- the stream has at least one shard. Otherwise the numbers that the command takes are left (`MayNumber`).
 abbrev pub CanTell : ScribeValue → Command → Type 0
 CanTell s (command.Create name count) = ((s.made == last_number) ≡ false) × (1 ≤ count)
 CanTell s what = MayNumber (changed_name what) s.streams what

@@ -1,4 +1,4 @@
--- A row, or a shard, of a key is in a list exactly if an index of it was found.
+-- A list has a row of a key, or the key of a shard, exactly if an index of such an item is found in the list.
 use Rattle.std.proofs.Common.{◌≡◌, ℕ, suc, ◌+◌, nat_lt, length, Bool, true, false, List, [], ◌∷◌, Some, None, refl, sym}
 use Rattle.std.proofs.Common.{◌∙◌, is_some, arith}
 use Rattle.std.specs.Prelude.{cond, not, ◌||◌, slice_get}

@@ -33,7 +33,8 @@ all_at key [] j d all h = absurd (omega arith)
 all_at key (s ∷ xs) zero d all h = all.0
 all_at key (s ∷ xs) (suc j) d all h = all_at key xs j d all.1 (omega arith)
 
--- If the keys of the notes rise, the notes before the key `key` come first in the list, and the others after them.
+-- If the keys of the notes rise, the notes whose keys come before `key` are at the beginning of the list, and all other
+-- notes are after them.
 pub partitioned : (key : ShardRef) (xs : List Seen) → AreInOrder xs → IsPartitionedBy (comes_before key) xs
 partitioned key [] order i j d le within is = absurd (omega arith)
 partitioned key (s ∷ xs) order zero zero d le within is = is
@@ -43,7 +44,8 @@ partitioned key (s ∷ xs) order (suc i) zero d le within is = absurd (omega ari
 partitioned key (s ∷ xs) order (suc i) (suc j) d le within is =
     partitioned key xs order.1 i j d (omega arith) (omega arith) is
 
--- If `i` parts the notes before the key `key` from the others, `i` is the index of this key (`index_of`).
+-- If the notes before the index `i` have keys before `key`, and the notes from `i` on don't, then `i` is the index of
+-- this key (`index_of`).
 pub index_is : (key : ShardRef) (xs : List Seen) (i : ℕ) → i ≤ length xs
     → IsPartitionPoint (λ s. comes_before key s ≡ true) (λ s. comes_before key s ≡ false) xs i → i ≡ index_of key xs
 index_is key [] i le h = omega arith
@@ -73,8 +75,8 @@ seen_here key s xs false false before same order rest =
     absent key xs (before_all key s.key xs (after_else s.key key before same) order.0)
     ∙ ap (λ d. if d then Some s else None) (sym same)
 
--- If the keys of the notes rise, the note with the key `key`, if there is one, is at the index of this key
--- (`index_of`).
+-- If the keys of the notes rise, the note on the row of the key `key` is the note at this key's index (`index_of`), if
+-- that note has this key. Otherwise there is no note with this key.
 pub seen_there : (key : ShardRef) (xs : List Seen) → AreInOrder xs
     → seen_at xs key ≡ if_key key (slice_get xs (index_of key xs))
 seen_there key [] order = refl
@@ -95,9 +97,9 @@ same_then a b h = grind (arith, nat_tests, h)
 differ : (a b : ℕ) → (a ≡ b → ⊥) → (a == b) ≡ false
 differ a b h = grind (arith, nat_tests, h)
 
--- If writing `first` over the older note `s` gives the notes after `first` for the list `xs`, it does so for the list
--- with the note `x` before `xs`. The counters of `s` and `first` differ. `b` stands for whether the key of `x` comes
--- before that of `first`; the lemma holds for either value.
+-- The step of `set_is` from the list `xs` to the list `x ∷ xs`. `s` is the older note on the row of `first`, and its
+-- counter differs from that of `first`. `b` stands for whether the key of `x` comes before that of `first`; the lemma
+-- holds for either value.
 set_here : (first s x : Seen) (xs : List Seen) (b : Bool)
     → if_key first.key (slice_get (x ∷ xs) (if b then suc (index_of first.key xs) else 0)) ≡ Some s
     → (s.counter ≡ first.counter → ⊥)
@@ -116,8 +118,8 @@ set_here first s x xs false h other rest = (omega arith, here (same_key x.key fi
         (sym (differ x.counter first.counter (λ e. other (ap (λ (y : Seen). y.counter) (sym (same_some x s h)) ∙ e))))
     here false h = absurd (none_some s h)
 
--- If the older note `s` on the row of `first` has another counter than `first`, writing `first` over it gives the notes
--- after the row was seen (`noted`).
+-- If the older note `s` on the row of `first` has another counter than `first`, then writing `first` over `s` gives the
+-- notes after the row was seen (`noted`).
 pub set_is : (first s : Seen) (xs : List Seen) → if_key first.key (slice_get xs (index_of first.key xs)) ≡ Some s
     → (s.counter ≡ first.counter → ⊥)
     → (index_of first.key xs < length xs) × (slice_set xs (index_of first.key xs) first ≡ noted first xs)
@@ -125,9 +127,9 @@ set_is first s [] h other = absurd (none_some s h)
 set_is first s (x ∷ xs) h other =
     set_here first s x xs (is_before x.key first.key) h other (λ g. set_is first s xs g other)
 
--- If the list `xs` with the older note `s` is also the list after the row was seen, so is the list with the note `x`
--- before `xs`. The counters of `s` and `first` are the same. `b` stands for whether the key of `x` comes before that of
--- `first`; the lemma holds for either value.
+-- The step of `kept_is` from the list `xs` to the list `x ∷ xs`. `s` is the older note on the row of `first`, and has
+-- the counter of `first`. `b` stands for whether the key of `x` comes before that of `first`; the lemma holds for
+-- either value.
 kept_here : (first s x : Seen) (xs : List Seen) (b : Bool)
     → if_key first.key (slice_get (x ∷ xs) (if b then suc (index_of first.key xs) else 0)) ≡ Some s
     → s.counter ≡ first.counter
@@ -144,7 +146,7 @@ kept_here first s x xs false h same rest = here (same_key x.key first.key) h
         (sym (same_then x.counter first.counter (ap (λ (y : Seen). y.counter) (same_some x s h) ∙ same)))
     here false h = absurd (none_some s h)
 
--- If the older note `s` on the row of `first` has the counter of `first`, the notes are the same after the row was seen
+-- If the older note `s` on the row of `first` has the counter of `first`, the notes don't change when the row is seen
 -- (`noted`).
 pub kept_is : (first s : Seen) (xs : List Seen) → if_key first.key (slice_get xs (index_of first.key xs)) ≡ Some s
     → s.counter ≡ first.counter
@@ -153,9 +155,8 @@ kept_is first s [] h same = absurd (none_some s h)
 kept_is first s (x ∷ xs) h same =
     kept_here first s x xs (is_before x.key first.key) h same (λ g. kept_is first s xs g same)
 
--- If inserting `first` at the index of its key gives the notes after `first` for the list `xs`, it does so for the list
--- with the note `x` before `xs`. There is no older note on this row. `b` stands for whether the key of `x` comes before
--- that of `first`; the lemma holds for either value.
+-- The step of `insert_is` from the list `xs` to the list `x ∷ xs`. There is no older note on the row of `first`. `b`
+-- stands for whether the key of `x` comes before that of `first`; the lemma holds for either value.
 insert_here : (first x : Seen) (xs : List Seen) (b : Bool)
     → if_key first.key (slice_get (x ∷ xs) (if b then suc (index_of first.key xs) else 0)) ≡ None
     → (if_key first.key (slice_get xs (index_of first.key xs)) ≡ None
@@ -208,7 +209,7 @@ order_here first x xs false false e before same order rest =
     let after = after_else x.key first.key before same in
     ((after, before_all first.key x.key xs after order.0), order)
 
--- If the keys of the notes rise, they rise after a row was seen (`noted`).
+-- If the keys of the notes rise, the keys still rise after a row was seen (`noted`).
 pub order_noted : (first : Seen) (xs : List Seen) → AreInOrder xs → AreInOrder (noted first xs)
 order_noted first [] order = (tt, tt)
 order_noted first (x ∷ xs) order =
@@ -259,7 +260,7 @@ noted_at r now (s ∷ seen) key order =
     passed false true rest later h ih = refl
     passed false false rest later h ih = ih
 
-    -- If the key of the note `s` comes before that of the row `r`, they aren't both `key`.
+    -- If the key of the note `s` comes before that of the row `r`, these two keys aren't both `key`.
     not_both : is_before s.key r.key ≡ true → same_key s.key key ≡ true → same_key r.key key ≡ true → ⊥
     not_both before sk rk =
         apart (same_key s.key r.key)
@@ -269,8 +270,8 @@ noted_at r now (s ∷ seen) key order =
         own : (k : ShardRef) → same_key s.key s.key ≡ true
         own k = grind (arith, nat_tests)
 
-    -- If the row `r` has no note yet, what is found for each key is what was found before, and for the key of `r` it is
-    -- the new note.
+    -- If there is no note on the row `r` yet, the new note is found for the key of `r`. For each other key, what was
+    -- found before is still found.
     new : (rk : Bool) → same_key r.key key ≡ rk → is_before r.key s.key ≡ true
         → cond rk (Some (first_note r now)) (seen_at (s ∷ seen) key)
         ≡ (if rk then with_sight r now (seen_at (s ∷ seen) key) else seen_at (s ∷ seen) key)
@@ -300,8 +301,8 @@ noted_at r now (s ∷ seen) key order =
 
 -- ---- All rows
 
--- If the keys of the notes rise, the note that is found for a key after the rows were seen one after another is the one
--- of the definitions (`after_rows`).
+-- Assume that the keys of the notes rise. After the rows were seen one after another, the note that is found for a key
+-- is the one of the definitions (`after_rows`).
 pub noted_all_at : (rows : List Row) (now : ℕ) (seen : List Seen) (key : ShardRef) → AreInOrder seen
     → seen_at (noted_all rows now seen) key ≡ after_rows rows now (seen_at seen) key
 noted_all_at [] now seen key order = refl

@@ -7,7 +7,7 @@ use Rattle.kcl_defs.specs.declared.plans.Seen.{Seen}
 use Rattle.kds_defs.specs.declared.reply.Row.{Row}
 use Rattle.kds_defs.specs.Keys.{is_before, same_key}
 
--- The note on the row `r` if its present counter is seen for the first time at `now`.
+-- The note on the row `r` if the row's present counter is seen for the first time at `now`.
 abbrev pub first_note : Row → ℕ → Seen
 first_note r now = record { key = r.key; counter = r.counter; since = now }
 
@@ -31,9 +31,9 @@ abbrev pub if_key : ShardRef → Option Seen → Option Seen
 if_key key None = None
 if_key key (Some s) = if same_key s.key key then Some s else None
 
--- The notes after a row was seen. `first` is the note on this row with its present counter. If there is an older note
--- on the row, `first` replaces it, unless its counter is the same. Otherwise `first` is inserted in the order of the
--- keys.
+-- The notes after a row was seen. `first` is the note on this row with the row's present counter. If an older note on
+-- the row has another counter, `first` replaces the older note. If the older note has the same counter, the older note
+-- stays. If there is no older note on the row, `first` is inserted in the order of the keys.
 abbrev pub noted : Seen → List Seen → List Seen
 noted first [] = first ∷ []
 noted first (s ∷ seen) =

@@ -65,7 +65,8 @@ count_quiet : {P : Type 0} (c : ConsumerValue P) (cs : List (ConsumerValue P)) �
     → due_count (c ∷ cs) ≡ due_count cs
 count_quiet c cs h = ap (λ b. length (cond b (c ∷ filter is_due cs) (filter is_due cs))) h
 
--- After the first due call has returned, and the consumers that are over are retired, fewer processor calls are due.
+-- After the first due processor call has returned, and the consumers that are over were retired, fewer processor calls
+-- are due than before.
 pub fewer_due : {P : Type 0} (stands : P → List Call → Type 0) (asks : P → List Stored → Ask
     → Type 0) (asked : Ask) (old new settled : List (ConsumerValue P)) → FirstCalled stands asks asked old new
     → settled ≡ live_among new → due_count settled < due_count old

@@ -39,8 +39,8 @@ retired_served stands by h (r ∷ rs) (k ∷ ks) s all = (
 retired_served stands by h [] (k ∷ ks) s all = absurd s
 retired_served stands by h (r ∷ rs) [] s all = absurd s
 
--- If the turns of the actor `by` in the history `h` are the commands of the record for which the worker `w` stands, its
--- processors were called for the given reads of their tenures (`AreServedIn`).
+-- The worker `w` stands for the record `past`. If the turns of the actor `by` in the history `h` are the commands of
+-- `past`, the processors of `w` were called for the given reads of their tenures (`AreServedIn`).
 pub worker_served : {P F : Type 0} (stands : P → List Call → Type 0) (by : ℕ) (h : List Turn) (w : WorkerStanding P F)
     (past : WorkerPast) → StandsFor stands w past → IsToldIn by h w.made past → AreServedIn stands by h w
 worker_served stands by h w past s told =

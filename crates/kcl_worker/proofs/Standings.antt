@@ -1,5 +1,5 @@
--- After a processor call or a stop, the worker stands for its record (the list of its events) with this event added.
--- `stands` says which processor calls a processor stands for.
+-- After a processor call or a stop, the worker stands for its record with this call or stop added. The record is the
+-- list of the worker's events. `stands` says which processor calls a processor stands for.
 use Rattle.std.proofs.Common.{◌≡◌, true, List, ◌∷◌, ◌++◌, Option, Some, None, Ok, Err, refl, sym, subst, ◌∙◌}
 use Rattle.std.specs.Option.{option_map}
 use Rattle.std.specs.Prelude.{OnErr, Result}
@@ -26,8 +26,8 @@ pub is_free : {P F : Type 0} (stands : P → List Call → Type 0) (w : WorkerSt
     → w.waiting ≡ None → ShowsState stands w s → s.waiting ≡ None
 is_free stands w s free shows = none_mapped s.waiting (sym free ∙ shows.waiting)
 
--- If the worker `w` agrees with the state `s` (`ShowsState`), both still agree after the consumers that are over are
--- retired.
+-- If the worker `w` agrees with the state `s` (`ShowsState`), then `w` and `s` still agree after the consumers that are
+-- over are retired in each of them.
 pub settled_shows : {P F : Type 0} (stands : P → List Call → Type 0) (w : WorkerStanding P F) (s : WorkerState)
     → ShowsState stands w s → ShowsState stands (settled_in w) (after_retiring s)
 settled_shows stands w s h = record {
@@ -40,8 +40,8 @@ settled_shows stands w s h = record {
       (retired_stand stands w.consumers s.consumers h.consumers);
 }
 
--- The worker `new` stands for the record `past` with a stop added, if it is `w` after the stop: all consumers have lost
--- their leases, and those that are over are retired.
+-- `new` is the worker `w` after a stop: all consumers have lost their leases, and those that are over are retired. If
+-- `w` stands for the record `past` and no command waits, `new` stands for `past` with this stop added.
 pub stop_stands : {P F : Type 0} (stands : P → List Call → Type 0) (w new : WorkerStanding P F) (past : WorkerPast)
     → w.waiting ≡ None → new
     ≡ settled_in (record w { round = AtStopping; consumers = lost_among (λ id. true) w.consumers })
@@ -63,8 +63,8 @@ stop_stands {P} {F} stands w new past free is st =
           });
     })
 
--- The worker `new` stands for the record `past` with a processor call added, if it is `w` after its first due call has
--- returned, with the consumers that are over retired.
+-- `new` is the worker `w` after its first due processor call has returned and the consumers that are over were retired.
+-- If `w` stands for the record `past` and no command waits, `new` stands for `past` with this call added.
 pub call_stands : {P F : Type 0} (stands : P → List Call → Type 0) (asks : P → List Stored → Ask
     → Type 0) (asked : Ask) (w new : WorkerStanding P F) (cs : List (ConsumerValue P)) (past : WorkerPast)
     → w.waiting ≡ None → FirstCalled stands asks asked w.consumers cs → new ≡ settled_in (record w { consumers = cs })
@@ -86,7 +86,8 @@ call_stands {P} {F} stands asks asked w new cs past free called is st =
           });
     })
 
--- The worker `new` stands for the same record as `w`, if it is `w` after a processor call that ran out of memory.
+-- `new` is the worker `w` after a processor call that ran out of memory. If `w` stands for the record `past`, so does
+-- `new`.
 pub uncalled_stands : {P F : Type 0} (stands : P → List Call → Type 0) (asks : P → List Stored → Ask
     → Type 0) (w new : WorkerStanding P F) (cs : List (ConsumerValue P)) (past : WorkerPast)
     → FirstUncalled stands asks w.consumers cs → new ≡ record w { consumers = cs } → StandsFor stands w past
@@ -130,7 +131,7 @@ call_leaves stands asks asked w called cs rs past free f live over st =
     call_stands stands asks asked w (record w { consumers = cs; retired = rs }) called past free f
     (λ i. record w { consumers = live i; retired = over i }) st
 
--- If `P` holds, it holds if the result is an error.
+-- If `P` holds, then `P` also holds in case the result is an error.
 pub on_err_so : {A E : Type 0} (P : Type 0) (r : Result A E) → P → OnErr r P
 on_err_so P (Ok x) h = tt
 on_err_so P (Err e) h = h

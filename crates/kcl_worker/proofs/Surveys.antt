@@ -1,5 +1,5 @@
--- After the answer to a survey, the worker with the fields that the code has written stands for its record (the list of
--- its events) with this answer added. `w` and `old` are the worker before the answer.
+-- After the answer to a survey, the worker with the fields that the code has written stands for its record with this
+-- answer added. The record is the list of the worker's events. `w` and `old` are the worker before the answer.
 use Rattle.std.proofs.Common.{◌≡◌, ℕ, ◌++◌, List, ◌∷◌, Some, None, Ok, Err, refl, sym, ap, subst, ◌∙◌}
 use Rattle.std.specs.Prelude.{Result}
 use Rattle.std.specs.List.{filter}
@@ -112,7 +112,8 @@ planned_leaves stands w old is now (Ok _) p syncs takes consumers cs rs past wai
 planned_leaves stands w old is now (Err r) p syncs takes consumers cs rs past waits planned a b e live over st =
     absurd planned
 
--- If the worker `w` agrees with the state `s` (`ShowsState`), both still agree once no command waits any more.
+-- If the worker `w` agrees with the state `s` (`ShowsState`), then `w` without its waiting command agrees with `s`
+-- without its waiting command.
 kept_shows : {P F : Type 0} (stands : P → List Call → Type 0) (w : WorkerStanding P F) (s : WorkerState)
     → ShowsState stands w s → ShowsState stands (record w { waiting = None }) (record s { waiting = None })
 kept_shows stands w s h = record {
@@ -133,7 +134,7 @@ unplanned_shows stands w s now (Ok _) none h = kept_shows stands w s h
 unplanned_shows stands w s now (Err r) none h = kept_shows stands w s h
 
 -- After an answer from which nothing was planned, such as a refusal, the worker stands for its record with this answer
--- added. Only the waiting command is gone, and the consumers that are over are retired.
+-- added. The waiting command is gone, the consumers that are over are retired, and nothing else has changed.
 pub unplanned_leaves : {P F : Type 0} (stands : P → List Call → Type 0) (w old : WorkerStanding P F) → w ≡ old
     → (now : ℕ) (answer : Result Reply Refusal) (cs : List (ConsumerValue P)) (rs : List (Retirement P))
     (past : WorkerPast)

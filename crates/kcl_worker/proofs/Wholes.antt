@@ -8,9 +8,10 @@ use Rattle.kcl_worker.specs.Asks.{AskWithin}
 use Rattle.kcl_worker.specs.Outlook.{IsAsking, NoneOver}
 use Rattle.kcl_worker.specs.Whole.{IsWorker}
 
--- The invariant of a worker still holds after a call if four facts are true: no consumer is over, no processor call is
--- due while a command waits for its answer, there is room for all retired consumers, and the processors ask only for
--- what `other` allows. The names with a prime are those after the call.
+-- If the invariant of a worker held before a call, four facts are enough for it to hold after the call. No consumer is
+-- over. If a command waits for its answer, no processor call is due. The list of retired consumers has room for the
+-- retired consumers and the others together. `other` allows everything that the processors may ask for. The names with
+-- a prime are those after the call.
 pub still_worker : {P : Type 0} {asks : P → List Stored → Ask → Type 0} {may other : List Stored → Ask → Type 0}
     {name most retired many room retired' many' room' : ℕ} {chore chore' : Option Chore} {cs cs' :
     List (ConsumerValue P)}

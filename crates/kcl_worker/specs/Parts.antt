@@ -1,5 +1,5 @@
 -- How the code stores a worker's round and the chore whose command waits for its answer. The steps that are left of the
--- two plans are stored once, apart from both.
+-- two plans are stored once, apart from the round and the chore.
 use Rattle.std.specs.Prelude.{List, [], ◌∷◌, Option, Some, None}
 use Rattle.kcl_defs.specs.declared.plans.SyncStep.{SyncStep}
 use Rattle.kcl_defs.specs.declared.plans.TakeStep.{TakeStep}
@@ -20,20 +20,21 @@ round_of (part.Renewals last) syncs takes = AtRenewals last
 round_of (part.Consumers last) syncs takes = AtConsumers last
 round_of part.Stopping syncs takes = AtStopping
 
--- The chore that is the first of these steps of the sync plan, or None if no step is left. The chore contains the steps
--- after it.
+-- The chore for the first of the steps that are left of the sync plan (the first argument), or None if no step is left.
+-- The chore contains this step, the later steps of the sync plan, and the steps `takes` of the take plan.
 abbrev pub syncing : List SyncStep → List TakeStep → Option Chore
 syncing [] takes = None
 syncing (step ∷ syncs) takes = Some (Syncing step syncs takes)
 
--- The chore that is the first of these steps of the take plan, or None if no step is left. The chore contains the steps
--- after it.
+-- The chore for the first of the steps that are left of the take plan (the argument), or None if no step is left. The
+-- chore contains this step and the later steps.
 abbrev pub taking : List TakeStep → Option Chore
 taking [] = None
 taking (step ∷ takes) = Some (Taking step takes)
 
--- The chore whose command waits for its answer, or None if no command waits. If the chore is a step of a plan, it is
--- the first of the steps that are left of this plan.
+-- The chore that the code stores in the first argument, or None if no command waits for its answer. A step of the sync
+-- plan is the first of `syncs`, and a step of the take plan is the first of `takes`. If that list is empty, the result
+-- is None.
 abbrev pub chore_of : Awaited → List SyncStep → List TakeStep → Option Chore
 chore_of awaited.Nothing syncs takes = None
 chore_of awaited.Survey syncs takes = Some Surveying

@@ -1,5 +1,5 @@
--- A worker as callers see it, and the record that it stands for, which is the list of its events. `stands` says which
--- processor calls a processor stands for.
+-- A worker as callers see it, and the record that the worker stands for: the list of the worker's events. `stands` says
+-- which processor calls a processor stands for.
 use Rattle.std.specs.Prelude.{ℕ, ◌≡◌, Bool, not, ◌&&◌, List, [], ◌∷◌, ◌++◌, Option, Some, None, Result}
 use Rattle.std.specs.List.{list_any, AllByRecursion}
 use Rattle.std.specs.Option.{option_map}
@@ -24,9 +24,9 @@ use Rattle.kcl_worker_lists.specs.Changes.{live_among, retired_among}
 use Rattle.kcl_worker_lists.specs.Lists.{Retirement, is_due}
 use Rattle.kcl_worker_lists.specs.Planning.{IsPlannedAfter}
 
--- A worker as callers see it: the values from which it was made; how far it has come in its round; the chore whose
--- command waits for its answer, if one does; and for each key, what it has seen of the row. Then follow its leases, its
--- consumers, what is kept of those that are over, and the maker of its processors.
+-- A worker as callers see it: the values from which the worker was made; how far it has come in its round; the chore
+-- whose command waits for its answer, if a command waits; and what the worker has seen of the rows. Then follow the
+-- worker's leases, its consumers, what is kept of its retired consumers, and the maker of its processors.
 pub record WorkerStanding (P F : Type 0) : Type 0 where
   pub made : WorkerMade
   pub round : Round
@@ -49,13 +49,13 @@ pub record AwaitsNone {P F : Type 0} (new old : WorkerStanding P F) : Type 0 whe
   pub maker : new.maker ≡ old.maker
   pub free : new.waiting ≡ None
 
--- The worker `w` after its consumers that are over were retired: what is kept of them is added at the end of the
--- retired ones.
+-- The worker `w` after its consumers that are over were retired. What is kept of these consumers is added, in order, at
+-- the end of `retired`.
 abbrev pub settled_in : {P F : Type 0} → WorkerStanding P F → WorkerStanding P F
 settled_in w = record w { consumers = live_among w.consumers; retired = w.retired ++ retired_among w.consumers }
 
 -- `p` is what the worker `w` plans from the answer `answer` at the moment `now`. If the answer is that of an accepted
--- survey, `p` has the new leases and plans, and otherwise it is None.
+-- survey, `p` has the new leases and plans. Otherwise `p` is None.
 abbrev pub IsPlannedIn : {P F : Type 0} → WorkerStanding P F → ℕ → Result Reply Refusal → Option Planned → Type 0
 IsPlannedIn w now answer p = IsPlannedAfter w.made w.seen w.held now answer p
 
@@ -65,19 +65,19 @@ IsPlannedIn w now answer p = IsPlannedAfter w.made w.seen w.held now answer p
 abbrev pub is_due_in : {P F : Type 0} → WorkerStanding P F → Bool
 is_due_in w = list_any is_due w.consumers
 
--- Whether one of the worker's consumers has a batch to give.
+-- Whether the next command of one of the worker's consumers is a Give.
 abbrev pub is_giving_in : {P F : Type 0} → WorkerStanding P F → Bool
 is_giving_in w = list_any (λ c. is_giving_stage c.stage) w.consumers
 
--- Whether the worker was stopped, and nothing is left to do: no processor call is due, no batch is to be given, and the
--- worker holds no lease.
+-- Whether the worker was stopped, and nothing is left to do: no processor call is due, no consumer's next command is a
+-- Give, and the worker holds no lease.
 abbrev pub is_idle_in : {P F : Type 0} → WorkerStanding P F → Bool
 is_idle_in w = is_stopping w.round && not (is_due_in w) && not (is_giving_in w) && is_nothing_held w.held
 
 -- ---- The record that a worker stands for
 
--- The two lists are equally long, and each consumer of the first list stands for the record of the consumer at the same
--- index of the second list, and was made with the same values.
+-- The two lists are equally long. Each consumer of the first list was made with the same values as the consumer at the
+-- same index of the second list, and stands for that consumer's record.
 abbrev pub ConsumersStand : {P : Type 0} → (P → List Call → Type 0) → List (ConsumerValue P) → List Known → Type 0
 ConsumersStand stands [] [] = Unit {0}
 ConsumersStand stands (c ∷ cs) (k ∷ ks) = (c.made ≡ k.made) × ConsumerStandsFor stands c k.past
@@ -85,8 +85,8 @@ ConsumersStand stands (c ∷ cs) (k ∷ ks) = (c.made ≡ k.made) × ConsumerSta
 ConsumersStand stands [] (k ∷ ks) = ⊥
 ConsumersStand stands (c ∷ cs) [] = ⊥
 
--- `r` is what is kept of the consumer `k`, which is over: its key, its tenure, the reason why it ended, and a processor
--- that stands for the calls of its record.
+-- `r` is what is kept of the consumer `k`, which is over: the key and the tenure of `k`, the reason why `k` ended, and
+-- a processor that stands for the calls of the record of `k`.
 pub record IsRetirement {P : Type 0} (stands : P → List Call → Type 0) (r : Retirement P) (k : Known) : Type 0 where
   pub key : r.key ≡ k.made.key
   pub tenure : r.tenure ≡ k.made.tenure
@@ -101,8 +101,9 @@ RetirementsStand stands (r ∷ rs) (k ∷ ks) = IsRetirement stands r k × Retir
 RetirementsStand stands [] (k ∷ ks) = ⊥
 RetirementsStand stands (r ∷ rs) [] = ⊥
 
--- The worker `w`, as callers see it, agrees with the state `s`: the round, the waiting chore, what was seen of the
--- rows, and the leases are equal, and the consumers and the retired ones stand for those of `s`.
+-- The worker `w` agrees with the state `s`. The round, the chore whose command waits, what was seen of each key's row,
+-- and the leases are equal. The consumers of `w` stand for those of `s`, and `w` has what is kept of the retired
+-- consumers of `s`.
 pub record ShowsState {P F : Type 0} (stands : P → List Call → Type 0) (w : WorkerStanding P F) (s : WorkerState) :
     Type 0 where
   pub round : w.round ≡ s.round
@@ -121,21 +122,22 @@ pub record StandsFor {P F : Type 0} (stands : P → List Call → Type 0) (w : W
 
 -- ---- What a worker's processors were called for
 
--- The consumer `c` belongs to a tenure of the actor `by` in the history `h`, and its processor stands for calls that
--- are for the given reads of this tenure, in order (`IsLifeIn`).
+-- The consumer `c` belongs to a tenure of the actor `by` in the history `h`. The processor of `c` stands for calls that
+-- fit the accepted reads and Gives of this tenure (`IsLifeIn`).
 abbrev pub IsServedIn : {P : Type 0} → (P → List Call → Type 0) → ℕ → List Turn → ConsumerValue P → Type 0
 IsServedIn stands by h c =
     IsOfTenure by h c.made × ((calls : List Call) × stands c.processor calls × IsLifeIn by h c.made calls)
 
--- The retired consumer `r` belonged to a tenure of the actor `by` in the history `h`. Its processor stands for calls
--- that are for the given reads of this tenure, in order, and each batch that it was handed is given.
+-- The retired consumer `r` belonged to a tenure of the actor `by` in the history `h`. The processor of `r` stands for
+-- calls that fit the accepted reads and Gives of this tenure, and each batch that was handed over is given
+-- (`IsWholeLifeIn`).
 abbrev pub IsRetiredIn : {P : Type 0} → (P → List Call → Type 0) → ℕ → List Turn → Retirement P → Type 0
 IsRetiredIn stands by h r = (made : Tenancy) × (r.key ≡ made.key) × (r.tenure ≡ made.tenure) × IsOfTenure by h made
     × ((calls : List Call) × stands r.processor calls × IsWholeLifeIn by h made calls)
 
--- Each consumer of the worker `w`, retired or not, belongs to a tenure of the actor `by` in the history `h`, and its
--- processor was called for the given reads of this tenure. Each batch that the processor of a retired consumer was
--- handed is given.
+-- Each consumer of the worker `w`, retired or not, belongs to a tenure of the actor `by` in the history `h`. Its
+-- processor stands for calls that fit the accepted reads and Gives of this tenure. Each batch that the processor of a
+-- retired consumer was handed is given.
 pub record AreServedIn {P F : Type 0} (stands : P → List Call → Type 0) (by : ℕ) (h : List Turn)
     (w : WorkerStanding P F) : Type 0 where
   pub consumers : AllByRecursion (IsServedIn stands by h) w.consumers

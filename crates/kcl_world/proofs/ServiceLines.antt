@@ -56,7 +56,7 @@ tenures_along ts (line ∷ lines) log of has =
     tenures_along ts lines (line ∷ log) of.1 (tenures_beside log line ts (of_some (stream_of line.what) of.0) has)
 
 -- If a command to the stream service leads the service from `s` to `s'`, it leads the machine with `s` to the machine
--- with `s'`, with the same rows and tenures and the same answer.
+-- with `s'`. The rows and tenures stay the same, and so does the answer.
 pub service_leads : {E : Type 0} (r : Result (Result Reply Refusal) E) (s s' : ServiceValue) (rs : List Row)
     (ts : List TenureValue) (by : ℕ) (what : Command)
     → is_service what ≡ true → IfOk r (service.Leads s s' what)

@@ -1,4 +1,4 @@
--- A survey changes nothing. It is answered by the listed shards and all rows.
+-- A survey changes nothing. It is answered with the listed shards and all rows.
 use Rattle.std.proofs.Common.{◌≡◌, ℕ, List, sym, ap, ◌∙◌}
 use Rattle.std.specs.Prelude.{Ok}
 use Rattle.kds_base.specs.declared.lease_key.ShardRef.{ShardRef}
@@ -14,8 +14,8 @@ use Rattle.kcl_leases.proofs.RowChanges.{rows_are}
 use Rattle.kds_service.specs.Shown.{ServiceValue}
 use Rattle.kcl_world.specs.Standing.{Leads, Stands, world}
 
--- If the code finds the listed shards of all live streams and all rows, they are the answer to a survey, and the
--- machine after it is the one before it.
+-- If `shards` are the listed shards of all live streams, and `found` are all rows, then a survey is answered with
+-- these, and leaves the machine as it was.
 pub survey_leads : (s : ServiceValue) (rs : List Row) (ts : List TenureValue) (by : ℕ) (shards : List ShardRef)
     (found : List Row) → ((log : Journal) → Stands (world s rs ts) log
     → shards ≡ listed_in log s.clock (live_streams log)) → found ≡ rs

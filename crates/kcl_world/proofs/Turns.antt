@@ -36,8 +36,8 @@ stands_new s clock first shows = record {
       (record { count_is = refl; few = omega arith; tenure_is = no_tenure; given = λ t. tt });
 }
 
--- If the machine with the service `s` stands for a journal, and this journal also leads to the streams of the service
--- `s'`, then the machine with `s'` and the same rows and tenures stands for it.
+-- Let the machine with the service `s` stand for a journal, which also leads to the streams of the service `s'`. Then
+-- the machine with `s'` and the same rows and tenures stands for this journal.
 pub stands_at : (s s' : ServiceValue) (rs : List Row) (ts : List TenureValue) (log : Journal)
     → Stands (world s rs ts) log → ShowsAll s' log → Stands (world s' rs ts) log
 stands_at s s' rs ts log st shows =

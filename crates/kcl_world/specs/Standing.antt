@@ -46,8 +46,8 @@ abbrev pub next_to_settle_of : List Turn → ℕ
 next_to_settle_of [] = 0
 next_to_settle_of (turn ∷ h) = next_in_rotation (length (live_streams (journal (turn ∷ h)))) (next_to_settle_of h)
 
--- The machine `w` has answered the turns of the history `h`, and no others. Its clock is that of `h`, and its streams,
--- rows and tenures are those of the journal of `h`. The stream that it settles next is the one that follows from `h`.
+-- The machine `w` stands for the history `h`. Its clock is that of `h`, and its streams, rows and tenures are those of
+-- the journal of `h`. The stream that it settles next is the one that follows from `h`.
 pub record StandsFor (w : WorldValue) (h : List Turn) : Type 0 where
   pub clock_is : w.service.clock ≡ clock_of h
   pub stands : Stands w (journal h)

@@ -100,8 +100,8 @@ pub all_append : {A : Type 0} (P : A → Type 0) (xs ys : List A) → AllByRecur
 all_append P [] ys h g = g
 all_append P (x ∷ xs) ys h g = (h.0, all_append P xs ys h.1 g)
 
--- If `P` is true of `x` and of each of `xs`, it is true of each element of the list that is `x ∷ xs` if `b` is true,
--- and `xs` if `b` is false.
+-- Let `P` be true of `x` and of each of `xs`. Then `P` is true of each element of the list that is `x ∷ xs` if `b` is
+-- true, and `xs` if `b` is false.
 pub all_choice : {A : Type 0} (P : A → Type 0) (b : Bool) (x : A) (xs : List A) → P x → AllByRecursion P xs
     → AllByRecursion P (cond b (x ∷ xs) xs)
 all_choice P true x xs h all = (h, all)

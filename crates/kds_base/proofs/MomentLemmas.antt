@@ -1,4 +1,4 @@
--- Each moment (a time in milliseconds) has exactly one text that is read as it.
+-- Each moment (a time in milliseconds) has exactly one text that is read as this moment.
 use Rattle.std.proofs.Common.{◌≡◌, ℕ, ◌<◌, ◌^◌, List, Option, Some, None, refl, ap, ◌∙◌, arith, decimal, inl, inr}
 use Rattle.std.proofs.lemmas.Grind.{common_steps}
 use Rattle.std.proofs.lemmas.Bool.{cases_Bool}
@@ -28,6 +28,6 @@ moment_spells text at h = moment_of_text (number_of 64 text) text at refl h
 in_time_again : (at : ℕ) → at < 2 ^ 62 → in_time at ≡ Some at
 in_time_again at small = grind (arith, common_steps)
 
--- If `at` is below 2^62, its decimal text is read as the moment `at`.
+-- If `at` is below 2^62, the decimal text of `at` is read as the moment `at`.
 pub moment_again : (at : ℕ) → at < 2 ^ 62 → moment_of (decimal at) ≡ Some at
 moment_again at small = ap (option_and_then in_time) (number_of_decimal at (omega arith)) ∙ in_time_again at small

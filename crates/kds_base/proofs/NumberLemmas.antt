@@ -35,7 +35,7 @@ plain_digits text p = (grind (arith, common_steps), grind (arith, common_steps))
 
 -- ---- One text for each number
 
--- If a text without a needless leading zero (`is_plain`) begins with the digit 0, this is its only digit.
+-- If a text without a needless leading zero (`is_plain`) begins with the digit 0, this is the only digit of the text.
 pub plain_first : (text : List ℕ) → is_plain text ≡ true → get_or text 0 0 ≡ 48 → length text ≡ 1
 plain_first text p z = grind (arith, common_steps)
 
@@ -60,7 +60,8 @@ value_after n (c ∷ cs) some d small =
     ∙ (λ i. decimal (front i) ++ (end i ∷ [])))
     ∙ append_assoc (decimal n) (c ∷ []) cs
 
--- If the digits `ds` have no needless leading zero, they are the decimal text of their value.
+-- If the digits `ds`, of which there is at least one, have no needless leading zero and a value below 10^64, they are
+-- the decimal text of this value.
 value_digits : (ds : List ℕ) → AllDigits 10 ds → 0 < length ds → (get_or ds 0 0 ≡ 48 → length ds ≡ 1)
     → digits_value 10 ds < 10 ^ 64 → decimal (digits_value 10 ds) ≡ ds
 value_digits [] d some lead small = absurd (omega arith)
@@ -109,7 +110,7 @@ first_digit n some small =
 decimal_digits : (n : ℕ) → n < 10 ^ 64 → IsDigits (decimal n)
 decimal_digits n small = own.from (decimal n) (decimal_is_IsNumeral_wide n small).0.1
 
--- The decimal text of a number consists of digits, and has no needless leading zero (`is_plain`).
+-- The decimal text of a number below 10^64 consists of digits, and has no needless leading zero (`is_plain`).
 pub decimal_plain : (n : ℕ) → n < 10 ^ 64 → is_plain (decimal n) ≡ true
 decimal_plain zero small =
     plain_from (decimal 0) (decimal_is_IsNumeral_wide 0 small).0.0 (decimal_digits 0 small)
@@ -142,8 +143,8 @@ number_of_decimal n small = reads 64 n (omega arith) small
 pub some_digits : (text : List ℕ) → are_digits text ≡ true → IsDigits text × (0 < length text)
 some_digits text p = (grind (arith, common_steps), grind (arith, common_steps))
 
--- If the first `i` digits have the value `n`, and the byte at the index `i` is a digit, the value of the first `i + 1`
--- digits is `n * 10` plus this digit.
+-- Let the first `i` digits have the value `n`, and let the byte at the index `i` be a digit. Then the value of the
+-- first `i + 1` digits is `n * 10` plus this digit.
 pub next_digit : (ds : List ℕ) (i n : ℕ) → i < length ds → is_ascii_digit (get_or ds i 0) ≡ true
     → n ≡ digits_value 10 (take i ds)
     → digits_value 10 (take (i + 1) ds) ≡ n * 10 + (get_or ds i 0 - 48)

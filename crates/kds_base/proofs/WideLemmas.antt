@@ -55,7 +55,7 @@ is_read bits text some all small =
     let fits : nat_lt (digits_value 10 text) (2 ^ bits) ≡ true = grind (arith, nat_tests) in
     rw (digits, fits) refl
 
--- If a text of digits denotes no number below 2^`bits`, its value is at least 2^`bits`.
+-- If a text of digits that isn't empty denotes no number below 2^`bits`, the value of its digits is at least 2^`bits`.
 why_not : (bits : ℕ) (text : List ℕ) → 0 < length text → digits_of bits text ≡ None
     → list_all is_ascii_digit text ≡ true → 2 ^ bits ≤ digits_value 10 text
 why_not bits text some h all = let digits : are_digits text ≡ true = grind (arith, common_steps) in
@@ -88,7 +88,7 @@ other_block front block h = list_all-append is_ascii_digit front block ∙ rw h 
     none true = refl
     none false = refl
 
--- If the front denotes no number below 2^128, the front and the block together don't either.
+-- If the front isn't empty and denotes no number below 2^128, the front and the block together don't denote one either.
 pub front_not_read : (front block : List ℕ) → 0 < length front → digits_of 128 front ≡ None
     → None ≡ digits_of 128 (front ++ block)
 front_not_read front block some h = by_test (list_all is_ascii_digit front)

@@ -3,7 +3,7 @@ use Rattle.std.specs.Prelude.{Bool, true, false}
 use Rattle.kds_base.specs.declared.lease_key.Checkpoint.{Checkpoint}
 use Rattle.kds_base.specs.declared.lease_key.Checkpoint.TheVariants.{TrimHorizon, At, ShardEnd}
 
--- Whether the checkpoint is the shard's end, so that the whole shard has been processed.
+-- Whether the checkpoint is the shard's end. This means that the whole shard has been processed.
 abbrev pub is_end : Checkpoint → Bool
 is_end TrimHorizon = false
 is_end (At q) = false

@@ -6,7 +6,7 @@ use Rattle.kds_base.specs.NumberText.{number_of}
 abbrev pub in_time : ℕ → Option ℕ
 in_time n = if nat_lt n (2 ^ 62) then Some n else None
 
--- The moment that `text` states as a decimal number of milliseconds without needless leading zeros. If `text` isn't
--- such a number, or the number isn't below 2^62, it is `None`.
+-- The moment that `text` states as a decimal number of milliseconds without needless leading zeros. The result is
+-- `None` if `text` isn't such a number, or if the number isn't below 2^62.
 abbrev pub moment_of : List ℕ → Option ℕ
 moment_of text = option_and_then in_time (number_of 64 text)

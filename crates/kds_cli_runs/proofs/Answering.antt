@@ -1,6 +1,6 @@
 -- If the reading of a schedule ended with an outcome, the status of this outcome is right for what was written
--- (`TellsBy`) and for what was run (`RanBy`). The judgement of texts (`judge`) has the lines of a schedule among them,
--- up to the first text that is no line, and how the schedule ends.
+-- (`TellsBy`) and for what was run (`RanBy`). The judgement of texts (`judge`) has the lines of a schedule among these
+-- texts, up to the first text that isn't a line, and says how the schedule ends.
 use Rattle.std.proofs.Common.{◌≡◌, ℕ, ◌+◌, List, [], ◌∷◌, ◌++◌, length, Option, Some, None, refl, sym, ap, ◌∙◌, subst}
 use Rattle.std.proofs.Common.{inl, inr}
 use Rattle.std.proofs.lemmas.List.{append_assoc, append-nil}
@@ -30,8 +30,8 @@ use Rattle.kcl_sim.specs.Taking.{judged_texts, Broke, Took, IsNoLine}
 use Rattle.kds_cli_runs.specs.Answered.{status_of, AreHandedOn, HasMade, Remains, RanBy, RanSafely}
 use Rattle.kds_cli_runs.specs.Told.{TellsBy, IsReplayStatus}
 
--- A premise of the lemmas here: if all texts of a list are lines of a schedule, the judgement of these texts and of
--- more texts is that of the further texts, with the lines of the first texts in front.
+-- A premise of the lemmas here: if all of `texts` are lines of a schedule, the judgement of `texts` and `more` is the
+-- judgement of `more` with the lines of `texts` in front.
 abbrev pub JudgesOn : Type 0
 JudgesOn = (texts more : List (List ℕ)) (end : End) → (judged_texts texts).ending ≡ whole
     → judge 0 (texts ++ more) end ≡ preceded_by (judged_texts texts).lines (judge (length texts) more end)
@@ -55,8 +55,8 @@ all_lines : (s : SimValue) (texts rest : List (List ℕ))
 all_lines s texts rest (inl t) = t.are_lines
 all_lines s texts rest (inr part) = part.3.are_lines
 
--- If the next text, at which memory ran out, is a line of a schedule, it is the first line of the judgement of the
--- texts that weren't taken.
+-- Memory ran out at the first of the texts that weren't taken. If this text is a line of a schedule, it is the first
+-- line of the judgement of these texts.
 next_line : (n : ℕ) (rest later : List (List ℕ)) (text : List ℕ) (line : Line) (end : End) → rest ≡ text ∷ later
     → line_of text ≡ Some line
     → (judge n rest end).lines ≡ line ∷ (judge (n + 1) later end).lines
@@ -133,8 +133,8 @@ module _ (output : List Line → List ℕ) (more : JudgesOn) (grows : OutputsOn 
         (all_written (output ls) front back held now parts none w),
   )
 
-  -- If a first part of the output for the first lines was written, it is a first part of the output for the whole
-  -- schedule.
+  -- If a first part of the output for the first lines was written, then this is also a first part of the output for the
+  -- whole schedule.
   front_written : (bytes : List ℕ) (ls later : List Line) (front back : List ℕ) (held now : Option (List ℕ))
       → (judged bytes).lines ≡ ls ++ later
       → output ls ≡ front ++ back → Appends held now front → AppendsFront held now (shown bytes)
@@ -201,8 +201,8 @@ module _ (output : List Line → List ℕ) (more : JudgesOn) (grows : OutputsOn 
     remains = remains;
   }
 
-  -- If the reading of the schedule `bytes` ended with the outcome `o`, the first lines were run and a first part of the
-  -- output for them was written (`RanBy`), with the status of this outcome.
+  -- If the reading of the schedule `bytes` ended with the outcome `o`, `RanBy` holds with the status of this outcome:
+  -- the first lines were run, and a first part of the output for these lines was written.
   pub ran_so : (o : Outcome) (bytes : List ℕ) (left held now : Option (List ℕ)) (s : SimValue)
       → Reads o bytes left held now s
       → RanBy output (status_of o) bytes held now s
@@ -236,16 +236,16 @@ module _ (output : List Line → List ℕ) (more : JudgesOn) (grows : OutputsOn 
       ran_with outcome.Memory bytes left held now s t (all_lines s t.texts t.rest t.taken)
       (made_broken s t.texts t.rest (lined bytes).end t.taken) tt
 
-  -- If the source tells its bytes, and the reading of them ended with the outcome `o`, `TellsBy` holds of them with the
-  -- status of this outcome.
+  -- If the source tells its bytes, and the reading of these bytes ended with the outcome `o`, `TellsBy` holds for these
+  -- bytes with the status of this outcome.
   pub tells_all : (o : Outcome) (all left held now : Option (List ℕ)) (s : SimValue)
       → IfSome all (λ bytes. Reads o bytes left held now s)
       → IfSome all (λ bytes. TellsBy shown (status_of o) bytes left held now)
   tells_all o None left held now s t = tt
   tells_all o (Some bytes) left held now s t = tells o bytes left held now s t
 
-  -- If the source tells its bytes, and the reading of them ended with the outcome `o`, `RanBy` holds of them with the
-  -- status of this outcome.
+  -- If the source tells its bytes, and the reading of these bytes ended with the outcome `o`, `RanBy` holds for these
+  -- bytes with the status of this outcome.
   pub ran_all : (o : Outcome) (all left held now : Option (List ℕ)) (s : SimValue)
       → IfSome all (λ bytes. Reads o bytes left held now s)
       → IfSome all (λ bytes. RanBy output (status_of o) bytes held now s)
@@ -276,9 +276,9 @@ history_made status.Memory bytes lines later s lawful part parts (inr made) =
 history_made _ bytes lines later s lawful part parts made =
     subst IsHistory (sym made.history) (lawful bytes lines later parts)
 
--- The premises of the lemmas here on each schedule. The turns of its first lines are lawful, also with a part of the
--- next line (`part`). After lawful turns, the state is safe. After its first lines, the processors were called for the
--- given reads, and `AreHandedOn` holds.
+-- The premises of the lemmas here on each schedule. The turns of the schedule's first lines are lawful, also with a
+-- part of the next line (`part`). After lawful turns, the state is safe. After the schedule's first lines, the
+-- processors were called for the given reads, and `AreHandedOn` holds.
 pub record Laws : Type 0 where
   pub lawful : (bytes : List ℕ) (lines later : List Line) → (judged bytes).lines ≡ lines ++ later
       → IsHistory (with_schedule fresh lines).history
@@ -301,7 +301,7 @@ run_safely output status bytes held now s laws so = record {
   handed = laws.handed bytes so.lines so.later so.parts;
 }
 
--- If the source tells its bytes, and `RanBy` holds of a run of them, `RanSafely` holds of this run.
+-- If the source tells its bytes, and `RanBy` holds for a run of these bytes, `RanSafely` holds for this run.
 pub ran_safely : (output : List Line → List ℕ) (status : Status) (all held now : Option (List ℕ)) (s : SimValue)
     → Laws → IfSome all (λ bytes. RanBy output status bytes held now s)
     → IfSome all (λ bytes. RanSafely output status bytes held now)

@@ -12,21 +12,21 @@ use Rattle.kds_cli_runs.specs.Ends.{Performed, Replayed, TaskEnds, reads_input, 
 use Rattle.kds_cli_runs.specs.Program.{asks_for_door, asks_for_input}
 use Rattle.kds_cli_runs.specs.Journal.{IsAuditedSound}
 
--- If `P` holds of the task for which the words ask, it holds of what they ask for.
+-- If the words ask for the task `task`, and `P` holds for this task, then `P` holds for the task in `asked`.
 pub asked_so : (P : Task → Type 0) (asked : Option Task) (task : Task) → Some task ≡ asked → P task → IfSome asked P
 asked_so P asked task is p = subst (λ (o : Option Task). IfSome o P) is p
 
--- If the words don't ask for a door to be served, their task doesn't serve one.
+-- If the words don't ask for a door to be served, the task that they ask for doesn't serve a door.
 pub no_door : (asked : Option Task) (task : Task) → Some task ≡ asked → asks_for_door asked ≡ false
     → serves_door task ≡ false
 no_door asked task is none = ap asks_for_door is ∙ none
 
--- If the words don't ask for the input to be read, their task doesn't read it.
+-- If the words don't ask for the input to be read, the task that they ask for doesn't read the input.
 pub no_input : (asked : Option Task) (task : Task) → Some task ≡ asked → asks_for_input asked ≡ false
     → reads_input task ≡ false
 no_input asked task is none = ap asks_for_input is ∙ none
 
--- If the words ask for `x`, they don't ask for nothing.
+-- If `o` has the value `x`, `o` isn't None.
 pub not_none : {A : Type 0} (x : A) (o : Option A) → Some x ≡ o → o ≡ None → ⊥
 not_none x o is none = cc
 
@@ -34,8 +34,8 @@ sound_so : (status : Status) (input out : Around (Option (List ℕ))) → Replay
     → IfSome input.before IsAuditedSound
 sound_so status input out r done = r.sound refl done
 
--- If the words ask for a replay that writes the journal, and it ended with Done, an audit finds this journal sound,
--- unless it is too long for an audit.
+-- If the words ask for a replay that writes the journal, and this replay ended with Done, an audit finds the journal
+-- sound, unless the journal is too long for an audit.
 pub sound_by : (asked : Option Task) (status : Status) (ends : TaskEnds) → IfSome asked (λ t. Performed t status ends)
     → asked ≡ Some (Replay true) → status ≡ Done → IfSome ends.input.before IsAuditedSound
 sound_by asked status ends p is done =

@@ -40,7 +40,7 @@ refused_code s code is (inr memory) = inr (is ∙ ap code_of memory)
 pub no_usage : Memory ≡ Usage → ⊥
 no_usage h = cc
 
--- If `P` holds of each value, it holds of the value of an option, if there is one.
+-- If `P` holds for each value, `P` holds for the value of an option, if there is one.
 pub each : {A : Type 0} (P : A → Type 0) → ((x : A) → P x) → (o : Option A) → IfSome o P
 each P all None = tt
 each P all (Some x) = all x

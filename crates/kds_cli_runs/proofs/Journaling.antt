@@ -1,5 +1,5 @@
--- A replay that writes the journal has written the first line, the entries and the last line, or a first part of them,
--- as its status says (`JournalTells`, `RanBy`).
+-- A replay that writes the journal writes the first line, the entries and the last line. The replay has written all of
+-- this or a first part, as its status says (`JournalTells`, `RanBy`).
 use Rattle.std.proofs.Common.{◌≡◌, ◌≢◌, ◌<◌, ℕ, true, false, List, [], ◌∷◌, ◌++◌, length, Option, Some, None, refl, sym}
 use Rattle.std.proofs.Common.{ap, ◌∙◌, subst, inl, arith}
 use Rattle.std.proofs.lemmas.List.{append_assoc, append-nil, length-append}
@@ -27,7 +27,7 @@ use Rattle.kds_cli_runs.specs.Journal.{EndTells, IsAuditedSound, JournalTells, e
 use Rattle.kds_cli_runs.specs.Journal.{recorded}
 use Rattle.kds_cli_runs.specs.Told.{TellsBy}
 
--- If nothing is written, a first part of any text is written, the empty one.
+-- To write nothing is to write a first part of any text: the empty part.
 pub nothing_written : (held : Option (List ℕ)) (xs : List ℕ) → AppendsFront held held xs
 nothing_written held xs = ([], xs, refl, Appends-nil held)
 
@@ -42,11 +42,12 @@ some_last c = longer (end_spelling c) (10 ∷ []) (omega arith)
 some_behind : (xs : List ℕ) (c : ℕ) → 0 < length (xs ++ last_line c)
 some_behind xs c = longer xs (last_line c) (some_last c)
 
--- If nothing of the last line was written, a first part of it was written that isn't the whole line (`AppendsPart`).
+-- If nothing of the last line was written, then a first part of this line was written, and not the whole line
+-- (`AppendsPart`).
 no_last : (c : ℕ) (held now : Option (List ℕ)) → Appends held now [] → AppendsPart held now (last_line c)
 no_last c held now e = ([], last_line c, some_last c, refl, e)
 
--- If nothing is written, a first part of the journal of the history `h` is written that isn't the whole journal.
+-- If nothing was written, then a first part of the journal of the history `h` was written, and not the whole journal.
 pub nothing_recorded : (h : List Turn) (held : Option (List ℕ)) → AppendsPart held held (journal_text h)
 nothing_recorded h held =
     ([], journal_text h, some_behind (first_line ++ entries_text (history_entries h)) (clock h), refl, Appends-nil held)
@@ -66,7 +67,7 @@ first_broke None left held now line is f = tt
 first_broke (Some bytes) left held now line is f =
     broke_first bytes left held now (subst (λ (l : List ℕ). AppendsFront held now l) is f)
 
--- If `line` is the journal's first line, and it was written, the first line was written.
+-- If `line` was written, and `line` is the journal's first line, then the journal's first line was written.
 pub first_there : (held now : Option (List ℕ)) (line : List ℕ) → line ≡ first_line → Appends held now line
     → Appends held now first_line
 first_there held now line is h = subst (λ (l : List ℕ). Appends held now l) is h
@@ -89,8 +90,8 @@ begins Write bytes left a b c not_done h t = part_of_all bytes a c (front_later 
 begins Memory bytes left a b c not_done h t = part_of_all bytes a c (front_later a b c first_line (entries bytes) h t)
 begins _ bytes left a b c not_done h t = absurd t
 
--- If the first line was written, and then the entries, with a status `st` other than Done, `JournalTells` holds with
--- `st`.
+-- If the first line was written, and then the entries as `TellsBy` states for a status `st` other than Done, then
+-- `JournalTells` holds with `st`.
 pub begins_all : (st : Status) (all left a b c : Option (List ℕ)) (line : List ℕ) → line ≡ first_line → (st ≡ Done → ⊥)
     → Appends a b line
     → IfSome all (λ bytes. TellsBy entries st bytes left b c) → IfSome all (λ bytes. JournalTells st bytes left a c)
@@ -124,8 +125,8 @@ ends_at Memory bytes left a b c d h t e =
     (no_last (clock (history bytes)) c d e)
 ends_at _ bytes left a b c d h t e = absurd e
 
--- Let the first line, given as `line`, and then all entries be written. If the last line was then written as `EndTells`
--- states for the status `st`, `JournalTells` holds with `st`.
+-- Assume that the first line (`line`) and then all entries were written. If the last line was then written as
+-- `EndTells` states for the status `st`, `JournalTells` holds with `st`.
 pub ends_all : (st : Status) (all left a b c d : Option (List ℕ)) (line : List ℕ) (s : SimValue) (last : ℕ)
     → line ≡ first_line → last ≡ clock s.history → Appends a b line
     → IfSome all (λ bytes. TellsBy entries Done bytes left b c)
@@ -136,8 +137,8 @@ ends_all st (Some bytes) left a b c d line s last is at h t r e =
     ends_at st bytes left a b c d (subst (λ (l : List ℕ). Appends a b l) is h) t
     (subst (λ (n : ℕ). EndTells st n c d) (at ∙ ap clock (all_ran bytes b c s r)) e)
 
--- Let the first line be written, and then all entries, with the status `entered`, which is Done. If the last line was
--- then written as `EndTells` states for the status `st`, `JournalTells` holds with `st`.
+-- Assume that the first line and then all entries were written, with the status `entered`, which is Done. If the last
+-- line was then written as `EndTells` states for the status `st`, `JournalTells` holds with `st`.
 pub ends_with : (entered st : Status) (all left a b c d : Option (List ℕ)) (s : SimValue) (last : ℕ) → entered ≡ Done
     → last ≡ clock s.history → Appends a b first_line
     → IfSome all (λ bytes. TellsBy entries entered bytes left b c)
@@ -167,8 +168,8 @@ not_done_by st h is = absurd (false_true (sym h ∙ ap is_done is))
 
 -- ---- The numbers in the turns
 
--- If the replay ended with Done, and the numbers in the turns that were made fit into their types (`HaveBits`), so do
--- the numbers in all turns of the schedule.
+-- The replay ended with Done. If the numbers in the turns that were made fit into their types (`HaveBits`), then the
+-- numbers in all turns of the schedule fit into their types.
 pub bits_all : (entered : Status) (all b c : Option (List ℕ)) (s : SimValue) → entered ≡ Done → HaveBits s.history
     → IfSome all (λ bytes. RanBy lines_journal entered bytes b c s) → IfSome all (λ bytes. HaveBits (history bytes))
 bits_all entered None b c s done a r = tt
@@ -176,8 +177,8 @@ bits_all entered (Some bytes) b c s done a r =
     subst (λ (z : List Turn). HaveBits z)
     (all_ran bytes b c s (subst (λ (x : Status). RanBy lines_journal x bytes b c s) done r)) a
 
--- If the turns of each schedule are lawful, and the numbers in the turns of this one fit into their types (`HaveBits`),
--- an audit finds its journal sound, unless it is too long for an audit.
+-- Assume that the turns of each schedule are lawful. If the numbers in the turns of a schedule fit into their types
+-- (`HaveBits`), an audit finds the journal of this schedule sound, unless the journal is too long for an audit.
 pub audited_all : (all : Option (List ℕ)) → ((bytes : List ℕ) → IsHistory (history bytes))
     → ((h : List Turn) → IsHistory h → HaveBits h → audit_of (journal_text h) ≢ over
     → audit_of (journal_text h) ≡ sound (counted 0 (history_entries h)))
@@ -196,8 +197,8 @@ between first all front back rest e =
     ap (λ z. first ++ (z ++ rest)) e ∙ ap (λ z. first ++ z) (append_assoc front back rest)
     ∙ sym (append_assoc first front (back ++ rest))
 
--- If the first line was written, and then the entries of the lines that were run (`RanBy`), with a status other than
--- Done, `RanBy` holds for the output that also has the first line.
+-- The first line was written, and then the entries of the lines that were run (`RanBy`), with a status other than Done.
+-- Then `RanBy` holds for the output that also has the first line.
 ran_behind : (st : Status) (bytes : List ℕ) (a b c : Option (List ℕ)) (s : SimValue) → (st ≡ Done → ⊥)
     → Appends a b first_line
     → RanBy lines_journal st bytes b c s → RanBy (recorded st) st bytes a c s
@@ -305,8 +306,8 @@ ran_ended_all st None a b c d s last at h r e = tt
 ran_ended_all st (Some bytes) a b c d s last at h r e =
     ran_ended st bytes a b c d s h r (subst (λ (n : ℕ). EndTells st n c d) (at ∙ ap clock r.made.history) e)
 
--- Let the first line and all entries be written. If the last line was then written as `EndTells` states for the status
--- `st`, `RanBy` holds with `st` for the output that has the first and the last line too.
+-- Assume that the first line and all entries were written. If the last line was then written as `EndTells` states for
+-- the status `st`, `RanBy` holds with `st` for the output that has the first and the last line too.
 pub ran_ends_with : (entered st : Status) (all a b c d : Option (List ℕ)) (s : SimValue) (last : ℕ) → entered ≡ Done
     → last ≡ clock s.history → Appends a b first_line
     → IfSome all (λ bytes. RanBy lines_journal entered bytes b c s) → EndTells st last c d

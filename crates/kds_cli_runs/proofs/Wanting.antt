@@ -45,8 +45,8 @@ tells_none (Some bytes) left held = record {
   written = λ ms ending falls later. nothing_written held _;
 }
 
--- If memory ran out before anything was read, a connection had no command, no response was written, and `Answers` holds
--- with Memory.
+-- If memory ran out before anything was read, then `Answers` holds with Memory: the connection had no command, and no
+-- response was written.
 unserved : (all left moments held : Option (List ℕ)) → Answers Memory (around all left) (around held held) moments
 unserved all left moments held = record {
   kind = tt;

@@ -1,5 +1,5 @@
--- Defines which lines of a schedule were run when a replay of it ended, and how much of the output for them was
--- written.
+-- Defines which lines of a schedule were run when a replay of this schedule ended, and how much of the output for these
+-- lines was written.
 use Rattle.std.specs.Prelude.{◌≡◌, ◌⊎◌, ℕ, List, [], ◌∷◌, ◌++◌}
 use Rattle.std.specs.declared.option.Option.{Option}
 use Rattle.std.specs.Io.KnownBytes.{Appends}
@@ -26,8 +26,9 @@ status_of outcome.Read = Read
 status_of outcome.Write = Write
 status_of outcome.Memory = Memory
 
--- The lines `later` weren't run, and the part `back` of the output wasn't written. With Write and Memory, both may be
--- left over. With Read, lines may be left over, but no output. With any other status, neither is left over.
+-- The lines `later` weren't run, and the part `back` of the output wasn't written. With Write and Memory, lines and
+-- output may be left over. With Read, lines may be left over, but no output. With any other status, neither lines nor
+-- output is left over.
 abbrev pub Remains : Status → List Line → List ℕ → Type 0
 Remains Write later back = Unit {0}
 Remains Memory later back = Unit {0}
@@ -42,7 +43,7 @@ HasMade Memory lines later s =
     ⊎ ((line : Line) × (rest : List Line) × (later ≡ line ∷ rest) × HasRunPart s (with_schedule fresh lines) line)
 HasMade _ lines later s = RunsSo s (with_schedule fresh lines)
 
--- The first lines of the schedule `bytes` were run, which is the run `s`, and a first part of the output for them was
+-- The first lines of the schedule `bytes` were run, and `s` is this run. A first part of the output for these lines was
 -- written, which took the sink's bytes from `before` to `after`. `Remains` says what may be left over with `status`. A
 -- bad line, or one that is too long, ends the schedule and isn't one of its lines.
 pub record RanBy (output : List Line → List ℕ) (status : Status) (bytes : List ℕ) (before after : Option (List ℕ))
@@ -57,14 +58,15 @@ pub record RanBy (output : List Line → List ℕ) (status : Status) (bytes : Li
   pub written : Appends before after front
   pub remains : Remains status later back
 
--- The first lines of the schedule `bytes` were run, and a first part of the answers to them was written (`RanBy`).
+-- The first lines of the schedule `bytes` were run, and a first part of the answers to these lines was written
+-- (`RanBy`).
 abbrev pub RanSo : Status → List ℕ → Option (List ℕ) → Option (List ℕ) → SimValue → Type 0
 RanSo status bytes before after s = RanBy (outputs fresh) status bytes before after s
 
--- Let the first lines `lines` of the schedule `bytes` be run. For each hand-off that freed its row, each batch that its
--- processor was handed is given, and the row's checkpoint isn't below what was given (`AreHandedOff`). In the whole
--- schedule, a tenure of the hand-off's key that begins right after these lines reads nothing of what was given
--- (`AreNeverReadAgain`).
+-- The first lines `lines` of the schedule `bytes` were run. For each hand-off that freed its row, each batch that the
+-- hand-off's processor was handed is given. If the row still exists, its checkpoint isn't below what was given
+-- (`AreHandedOff`). In the whole schedule, a tenure of the hand-off's key that begins right after these lines reads
+-- nothing that was given in the hand-off's tenure (`AreNeverReadAgain`).
 abbrev pub IsHandedOn : List ℕ → List Line → Type 0
 IsHandedOn bytes lines = AreHandedOff (with_schedule fresh lines)
     × AreNeverReadAgain (history bytes) (with_schedule fresh lines)
@@ -73,9 +75,9 @@ IsHandedOn bytes lines = AreHandedOff (with_schedule fresh lines)
 abbrev pub AreHandedOn : List ℕ → Type 0
 AreHandedOn bytes = (lines later : List Line) → (judged bytes).lines ≡ lines ++ later → IsHandedOn bytes lines
 
--- The first lines of the schedule `bytes` were run, and a first part of their output was written (`RanBy`). The state
--- after the turns of this run is safe at the run's clock, the processors of the workers were called for the given
--- reads, and `IsHandedOn` holds for these lines.
+-- The first lines of the schedule `bytes` were run, and a first part of the output for these lines was written
+-- (`RanBy`). The state after the turns of this run is safe at the run's clock, the processors of the workers were
+-- called for the given reads, and `IsHandedOn` holds for these lines.
 pub record RanSafely (output : List Line → List ℕ) (status : Status) (bytes : List ℕ) (before after : Option (List ℕ)) :
     Type 0 where
   pub sim : SimValue

@@ -9,8 +9,8 @@ use Rattle.kds_cli_words.specs.declared.task.Task.{Task}
 use Rattle.kds_cli_words.specs.declared.task.Task.TheVariants.{Replay, Answer, Audit, Serve, Drill}
 use Rattle.kcl_sim.specs.Schedule.{Ending, bad_line, ending, too_long, whole}
 
--- The status of a replay in which nothing fails, by the ending of its schedule: Done if each line is a line of a
--- schedule, and otherwise TooLong, or BadLine with the number of the first line that isn't.
+-- The status of a replay in which nothing fails, by the ending of its schedule: Done if each text is a line of a
+-- schedule, and otherwise TooLong, or BadLine with the number of the first text that isn't a line.
 abbrev pub replay_status : Ending → Status
 replay_status whole = Done
 replay_status too_long = TooLong
@@ -24,9 +24,9 @@ EndsBy decided status = (status ≡ decided) ⊎ (status ≡ Memory)
 abbrev pub ReplaysAs : List ℕ → Status → Type 0
 ReplaysAs bytes status = EndsBy (replay_status (ending bytes)) status
 
--- How a task ends if neither its input nor its output nor its door fails. A replay, a connection and an audit end with
--- the status that the source's bytes decide, if it tells them, or with Memory. A drill ends with Done or Memory, and
--- the serving of a door only with Memory.
+-- How a task ends if neither its input nor its output nor its door fails. If the source tells its bytes, a replay, a
+-- connection and an audit end with the status that these bytes decide, or with Memory. A drill ends with Done or
+-- Memory, and the serving of a door only with Memory.
 abbrev pub Completed : Task → Status → Option (List ℕ) → Type 0
 Completed (Replay journal) status bytes = IfSome bytes (λ bs. ReplaysAs bs status)
 Completed Answer status bytes = IfSome bytes (λ bs. EndsAs bs status)

@@ -27,16 +27,17 @@ abbrev pub shown : Bool → Status → List Line → List ℕ
 shown false status = outputs fresh
 shown true status = recorded status
 
--- What the status of a replay says about all bytes of the input, the bytes that are left of them, and the bytes of the
--- sink before (`held`) and after (`now`). If the Boolean is true, the replay writes the journal, and otherwise the
+-- What the status of a replay says about all bytes of the input, the bytes that are left of the input, and the bytes of
+-- the sink before (`held`) and after (`now`). If the Boolean is true, the replay writes the journal, and otherwise the
 -- answers.
 abbrev pub ReplayTells : Bool → Status → List ℕ → Option (List ℕ) → Option (List ℕ) → Option (List ℕ) → Type 0
 ReplayTells false status bytes left held now = Tells status bytes left held now
 ReplayTells true status bytes left held now = JournalTells status bytes left held now
 
--- A replay ended with `status`. If the source tells its bytes, the status is right for them and for what was written
--- (`ReplayTells`), and the state after the turns that were made is safe (`RanSafely`). If the journal was written to
--- its end (`journal` is true and the status Done), an audit finds it sound, unless it is too long for an audit.
+-- A replay ended with `status`. If the source tells its bytes, the status is right for these bytes and for what was
+-- written (`ReplayTells`), and the state after the turns that were made is safe (`RanSafely`). If the journal was
+-- written to its end (`journal` is true and the status is Done), an audit finds the journal sound, unless the journal
+-- is too long for an audit.
 pub record Replayed (journal : Bool) (status : Status) (input out : Around (Option (List ℕ))) : Type 0 where
   pub kind : IsReplayStatus status
   pub told : IfSome input.before (λ bs. ReplayTells journal status bs input.after out.before out.after)
@@ -45,9 +46,9 @@ pub record Replayed (journal : Bool) (status : Status) (input out : Around (Opti
 
 -- ---- An audit
 
--- An audit ended with `status`. If the source tells its bytes, the status is right for them and for what was written
--- (`TellsAudit`). With Done, they are the text of a legal journal with its last line, after which the state is safe.
--- With Unsound, they are the text of no legal journal.
+-- An audit ended with `status`. If the source tells its bytes, the status is right for these bytes and for what was
+-- written (`TellsAudit`). With Done, the bytes are the text of a legal journal with its last line, and the state after
+-- this journal is safe. With Unsound, the bytes are the text of no legal journal.
 pub record Audited (status : Status) (bytes : Option (List ℕ)) (out : Around (Option (List ℕ))) : Type 0 where
   pub kind : IsAuditStatus status
   pub told : IfSome bytes (λ bs. TellsAudit status bs out.before out.after)
@@ -63,13 +64,13 @@ pub record Answers (status : Status) (input out : Around (Option (List ℕ))) (m
   pub spent : Option (List ℕ)
   pub served : Served [] input (around moments spent) out status
 
--- The line `listening` was written, and the door listens (`listens`), or nothing was written.
+-- Either the line `listening` was written and the door listens (`listens`), or nothing was written.
 abbrev pub SaysThatItListens : Option (List ℕ) → Option (List ℕ) → Type 0 → Type 0
 SaysThatItListens held now listens = (Appends held now listening × listens) ⊎ Appends held now []
 
--- What was written while a door was served, by the status. With Door and Memory, it is the line `listening` or nothing.
--- With Write, it is a part of this line. If any of it was written, the door listens at the port (`listens`). No other
--- status is possible.
+-- What was written while a door was served, by the status. With Door and Memory, either nothing was written, or the
+-- line `listening` was written and the door listens at the port (`listens`). With Write, the door listens at the port,
+-- and a prefix of this line was written, perhaps an empty one, but not the whole line. No other status is possible.
 abbrev pub ServeTells : Status → Option (List ℕ) → Option (List ℕ) → Type 0 → Type 0
 ServeTells Door held now listens = SaysThatItListens held now listens
 ServeTells Memory held now listens = SaysThatItListens held now listens
@@ -78,9 +79,9 @@ ServeTells _ held now listens = ⊥
 
 -- ---- All tasks
 
--- What contracts see of the ends of a task: the bytes left in the source and the bytes of the sink, each before and
--- after the run, the moments that the clock had, and at which ports the door listens after it. It is None for an end
--- that doesn't tell its bytes or moments.
+-- What contracts see of the ends of a task: the bytes left in the source before and after the run, the bytes of the
+-- sink before and after the run, the moments that the clock had, and at which ports the door listens after the run. If
+-- an end doesn't tell its bytes or moments, its value is None.
 pub record TaskEnds : Type 1 where
   pub input : Around (Option (List ℕ))
   pub out : Around (Option (List ℕ))

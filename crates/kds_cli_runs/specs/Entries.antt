@@ -10,12 +10,12 @@ use Rattle.kcl_sim.specs.Output.{fresh, with_schedule}
 abbrev pub entries_text_of : List Turn → List ℕ
 entries_text_of h = entries_text (history_entries h)
 
--- The text of the entries that the lines `lines` of a schedule make, from its first line on.
+-- The text of the entries that the lines `lines` make as the first lines of a schedule.
 abbrev pub lines_journal : List Line → List ℕ
 lines_journal lines = entries_text_of (with_schedule fresh lines).history
 
 -- The scribe has noted the turns of the history `h`. The entries of `h` are those of the earlier history `since`,
--- followed by those in `text`. If memory for the text ran out, it is None, and nothing is known.
+-- followed by those in `text`. If memory for the text ran out, there is no text (None), and nothing is claimed.
 abbrev pub IsNoted : ScribeValue → Option (List ℕ) → List Turn → List Turn → Type 0
 IsNoted scribe None since h = Unit {0}
 IsNoted scribe (Some text) since h = StandsFor scribe h × (entries_text_of h ≡ entries_text_of since ++ text)

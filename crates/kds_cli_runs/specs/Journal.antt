@@ -26,19 +26,20 @@ first_line = heading ++ 10 ∷ []
 abbrev pub last_line : ℕ → List ℕ
 last_line clock = end_spelling clock ++ 10 ∷ []
 
--- The output for the lines that were run, by the status at the end. With Done, Write and Memory, it is the whole
--- journal, of which only a part may have been written. With any other status, it is the journal without its last line.
+-- The output for the lines that were run, by the status at the end. With Done, Write and Memory, this output is the
+-- whole journal, of which only a part may have been written. With any other status, this output is the journal without
+-- its last line.
 abbrev pub recorded : Status → List Line → List ℕ
 recorded Done lines = journal_text (with_schedule fresh lines).history
 recorded Write lines = journal_text (with_schedule fresh lines).history
 recorded Memory lines = journal_text (with_schedule fresh lines).history
 recorded _ lines = first_line ++ lines_journal lines
 
--- What the status of a replay says about all bytes of the schedule, the bytes left of them, and the bytes of the sink
--- before (`held`) and after (`now`). Done: all lines are lines of a schedule, and their whole journal was written.
--- BadLine and TooLong: the schedule ends in this way, and the journal of the lines before was written without its last
--- line. Read: the journal of the lines that were read was written without its last line. Write and Memory: a part of
--- the journal was written, not all of it. So the last line was written whole exactly with Done.
+-- What the status of a replay says about all bytes of the schedule, the bytes that are left of the schedule, and the
+-- bytes of the sink before (`held`) and after (`now`). Done: the schedule has no bad line, and its whole journal was
+-- written. BadLine and TooLong: the schedule ends in this way, and the journal of the lines before was written without
+-- its last line. Read: the journal of the lines that were read was written without its last line. Write and Memory: a
+-- part of the journal was written, not all of it. So the last line was written whole exactly with Done.
 abbrev pub JournalTells : Status → List ℕ → Option (List ℕ) → Option (List ℕ) → Option (List ℕ) → Type 0
 JournalTells Done bytes left held now = (ending bytes ≡ whole) × Appends held now (journal_text (history bytes))
 JournalTells (BadLine n) bytes left held now =

@@ -23,20 +23,22 @@ pub record EndsSo (code : ℕ) (words : List (String Global)) (ends : TaskEnds) 
   pub error : Appends err.before err.after (error_text status) ⊎ Rose faults.before faults.after
   pub performed : IfSome (task_of (texts_of words)) (λ t. Performed t status ends)
 
--- How the program ends if neither the input nor the output nor the door fails. Its exit status `code` is that of a
--- status. If `words` ask for a task, this is the status that the bytes decide, or Memory (`Completed`). So the replay
--- of a schedule without a bad line has the exit status 0 or 6.
+-- How the program ends if neither the input nor the output nor the door fails. The program's exit status `code` is that
+-- of a status. If `words` ask for a task, this is the status that the bytes decide, or Memory (`Completed`). So the
+-- replay of a schedule without a bad line has the exit status 0 or 6.
 pub record CompletesSo (code : ℕ) (words : List (String Global)) (bytes : Option (List ℕ)) : Type 0 where
   pub status : Status
   pub is_code : code ≡ code_of status
   pub completed : IfSome (task_of (texts_of words)) (λ t. Completed t status bytes)
 
--- Whether words ask for a door to be served. The option has the task that they ask for, if they ask for one.
+-- Whether words ask for a door to be served. The argument is the task that the words ask for, or None if they ask for
+-- no task.
 abbrev pub asks_for_door : Option Task → Bool
 asks_for_door None = false
 asks_for_door (Some task) = serves_door task
 
--- Whether words ask for the input to be read. The option has the task that they ask for, if they ask for one.
+-- Whether words ask for the input to be read. The argument is the task that the words ask for, or None if they ask for
+-- no task.
 abbrev pub asks_for_input : Option Task → Bool
 asks_for_input None = false
 asks_for_input (Some task) = reads_input task

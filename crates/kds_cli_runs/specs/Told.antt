@@ -7,10 +7,10 @@ use Rattle.kds_ends.specs.declared.status.Status.TheVariants.{Done, BadLine, Rea
 use Rattle.kds_ends.specs.Causes.{AppendsFront}
 use Rattle.kcl_sim.specs.Schedule.{whole, too_long, bad_line, ending, text}
 
--- What the status of a replay says about all bytes of the schedule, the bytes left of them, and the bytes of the sink
--- before (`held`) and after (`now`). `shown` gives the output for bytes. Done, BadLine and TooLong: the schedule ends
--- in this way, and the output for all bytes was written. Read: the output for the bytes that were read was written.
--- Write and Memory: a first part of the output for all bytes was written.
+-- What the status of a replay says about all bytes of the schedule, the bytes that are left of the schedule, and the
+-- bytes of the sink before (`held`) and after (`now`). `shown` gives the output for bytes. Done, BadLine and TooLong:
+-- the schedule ends in this way, and the output for all bytes was written. Read: the output for the bytes that were
+-- read was written. Write and Memory: a first part of the output for all bytes was written.
 abbrev pub TellsBy : (List ℕ → List ℕ) → Status → List ℕ → Option (List ℕ) → Option (List ℕ) → Option (List ℕ) → Type 0
 TellsBy shown Done bytes left held now = (ending bytes ≡ whole) × Appends held now (shown bytes)
 TellsBy shown (BadLine n) bytes left held now = (ending bytes ≡ bad_line n) × Appends held now (shown bytes)

@@ -30,11 +30,11 @@ abbrev pub read : Kinds → Option Task → Option Task
 read [] task = task
 read (k ∷ ks) task = None
 
--- The task that `clap` reads from words, or None if it finds a fault in them.
+-- The task that `clap` reads from words, or None if `clap` finds a fault in the words.
 abbrev pub read_of : List Text → Option Task
 read_of words = read (fault_of kds_app words) (task_told (subcommand_of kds_app words))
 
--- The task that `clap` reads from the words `words` is the one of the definitions (`task_of`), or both are None.
+-- What `clap` reads from the words `words`, a task or None, is what the definitions give for these words (`task_of`).
 abbrev pub Exact : List Text → Type 0
 Exact words = read_of words ≡ task_of words
 
@@ -77,13 +77,13 @@ nothing None b = refl
 nothing (Some x) None = refl
 nothing (Some x) (Some y) = refl
 
--- If one of two words isn't a number, they are no arguments of `serve`.
+-- If one of two words isn't a number, these words aren't arguments of `serve`.
 pub serves_nothing : (a b : Text) → HasNoNumber (a ∷ b ∷ []) → None ≡ serve_of a b
 serves_nothing a b (inl none) = rw none refl
 serves_nothing a b (inr (inl none)) = rw none (nothing (port_of a) None)
 serves_nothing a b (inr (inr never)) = absurd never
 
--- If one of three words isn't a number, they are no arguments of `drill`.
+-- If one of three words isn't a number, these words aren't arguments of `drill`.
 pub drills_nothing : (a b c : Text) → HasNoNumber (a ∷ b ∷ c ∷ []) → None ≡ drill_of a b c
 drills_nothing a b c (inl none) = rw none refl
 drills_nothing a b c (inr (inl none)) = rw none (nothing (number_of 64 a) None)
@@ -167,7 +167,7 @@ drill_words (a ∷ b ∷ c ∷ d ∷ more) few = absurd (omega arith)
 
 -- ---- All words
 
--- `Exact` holds if the first word, which is no flag, isn't the name of a subcommand, whatever words follow.
+-- If the first word is neither a flag nor the name of a subcommand, `Exact` holds, whatever words follow.
 other_words : (w : Text) (more : List Text) → IsValue w → IsOther w → Exact (w ∷ more)
 unfolding clap_on_literals
 other_words w more i o =

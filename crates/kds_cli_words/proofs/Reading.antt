@@ -68,8 +68,8 @@ exactly words are few =
     let n = s.1 in
     subst Exact s.2 (exact s.0 (omega arith))
 
--- If there are at most four words, each of which `clap` may be given, and it finds no fault in them, the task of the
--- parse is the one of the definitions (`task_of`).
+-- There are at most four words, each of which `clap` may be given. If `clap` finds no fault in these words, the task of
+-- the parse is the one of the definitions (`task_of`).
 pub read_words : (words : List (String Global)) → list_all (λ w. is_word (string_bytes w)) words ≡ true
     → length words ≤ 4
     → fault_of kds_app (texts_of words) ≡ [] → task_told (subcommand_of kds_app (texts_of words))
@@ -77,8 +77,8 @@ pub read_words : (words : List (String Global)) → list_all (λ w. is_word (str
 read_words words are few fine = sym (ap (λ kinds. read kinds (task_told (subcommand_of kds_app (texts_of words)))) fine)
     ∙ exactly words are few
 
--- Let there be at most four words, each of which `clap` may be given. If `clap` returns an error that is one of the
--- faults of the words, and not that memory ran out, the words ask for no task.
+-- Assume that there are at most four words, each of which `clap` may be given. If `clap` returns an error that is one
+-- of the faults of the words, and not that memory ran out, the words ask for no task.
 pub refused : (words : List (String Global)) (kinds : Kinds) (k found : ErrorKind)
     → list_all (λ w. is_word (string_bytes w)) words ≡ true → length words ≤ 4
     → kinds ≡ fault_of kds_app (texts_of words) → k ≡ found → (k ≡ kind.OutOfMemory → ⊥) → (found ≡ kind.OutOfMemory)

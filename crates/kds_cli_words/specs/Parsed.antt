@@ -9,7 +9,7 @@ use Rattle.kds_cli_words.specs.declared.task.Task.TheVariants.{Replay, Answer, A
 
 -- ---- The result of a parse
 
--- Whether a flag is set, by the text of its value: it is if the text is `true`.
+-- Whether a flag is set, by the text of its value: the flag is set if this text is `true`.
 abbrev pub is_told : Option Text → Bool
 is_told None = false
 is_told (Some text) = bytes_eq text (codes "true")
@@ -24,8 +24,8 @@ abbrev pub drill_told : Option Text → Option Text → Option Text → Option T
 drill_told (Some number) (Some workers) (Some records) = drill_of number workers records
 drill_told number workers records = None
 
--- The task of the subcommand `name`, whose arguments have the values that `get` gives for their IDs. It is None if
--- there is no such subcommand, or if an argument is missing or isn't a number in its range.
+-- The task of the subcommand `name`, whose arguments have the values that `get` gives for their IDs. The result is None
+-- if there is no such subcommand, or if an argument is missing or isn't a number in its range.
 abbrev pub told_with : Text → (Text → Option Text) → Option Task
 told_with name get =
     if bytes_eq name (codes "replay") then Some (Replay (is_told (get (codes "journal"))))
@@ -36,8 +36,8 @@ told_with name get =
     (get (codes "records"))
     else None
 
--- The task that the result of a parse asks for, or None. A result has the name of a subcommand and the values of its
--- arguments.
+-- The task that the result of a parse asks for, or None if it asks for no task. A result has the name of a subcommand
+-- and the values of its arguments.
 abbrev pub task_told : Option (Text × List Row) → Option Task
 task_told None = None
 task_told (Some met) = told_with met.0 (λ id. first_of id met.1)
@@ -53,6 +53,6 @@ is_hyphen (Some d) = d == 45
 abbrev pub has_hyphen : Text → Bool
 has_hyphen w = is_hyphen (slice_get w 0)
 
--- Whether the word `w` may be given to `clap`: it doesn't begin with a hyphen, or is `--journal`, the only flag.
+-- Whether the word `w` may be given to `clap`: `w` doesn't begin with a hyphen, or `w` is `--journal`, the only flag.
 abbrev pub is_word : Text → Bool
 is_word w = bytes_eq w (codes "--journal") || not (has_hyphen w)

@@ -45,7 +45,8 @@ drill_of number workers records =
     option_and_then (λ n. option_and_then (λ w. option_and_then (λ r. Some (Drill n w r)) (records_of records))
     (members_of workers)) (number_of 64 number)
 
--- The task that the words of a list ask for, or None if they ask for no task. A word too many or too few makes it None.
+-- The task that the words of a list ask for, or None if they ask for no task. With a word too many or too few, they ask
+-- for no task.
 abbrev pub task_of : List (List ℕ) → Option Task
 task_of [] = None
 task_of (word ∷ []) =

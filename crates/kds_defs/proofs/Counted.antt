@@ -35,7 +35,8 @@ pub numbers_stored : (xs : List Logged) → map (λ (r : Stored). r.seq) (map st
 numbers_stored [] = refl
 numbers_stored (x ∷ xs) = ap (λ ns. x.seq ∷ ns) (numbers_stored xs)
 
--- There are as many records as reads return them as there are records `rs`.
+-- The list of the records `rs` keeps its length if each record is turned into the form in which reads return it
+-- (`stored`).
 pub length_stored : (rs : List Logged) → length (map stored rs) ≡ length rs
 length_stored [] = refl
 length_stored (r ∷ rs) = ap suc (length_stored rs)

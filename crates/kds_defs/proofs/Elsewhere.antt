@@ -113,8 +113,8 @@ enforced_same (entry.Enforced a on) s before h = rw (differ a s h) refl
 enforced_same _ s before h = refl
 
 -- The journals `log` and `log'` say the same of stream `s`: whether it is live and was made, its name, its time of
--- making and its retention. They also agree on its next sequence number, its shards with their records and puts, and
--- whether its limits are on. Its trim floor isn't among these.
+-- making and its retention. They also agree on the next sequence number of `s`, the shards of `s` with their records
+-- and puts, and whether the limits of `s` are on. They may differ in the trim floor of `s`.
 pub record SameStream (log log' : Journal) (s : ℕ) : Type 0 where
   pub live : is_live log s ≡ is_live log' s
   pub was : was_made log s ≡ was_made log' s
@@ -182,8 +182,8 @@ count_same _ n h = refl
 -- ---- The trim floor of a stream after a line that doesn't change the retention
 
 -- The trim floor of a stream at the clock `c`, after a line at the clock `d`. `made` says whether the stream was made
--- by this line or earlier, and `before` whether it was made earlier. Its retention is `hours` after the line and
--- `hours_before` before it, and the earlier lines give the floor `low`.
+-- by this line or earlier, and `before` whether it was made earlier. The stream's retention is `hours` after the line
+-- and `hours_before` before the line, and the earlier lines give the floor `low`.
 floor_by : Bool → Bool → ℕ → ℕ → ℕ → ℕ → ℕ → ℕ
 floor_by made before c d hours hours_before low =
     let now = floor_at d (hours * HOUR) in

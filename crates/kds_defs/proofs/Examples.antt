@@ -31,7 +31,7 @@ item : NewItem
 item = record { key = 97 ∷ []; hash = 0x0cc175b9c0f1b6a831c399e269772661; payload = 104 ∷ 105 ∷ [] }
 
 -- Records are put into two streams, whose sequence numbers are separate. A second stream with the same name and a put
--- into a stream that doesn't exist are refused. Turns with an earlier time are answered too.
+-- into a stream that doesn't exist are refused. A turn with an earlier time than the turns before it is answered too.
 first_path : answers [] (
     turn 1000 (command.Create name 1)
     ∷ turn 1000 (command.Put name item)
@@ -54,8 +54,8 @@ first_path = refl
 kept : ℕ → ℕ → Stored
 kept seq arrival = record { seq = seq; arrival = arrival; key = 97 ∷ []; payload = 104 ∷ 105 ∷ [] }
 
--- After a split at the key 2^127, a record goes to the child whose range contains its hash key. A range can't be split
--- at its first key, and a closed shard can't be split.
+-- After a split at the key 2^127, a record goes to the child whose range contains the record's hash key. A range can't
+-- be split at its first key, and a closed shard can't be split.
 split : answers [] (
     turn 4000 (command.Create name 1)
     ∷ turn 4000 (command.Split name 0 170141183460469231731687303715884105728)
@@ -67,7 +67,7 @@ split : answers [] (
 unfolding refuse◌if◌else◌ with◌or◌then◌ turn name
 split = refl
 
--- Shards can be merged only if they are open and adjacent. Which of the two is named first doesn't matter.
+-- Two shards can be merged only if they are open and adjacent. Which of the two is named first doesn't matter.
 merge : answers [] (
     turn 4000 (command.Create name 3)
     ∷ turn 4000 (command.Merge name 0 2)
@@ -78,8 +78,8 @@ merge : answers [] (
 unfolding refuse◌if◌else◌ with◌or◌then◌ turn name
 merge = refl
 
--- A record is returned until its age is the retention of 24 hours. It stays trimmed even for a turn with an earlier
--- time.
+-- A record is returned while its age is below the retention of 24 hours. After that the record is trimmed, and it stays
+-- trimmed even for a turn with an earlier time.
 retention : answers [] (
     turn 1000 (command.Create name 1)
     ∷ turn 1000 (command.Put name item)
@@ -140,7 +140,7 @@ unfolding refuse◌if◌else◌ with◌or◌then◌ turn name
 ended = refl
 
 -- Where iterators begin: at the trim horizon, at LATEST, at a sequence number, and after a sequence number. Sequence
--- numbers that are too great are refused. The last reply says that its reader is 999 milliseconds behind.
+-- numbers that are too great are refused. The last reply says that the reader is 999 milliseconds behind.
 starts : answers [] (
     turn 1000 (command.Create name 1)
     ∷ turn 1000 (command.Put name item)
@@ -228,9 +228,9 @@ shard n = record { stream = 1; shard = n }
 half : ℕ
 half = 170141183460469231731687303715884105728
 
--- The row of a shard with two records is made with the origin LATEST, so that its tenure reads from the third record
--- on. After a split, the row of a child gets the trim horizon as its origin, because the parent's row begins before the
--- parent's end.
+-- The row of a shard with two records is made with the origin LATEST, so that the row's tenure reads from the third
+-- record on. After a split, the row of a child gets the trim horizon as its origin, because the floor of the parent's
+-- row is before the parent's end.
 latest : answers [] (
     turn 1000 (command.Create name 1)
     ∷ turn 1000 (command.Put name item)
@@ -279,8 +279,9 @@ latest : answers [] (
 unfolding refuse◌if◌else◌ with◌or◌then◌ turn name item kept shard half
 latest = refl
 
--- Both rows are made after a split, with the origin LATEST. The parent's row starts past the parent's end, so the
--- child's row keeps the origin LATEST. The child can't be opened until the parent was read to its end and marked there.
+-- The rows of a parent and of its child are made after a split, with the origin LATEST. The floor of the parent's row
+-- is past the parent's end, so the child's row keeps the origin LATEST. The child can't be opened until the parent has
+-- been read to its end and marked there.
 latest_split : answers [] (
     turn 1000 (command.Create name 1)
     ∷ turn 1000 (command.Split name 0 half)
@@ -309,9 +310,9 @@ latest_split : answers [] (
 unfolding refuse◌if◌else◌ with◌or◌then◌ turn name shard half
 latest_split = refl
 
--- The rows of two merged shards begin at the time 1500: in shard 0 at a record, and in shard 1, which has no records,
--- past its end. The row of their child gets the trim horizon as its origin, because shard 0, its adjacent parent, has a
--- row that begins before the end.
+-- The rows of two merged shards begin at the time 1500. The row of shard 0 begins at a record. Shard 1 has no records,
+-- so its row begins past the end of this shard. The row of their child gets the trim horizon as its origin, because the
+-- floor of the row of shard 0 is before the end of shard 0.
 from_moment : answers [] (
     turn 1000 (command.Create name 2)
     ∷ turn 1000 (command.Put name item)

@@ -9,8 +9,8 @@ use Rattle.kds_base.specs.Span.{Span, covers, Covers}
 use Rattle.kds_defs.specs.Shards.{ShardState, is_open, home_among}
 use Rattle.kds_defs.specs.Tiled.{AreNumbered, open_times, count_if}
 
--- The number `sh` belongs to an open shard of `xs` whose range contains the key `k`. The shards `xs` are numbered from
--- `n` on, so that this shard is at the index `sh - n`.
+-- The shard at the index `sh - n` of `xs` is open, and its range contains the key `k`. If the shards `xs` are numbered
+-- from `n` on, this is the shard with the number `sh`.
 pub record Found (xs : List ShardState) (n k sh : ℕ) : Type 0 where
   pub state : ShardState
   pub from : n ≤ sh
@@ -22,8 +22,8 @@ pub record Found (xs : List ShardState) (n k sh : ℕ) : Type 0 where
 pub covers_so : (r : Span) (k : ℕ) → covers r k ≡ true → Covers r k
 covers_so r k h = (grind (arith), grind (arith))
 
--- If the number `sh` was found in the list `xs`, numbered from `n + 1` on, it is also found in the list with the shard
--- `x` in front, numbered from `n` on.
+-- If the number `sh` is found in the list `xs`, numbered from `n + 1` on (`Found`), it is also found with the shard `x`
+-- in front, numbered from `n` on.
 pub later : (x : ShardState) (xs : List ShardState) (n k sh : ℕ) → Found xs (n + 1) k sh → Found (x ∷ xs) n k sh
 later x xs n k sh f =
     let e : suc (sh - (n + 1)) ≡ sh - n = omega (arith) in
@@ -35,7 +35,8 @@ later x xs n k sh f =
       contains = f.contains;
     }
 
--- If the first shard `x` of a list is open and contains the key `k`, its number `n` is found in the list.
+-- If the first shard `x` of a list is open and contains the key `k`, the number `sh` is found in a list that is
+-- numbered from `sh` on (`n` is `sh`).
 pub here : (x : ShardState) (xs : List ShardState) (n k sh : ℕ) → sh ≡ n → is_open x ≡ true → Covers x.range k
     → Found (x ∷ xs) n k sh
 here x xs n k sh is open_now inside =

@@ -1,5 +1,5 @@
--- Each command for the stream service gets one of the replies and refusals of the stream service, and each command on
--- leases gets one of those of leases.
+-- Each command for the stream service gets a reply or a refusal of the stream service, and each command on leases gets
+-- a reply or a refusal of the leases.
 use Rattle.std.proofs.Common.{◌≡◌, ℕ, true, false, List, refl, subst}
 use Rattle.std.specs.Prelude.{Result, if◌then◌else◌}
 use Rattle.kds_defs.specs.declared.command.Command.{Command}

@@ -1,4 +1,4 @@
--- The position after a batch is one above the sequence number of its last record.
+-- The position after a batch that isn't empty is one above the sequence number of the batch's last record.
 use Rattle.std.proofs.Common.{◌≡◌, ℕ, suc, ◌+◌, ◌-◌, List, [], ◌∷◌, length, map, Some, sym, ap, ◌∙◌, arith}
 use Rattle.std.specs.Prelude.{slice_get}
 use Rattle.kds_defs.specs.declared.reply.Stored.{Stored}

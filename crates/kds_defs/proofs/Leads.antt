@@ -45,15 +45,15 @@ if_none P r (Some x) d h g = g x refl
 
 -- ---- If `P` is true of each refusal and no lines
 
--- If `P` is true of each refusal, the decision `refuse r if b else d` leads to `P`, provided that `d` leads to `P` if
--- `b` is false.
+-- Suppose that `P` is true of each refusal with no lines, and that `d` leads to `P` if `b` is false. Then the decision
+-- `refuse r if b else d` leads to `P`.
 pub past_test : (P : List Line → Result Reply Refusal → Type 0) → ((r : Refusal) → P [] (Err r))
     → (r : Refusal) (b : Bool) (d : Decision)
     → (b ≡ false → Leads P d) → Leads P (refuse r if b else d)
 past_test P all r b d next = if_refused P r b d (all r) next
 
--- If `P` is true of each refusal, the decision `with o or r then d` leads to `P`, provided that `d x` leads to `P` if
--- `o` has the value `x`.
+-- Suppose that `P` is true of each refusal with no lines, and that `d x` leads to `P` if `o` has the value `x`. Then
+-- the decision `with o or r then d` leads to `P`.
 pub past_none : {A : Type 0} (P : List Line → Result Reply Refusal → Type 0) → ((r : Refusal) → P [] (Err r))
     → (r : Refusal) (o : Option A)
     (d : A → Decision) → ((x : A) → o ≡ Some x → Leads P (d x)) → Leads P (with o or r then d)
@@ -63,23 +63,23 @@ past_none P all r o d next = if_none P r o d (all r) next
 
 module _ (P : List Line → Result Reply Refusal → Type 0) (each : (r : Refusal) → is_lease_refusal r ≡ true
     → P [] (Err r)) where
-  -- If the decision `d` leads to `P`, so does the decision that refuses if the parent `o` is listed and not processed
-  -- to its end, and otherwise is `d` (`past_parent`).
+  -- If the decision `d` leads to `P`, the decision `past_parent` does too. It refuses if the parent `o` is listed and
+  -- not processed to its end, and otherwise it is `d`.
   pub past_a_parent : (log : Journal) (c s : ℕ) (o : Option ℕ) (d : Decision) → Leads P d
       → Leads P (past_parent log c s o d)
   past_a_parent log c s None d next = next
   past_a_parent log c s (Some parent) d next = if_refused P _ _ _ (each _ refl) (λ e. next)
 
-  -- If the decision `d` leads to `P`, so does the decision that refuses if some parent of the shard `o` is listed and
-  -- not processed to its end, and otherwise is `d` (`past_parents`).
+  -- If the decision `d` leads to `P`, the decision `past_parents` does too. It refuses if some parent of the shard `o`
+  -- is listed and not processed to its end, and otherwise it is `d`.
   pub past_the_parents : (log : Journal) (c s : ℕ) (o : Option ShardState) (d : Decision) → Leads P d
       → Leads P (past_parents log c s o d)
   past_the_parents log c s None d next = next
   past_the_parents log c s (Some x) d next =
       past_a_parent log c s x.parent (past_parent log c s x.adjacent d) (past_a_parent log c s x.adjacent d next)
 
-  -- If the decision `d` leads to `P`, so does the decision that refuses if the checkpoint of the row of the tenure `T`
-  -- may not be set to `to`, and otherwise is `d` (`past_target`).
+  -- If the decision `d` leads to `P`, the decision `past_target` does too. It refuses if the checkpoint of the row of
+  -- the tenure `T` may not be set to `to`, and otherwise it is `d`.
   pub past_the_target : (log : Journal) (T : TenureState) (to : Target) (d : Decision) → Leads P d
       → Leads P (past_target log T to d)
   past_the_target log T (target.At q) d next =

@@ -18,7 +18,7 @@ use Rattle.kds_defs.specs.declared.reply.Stored.{Stored}
 use Rattle.kds_defs.specs.Decision.{refuse◌if◌else◌, with◌or◌then◌}
 use Rattle.kds_defs.specs.Histories.{answers}
 
--- A turn of the actor `by`. Actors other than 0 are workers here, with the same numbers.
+-- A turn of the actor `by`. In these examples, an actor other than 0 is the worker with the actor's number.
 turn : ℕ → ℕ → Command → Turn
 turn by at what = record { by = by; at = at; what = what }
 
@@ -53,7 +53,7 @@ begun_so =
     ∷ Ok (reply.Leased origin.TrimHorizon) ∷ []
 
 -- Worker 1 takes the row and reads, and then worker 2 takes the row away. Worker 1 may still give what it read, but it
--- can't set the checkpoint any more. Worker 2 can't do so in the tenure of worker 1.
+-- can't set the checkpoint any more. Worker 2 can't set the checkpoint in the tenure of worker 1 either.
 robbed : List Turn
 robbed =
     turn 1 3000 (command.Take (key 0) 0 1)
@@ -82,8 +82,9 @@ robbed_lease : answers [] (begun ++ robbed) ≡ begun_so ++ robbed_so
 unfolding refuse◌if◌else◌ with◌or◌then◌ turn name item kept key begun begun_so robbed robbed_so
 robbed_lease = refl
 
--- What worker 2 does after it took the row. It must read at its reach, it can't mark what isn't given, below its
--- checkpoint or at the shard's end, and it can't renew a row that it freed.
+-- What worker 2 does after it took the row. It must read at its reach, and it can't renew a row that it freed. It can't
+-- set the checkpoint to a record that isn't given, below the present checkpoint, or to the end of a shard that it
+-- hasn't read to the end.
 order_of_marks : answers [] (
     begun ++ robbed
     ++ turn 2 3000 (command.OpenShard 2)
@@ -188,7 +189,8 @@ expired_parent : answers [] (
 unfolding refuse◌if◌else◌ with◌or◌then◌ turn name key
 expired_parent = refl
 
--- A read may be given, and the checkpoint may be set to its record, even if the record is trimmed meanwhile.
+-- A read may be given even if the record that it returned is trimmed meanwhile. The checkpoint may be set to this
+-- record too.
 read_trim_give : answers [] (
     turn 0 1000 (command.Create name 1)
     ∷ turn 0 1000 (command.Put name item)

@@ -5,7 +5,7 @@ use Rattle.kds_base.specs.Span.{Span}
 use Rattle.kds_defs.specs.Tiled.{AreNumbered}
 use Rattle.kds_defs.specs.Shards.{ShardState, Closing, first_shards, with_closed}
 
--- The first shards of a stream, made with the number `n` as the first one, are numbered in order from `n` on.
+-- The shards that `first_shards` makes with `n` as the first number are numbered in order from `n` on.
 pub numbered-first : (n start : ℕ) (ranges : List Span) → AreNumbered n (first_shards n start ranges)
 numbered-first n start [] = tt
 numbered-first n start (r ∷ rs) = (refl, numbered-first (n + 1) start rs)

@@ -55,12 +55,12 @@ filled =
     ∷ plain_line 1000 0 (entry.Made 1 (115 ∷ []) 1)
     ∷ []
 
--- At the time 5999, which is in the same second, the shard of `filled` takes no further record.
+-- At the time 5999, which is in the same second, the shard of `filled` has no room for `item`, so `item` is throttled.
 within_the_second : is_held_back filled 5999 1 item ≡ true
 unfolding filled item
 within_the_second = refl
 
--- At the time 6000, which is in the next second, the shard of `filled` takes a record again.
+-- At the time 6000, which is in the next second, the shard of `filled` has room for `item` again.
 in_the_next : is_held_back filled 6000 1 item ≡ false
 unfolding filled item
 in_the_next = refl

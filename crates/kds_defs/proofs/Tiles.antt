@@ -12,14 +12,14 @@ use Rattle.kds_defs.specs.Safe.{times_covered}
 use Rattle.kds_defs.specs.Shards.{ShardState, Closing, is_open, new_shard, first_shards, with_closed}
 use Rattle.kds_defs.specs.Tiled.{one, count_if, open_times, IsOrdered, IsTiled}
 
--- If the Boolean `b` is true, the number `n` counts (`count_if`).
+-- If the Boolean `b` is true, `count_if` of `b` and `n` is `n`.
 pub counted : (b : Bool) (n : ℕ) → b ≡ true → count_if b n ≡ n
 counted true n h = refl
 counted false n h = absurd cc
 
--- Suppose that two counts of the open shards of `xs` that contain the key `k` agree. Then they agree for `xs` with the
--- shard `x` in front too. One count is over the ranges of the open shards, and the other is `open_times`. The Boolean
--- `b` says whether `x` is open.
+-- Two counts of the open shards that contain the key `k`: `times_covered` counts the ranges of the open shards, and
+-- `open_times` counts the shards. If the two counts are equal for `xs`, they are equal for `xs` with the shard `x` in
+-- front. The Boolean `b` says whether `x` is open.
 same_times_by : (b : Bool) (x : ShardState) (xs : List ShardState) (k : ℕ)
     → times_covered (map (λ y. y.range) (filter is_open xs)) k ≡ open_times xs k
     → times_covered (map (λ y. y.range) (cond b (x ∷ filter is_open xs) (filter is_open xs))) k

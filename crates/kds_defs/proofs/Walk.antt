@@ -312,8 +312,8 @@ pub data IsAdded (log : Journal) (c by : ℕ) : Command → Line → Type 0 wher
       → IsAdded log c by (command.Scale name goal) (plain_line c by (entry.Split s sh at number low high))
 
 module _ (P : Line → Type 0) (c by s : ℕ) where
-  -- If `P` is true of the line of a put of each of `items`, with any sequence number and after any journal, it is true
-  -- of all lines that PutRecords adds for these items.
+  -- Suppose that `P` is true of the line of a put of each of `items`, with any sequence number and after any journal.
+  -- Then `P` is true of all lines that PutRecords adds for these items.
   pub each_put : (items : List NewItem) (log : Journal)
       → ((before : Journal) (n : ℕ) (item : NewItem) → IsAmong items item → P (put_line before c by s n item))
       → AllByRecursion P (put_lines log c by s items)

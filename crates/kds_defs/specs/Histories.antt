@@ -73,7 +73,7 @@ abbrev pub decision : Journal → ℕ → Turn → Decision
 decision log c turn = decide log c turn.by turn.what
 
 -- The journal that a history leaves: the lines that the decisions on its turns add. The decision on each turn is made
--- after the lines of the turns before it, at the greatest time of the turns up to this one.
+-- after the lines of the turns before it, at the greatest time of this turn and the turns before it.
 abbrev pub journal : List Turn → Journal
 journal [] = []
 journal (turn ∷ h) = with_lines (lines_of (decision (journal h) (clock (turn ∷ h)) turn)) (journal h)

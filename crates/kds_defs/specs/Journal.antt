@@ -20,7 +20,7 @@ abbrev pub with_lines : List Line → Journal → Journal
 with_lines [] log = log
 with_lines (line ∷ lines) log = with_lines lines (line ∷ log)
 
--- The line with the entry `what`, added at the clock `clock` by the actor `by`. It has no key and no payload, because
--- `what` isn't a put.
+-- The line with the entry `what`, added at the clock `clock` by the actor `by`, with an empty key and an empty payload.
+-- All entries other than puts have such lines.
 abbrev pub plain_line : ℕ → ℕ → Entry → Line
 plain_line clock by what = record { clock = clock; by = by; what = what; key = []; payload = [] }

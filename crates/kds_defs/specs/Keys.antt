@@ -1,4 +1,5 @@
--- The keys of leases. A key names a shard by the number of its stream and its own number in the stream.
+-- The keys of leases. A key names a shard by the number of the shard's stream and the number of the shard in this
+-- stream.
 use Rattle.std.specs.Prelude.{ℕ, Bool, ◌==◌, ◌&&◌, nat_lt, if◌then◌else◌}
 use Rattle.kds_base.specs.declared.lease_key.ShardRef.{ShardRef}
 use Rattle.kds_defs.specs.Journal.{Journal}
@@ -18,6 +19,6 @@ abbrev pub is_before : ShardRef → ShardRef → Bool
 is_before a b =
     if a.stream == b.stream then nat_lt a.shard b.shard else nat_lt a.stream b.stream
 
--- Whether the shard `key` is listed at the clock `c`, after the lines of `log`.
+-- Whether the shard that `key` names is listed at the clock `c`, after the lines of `log`.
 abbrev pub is_listed_key : Journal → ℕ → ShardRef → Bool
 is_listed_key log c key = is_listed log c key.stream key.shard

@@ -40,8 +40,8 @@ is_change _ = false
 abbrev pub is_query : Command → Bool
 is_query what = is_service what && not (is_change what)
 
--- Whether a command names a tenure together with the counter that the row must have (Renew, Free and Mark) or with the
--- position at which the tenure must read (Read).
+-- Whether a command names a tenure together with the counter that the tenure's row must have (Renew, Free and Mark), or
+-- with the position at which the tenure must read (Read).
 abbrev pub is_counted : Command → Bool
 is_counted (command.Renew tenure counter) = true
 is_counted (command.Free tenure counter) = true

@@ -28,9 +28,9 @@ abbrev pub reach_in : Option TenureState → ℕ
 reach_in None = 0
 reach_in (Some T) = reach T
 
--- The decision on the command that an entry of `line` records, by the actor and at the clock of `line`, after the lines
--- of `log`. Each record of a PutRecords counts as a PutRecord, and each step of a scaling as a SplitShard or
--- MergeShards.
+-- The decision on the command that the entry of `line` (the last argument) records, by the actor and at the clock of
+-- `line`, after the lines of `log`. Each record of a PutRecords counts as a PutRecord, and each step of a scaling as a
+-- SplitShard or MergeShards.
 abbrev pub told : Journal → Line → Entry → Decision
 told log line (entry.Made s name count) = create log line.clock line.by name count
 told log line (entry.Gone s) = in_stream log s (delete log line.clock line.by s)
@@ -64,8 +64,9 @@ abbrev pub last_clock : Journal → ℕ
 last_clock [] = 0
 last_clock (line ∷ log) = line.clock
 
--- The line `line` is good after the lines of `log`: the command that it records is accepted after these lines, and adds
--- exactly this line. Its clock isn't below that of the newest line of `log`, and its numbers are within their ranges.
+-- The line `line` is good after the lines of `log`: the command that `line` records is accepted after these lines, and
+-- adds exactly `line`. The clock of `line` isn't below that of the newest line of `log`, and the numbers in the entry
+-- of `line` are within their ranges.
 pub record IsGood (log : Journal) (line : Line) : Type 0 where
   pub in_order : last_clock log ≤ line.clock
   pub in_range : IsInRange line.what

@@ -40,7 +40,8 @@ is_less Greater = false
 abbrev pub name_before : List ℕ → List ℕ → Bool
 name_before a b = is_less (slice_cmp nat_cmp a b)
 
--- A list of names in order (`name_before`), with `name` inserted in its place.
+-- A list of names with `name` inserted before the first name that comes after `name` (`name_before`), or at the end if
+-- there is no such name.
 abbrev pub with_name : List ℕ → List (List ℕ) → List (List ℕ)
 with_name name [] = name ∷ []
 with_name name (n ∷ names) = if name_before name n then name ∷ n ∷ names else n ∷ with_name name names
@@ -83,15 +84,16 @@ is_after_shard (Some after) x = nat_lt after x.no
 abbrev pub shards_from : Journal → ℕ → ℕ → Option ℕ → List Shard
 shards_from log c s after = map shown (filter (is_after_shard after) (listed_shards log c s))
 
--- The decision on DescribeStream for the live stream `s`. The reply has the stream's name, time and retention
--- (`about`), the first `limit` of its listed shards after the number `after`, and whether there are more shards.
+-- The decision on DescribeStream for the live stream `s`. The reply has the stream's name, the time at which it was
+-- made and its retention (`about`). It also has the first `limit` of the listed shards whose numbers are above `after`,
+-- if `after` has a number, and whether there are more such shards.
 abbrev pub describe : Journal → ℕ → ℕ → Option ℕ → ℕ → Decision
 describe log c s after limit =
     Accepted [] (reply.Described (about log s) (take limit (shards_from log c s after))
     (are_more limit (shards_from log c s after)))
 
--- The decision on DescribeStreamSummary for the live stream `s`. The reply has the stream's name, time and retention
--- (`about`), and the number of its open shards.
+-- The decision on DescribeStreamSummary for the live stream `s`. The reply has the stream's name, the time at which it
+-- was made, its retention (`about`), and the number of its open shards.
 abbrev pub summary : Journal → ℕ → Decision
 summary log s = Accepted [] (reply.Summary (about log s) (length (open_shards log s)))
 
@@ -101,8 +103,9 @@ last_no [] = 0
 last_no (x ∷ []) = x.no
 last_no (x ∷ y ∷ xs) = last_no (y ∷ xs)
 
--- The decision on ListShards for the live stream `s`. The reply has the first `limit` of the listed shards after the
--- number `after`, and a token for the next page if there are more shards.
+-- The decision on ListShards for the live stream `s`. The reply has the first `limit` of the listed shards whose
+-- numbers are above `after`, if `after` has a number. If there are more such shards, it also has a token for the next
+-- page.
 abbrev pub list_shards : Journal → ℕ → ℕ → Option ℕ → ℕ → Decision
 list_shards log c s after limit =
     Accepted [] (reply.Shards (take limit (shards_from log c s after))
@@ -111,12 +114,12 @@ list_shards log c s after limit =
     else None))
 
 -- Whether a shard iterator or a token that was issued at the time `issued` is too old at the clock `c`: more than
--- `TOKEN_LIFE` milliseconds have passed.
+-- `TOKEN_LIFE` milliseconds have passed since `issued`.
 abbrev pub is_expired_token : ℕ → ℕ → Bool
 is_expired_token c issued = nat_lt TOKEN_LIFE (c - issued)
 
 -- The decision on ListShards for a request with the token `page`. The reply has the next page of at most `limit`
--- shards. The command is refused if the token is too old or its stream isn't live.
+-- shards. The command is refused if the token is too old or the token's stream isn't live.
 abbrev pub more : Journal → ℕ → Page → ℕ → Decision
 more log c page limit =
     refuse refusal.PageExpired if is_expired_token c page.issued else
@@ -126,15 +129,15 @@ more log c page limit =
 -- ---- GetShardIterator for a live stream
 
 -- Whether an iterator may begin at the sequence number `q` (AT_SEQUENCE_NUMBER). `q` must be at least `first`, the
--- shard's starting sequence number. It must be at most the ending sequence number of a closed shard, or, if the shard
--- is open, at most `next`, the stream's next sequence number.
+-- shard's starting sequence number. If the shard is closed, `q` must be at most its ending sequence number. If the
+-- shard is open, `q` must be at most `next`, the stream's next sequence number.
 abbrev pub is_good_at : ℕ → ℕ → ℕ → Option Closing → Bool
 is_good_at first next q None = nat_le first q && nat_le q next
 is_good_at first next q (Some closing) = nat_le first q && nat_le q closing.number
 
 -- Whether an iterator may begin after the sequence number `q` (AFTER_SEQUENCE_NUMBER). `q` must be at least `first`,
--- the shard's starting sequence number. It must be at most the ending sequence number of a closed shard, or, if the
--- shard is open, below `next`, the stream's next sequence number.
+-- the shard's starting sequence number. If the shard is closed, `q` must be at most its ending sequence number. If the
+-- shard is open, `q` must be below `next`, the stream's next sequence number.
 abbrev pub is_good_after : ℕ → ℕ → ℕ → Option Closing → Bool
 is_good_after first next q None = nat_le first q && nat_lt q next
 is_good_after first next q (Some closing) = nat_le first q && nat_le q closing.number
@@ -149,9 +152,10 @@ is_good_start start.TrimHorizon next x = true
 is_good_start start.Latest next x = true
 is_good_start (start.Time moment) next x = true
 
--- The position in shard `sh` from which an iterator with a given start reads. For the trim horizon it is 0, and for
--- LATEST it is the stream's next sequence number. For a time, it is the number of the first untrimmed record that
--- arrived at this time or later, or the stream's next sequence number if there is none.
+-- The position in shard `sh` from which an iterator with a given start reads. For AT_SEQUENCE_NUMBER it is the given
+-- number, for AFTER_SEQUENCE_NUMBER one more, for the trim horizon 0, and for LATEST the stream's next sequence number.
+-- For a time, it is the number of the first untrimmed record that arrived at this time or later, or the stream's next
+-- sequence number if there is no such record.
 abbrev pub position_of : Journal → ℕ → ℕ → ℕ → Start → ℕ
 position_of log c s sh (start.At q) = q
 position_of log c s sh (start.After q) = q + 1
@@ -195,7 +199,8 @@ behind c [] = 0
 behind c (r ∷ rs) = c - r.arrival
 
 -- The decision on a GetRecords of shard `sh` that returns the records `rs`, after which reading goes on at `position`.
--- If reading ends at `position` (`ends_at`), the reply has the shard's children. Otherwise it has the next iterator.
+-- The reply has `rs`, and how long before the clock the first record left from `position` on arrived (`behind`). If
+-- reading ends at `position` (`ends_at`), the reply also has the shard's children, and otherwise the next iterator.
 abbrev pub records_reply : Journal → ℕ → ℕ → ℕ → List Logged → ℕ → Decision
 records_reply log c s sh rs position =
     Accepted [] (if ends_at log c s sh position

@@ -24,14 +24,14 @@ abbrev pub enforced_after : Entry → ℕ → Bool → Bool
 enforced_after (entry.Enforced stream on) s before = if stream == s then on else before
 enforced_after _ s before = before
 
--- Whether the limits on the throughput of stream `s` are on. They are off until a line turns them on, and later the
--- last line that turned them on or off counts.
+-- Whether the limits on the throughput of stream `s` are on. The limits are off until a line turns them on. After that,
+-- the last line that turned the limits on or off counts.
 abbrev pub is_enforced : Journal → ℕ → Bool
 is_enforced [] s = false
 is_enforced (line ∷ log) s = enforced_after line.what s (is_enforced log s)
 
--- The decision on LocalEnforceLimits, which turns the limits on the throughput of the live stream `s` on if `on` is
--- true, and off if it is false.
+-- The decision on LocalEnforceLimits for the live stream `s`. If `on` is true, the limits on throughput are turned on,
+-- and if `on` is false, they are turned off.
 abbrev pub enforce : Journal → ℕ → ℕ → ℕ → Bool → Decision
 enforce log c by s on = Accepted (plain_line c by (entry.Enforced s on) ∷ []) reply.Done
 

@@ -7,7 +7,8 @@ use Rattle.kds_defs.specs.declared.entry.Entry.TheVariants as entry
 use Rattle.kds_defs.specs.declared.limits.TheConstants.{SECOND, SECOND_BYTES, SECOND_RECORDS}
 use Rattle.kds_defs.specs.Journal.{Line, Journal}
 
--- A put as the throughput of its shard counts it: its time, and the number of bytes of its payload and key together.
+-- A put as the limits on its shard's throughput count it: its time, and the number of bytes of its payload and key
+-- together.
 pub record SizedPut : Type 0 where
   pub clock : ℕ
   pub bytes : ℕ
@@ -28,8 +29,8 @@ bytes_of [] = 0
 bytes_of (p ∷ puts) = p.bytes + bytes_of puts
 
 -- Whether a window that has `records` records with `held` bytes together has no room for another record of `bytes`
--- bytes. A window with `SECOND_RECORDS` records is full, and one with at least one record must not exceed
--- `SECOND_BYTES` bytes. A window without records has room for any record.
+-- bytes. A window with `SECOND_RECORDS` records or more has no room. A window with at least one record has no room if
+-- its bytes and the new record's bytes are together more than `SECOND_BYTES`.
 abbrev pub is_too_much : ℕ → ℕ → ℕ → Bool
 is_too_much records held bytes =
     nat_le SECOND_RECORDS records || (nat_lt 0 records && nat_lt SECOND_BYTES (held + bytes))
@@ -40,8 +41,8 @@ is_throttled puts c bytes = is_too_much (length (window c puts)) (bytes_of (wind
 
 -- ---- The puts of a shard
 
--- The value of `puts` for shard `sh` of stream `s` after `line` and its entry (the second argument), if its value
--- before `line` is `before`.
+-- The value of `puts` for shard `sh` of stream `s` after `line`. The second argument is the entry of `line`, and
+-- `before` is the value of `puts` before `line`.
 abbrev pub puts_after : Line → Entry → ℕ → ℕ → List SizedPut → List SizedPut
 puts_after line (entry.Put stream shard seq hash bytes key_bytes) s sh before =
     if (stream == s) && (shard == sh)

@@ -37,7 +37,7 @@ pub record Logged : Type 0 where
 abbrev pub stored : Logged → Stored
 stored r = record { seq = r.seq; arrival = r.arrival; key = r.key; payload = r.payload }
 
--- The record `r`, which a read returned, with the number of bytes of its payload and key added.
+-- The record `r` that a read returned, together with the number of bytes of its payload and key.
 abbrev pub logged : Stored → Logged
 logged r = record {
   seq = r.seq;
@@ -47,8 +47,8 @@ logged r = record {
   payload = r.payload;
 }
 
--- The value of `records` for shard `sh` of stream `s` after `line` and its entry (the second argument), if its value
--- before `line` is `before`.
+-- The value of `records` for shard `sh` of stream `s` after `line`. The second argument is the entry of `line`, and
+-- `before` is the value of `records` before `line`.
 abbrev pub records_after : Line → Entry → ℕ → ℕ → List Logged → List Logged
 records_after line (entry.Put stream shard seq hash bytes key_bytes) s sh before =
     if (stream == s) && (shard == sh)
@@ -92,8 +92,8 @@ beginning (suc limit) room (r ∷ rs) =
 abbrev pub numbers_of : List Logged → List ℕ
 numbers_of rs = map (λ r. r.seq) rs
 
--- The position at which reading goes on, if it began at `position` and returned records with these sequence numbers. It
--- is one above the last of the numbers, or `position` if there are none.
+-- The position at which reading goes on after a read at `position` that returned records with the sequence numbers of a
+-- list. This position is one above the last number of the list, or `position` if the list is empty.
 abbrev pub position_after : ℕ → List ℕ → ℕ
 position_after position [] = position
 position_after position (n ∷ ns) = position_after (n + 1) ns
@@ -108,7 +108,7 @@ left_from log c s sh position =
 
 -- The records that a read at `position` with the limit `limit` returns from shard `sh` at the clock `c`. They are the
 -- longest prefix of the untrimmed records from `position` on that has at most `limit` records and at most `BATCH_BYTES`
--- bytes (Kinesis API Reference, GetRecords).
+-- bytes of payloads and keys (Kinesis API Reference, GetRecords).
 abbrev pub batch : Journal → ℕ → ℕ → ℕ → ℕ → ℕ → List Logged
 batch log c s sh position limit = beginning limit BATCH_BYTES (left_from log c s sh position)
 

@@ -36,16 +36,16 @@ made_by (Cut b ∷ steps) = 2 + made_by steps
 abbrev pub open_elsewhere : Journal → ℕ → ℕ
 open_elsewhere log s = open_in log (filter (λ t. not (t == s)) (live_streams log))
 
--- The entry of one step in stream `s`. A merge at the key `b` is of the shard whose range ends right before `b` with
--- the shard whose range contains `b`. A split at `b` is of the shard whose range contains `b`.
+-- The entry of one step in stream `s`. A merge at the key `b` merges the open shard whose range contains `b - 1` with
+-- the open shard whose range contains `b`. A split at `b` splits the open shard whose range contains `b`.
 abbrev pub step_entry : Journal → ℕ → ScaleStep → Entry
 step_entry log s (Join b) =
     entry.Merged s (home log s (b - 1)) (home log s b) (next_number log s) (length (shards log s))
 step_entry log s (Cut b) =
     entry.Split s (home log s b) b (next_number log s) (length (shards log s)) (length (shards log s) + 1)
 
--- The lines of a list of steps in stream `s`, one for each step. The numbers in the line of a step are those after the
--- lines of the steps before it.
+-- The lines of a list of steps in stream `s`, one for each step. The entry of each step (`step_entry`) is the one after
+-- the lines of the steps before.
 abbrev pub step_lines : Journal → ℕ → ℕ → ℕ → List ScaleStep → List Line
 step_lines log c by s [] = []
 step_lines log c by s (step ∷ steps) =

@@ -35,7 +35,7 @@ create log c by name count =
     refuse refusal.Spent if made_count log == last_number else
     Accepted (plain_line c by (entry.Made (made_count log + 1) name count) ∷ []) reply.Done
 
--- The decision on DeleteStream for the live stream `s`, which is never refused.
+-- The decision on DeleteStream for the live stream `s`. This decision is never a refusal.
 abbrev pub delete : Journal → ℕ → ℕ → ℕ → Decision
 delete log c by s = Accepted (plain_line c by (entry.Gone s) ∷ []) reply.Done
 
@@ -56,8 +56,8 @@ put_line log c by s number item =
 abbrev pub put_place : Journal → ℕ → ℕ → NewItem → Place
 put_place log s number item = record { shard = home log s item.hash; seq = number }
 
--- The decision on SplitShard for shard `sh` of the live stream `s` at the key `at`. If `full` is true, no further shard
--- may be open, and the split is refused.
+-- The decision on SplitShard for shard `sh` of the live stream `s` at the key `at`. If `full` is true, no further open
+-- shard is allowed, and the split is refused.
 abbrev pub split_where : Bool → Journal → ℕ → ℕ → ℕ → ℕ → ℕ → Decision
 split_where full log c by s sh at =
     refuse refusal.NoShard if not (is_listed log c s sh) else
@@ -68,8 +68,8 @@ split_where full log c by s sh at =
     Accepted (plain_line c by
     (entry.Split s sh at (next_number log s) (length (shards log s)) (length (shards log s) + 1)) ∷ []) reply.Done
 
--- The decision on SplitShard for shard `sh` of the live stream `s` at the key `at`. The split is refused if
--- `OPEN_SHARDS` shards are open already.
+-- The decision on SplitShard for shard `sh` of the live stream `s` at the key `at`. The split is refused if the live
+-- streams together have `OPEN_SHARDS` open shards or more.
 abbrev pub split : Journal → ℕ → ℕ → ℕ → ℕ → ℕ → Decision
 split log c by s sh at = split_where (nat_le OPEN_SHARDS (open_count log)) log c by s sh at
 
@@ -83,7 +83,7 @@ merge log c by s sh other =
     refuse refusal.Spent if nat_lt last_number (length (shards log s)) || next_number log s == last_number else
     Accepted (plain_line c by (entry.Merged s sh other (next_number log s) (length (shards log s))) ∷ []) reply.Done
 
--- The decision on IncreaseStreamRetentionPeriod, if `raise` is true, and on DecreaseStreamRetentionPeriod, if it is
+-- The decision on IncreaseStreamRetentionPeriod if `raise` is true, and on DecreaseStreamRetentionPeriod if `raise` is
 -- false. The live stream `s` is to have a retention of `wanted` hours.
 abbrev pub keep : Journal → ℕ → ℕ → ℕ → ℕ → Bool → Decision
 keep log c by s wanted raise =

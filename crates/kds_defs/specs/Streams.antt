@@ -21,7 +21,7 @@ made_count_after (entry.Made stream name shards) before = before + 1
 made_count_after _ before = before
 
 -- The number of streams that were made so far, deleted ones included. Streams are numbered from 1 in the order in which
--- they are made, so this is also the number of the latest stream.
+-- they are made, so this number of streams is also the number of the latest stream.
 abbrev pub made_count : Journal → ℕ
 made_count [] = 0
 made_count (line ∷ log) = made_count_after line.what (made_count log)
@@ -57,8 +57,8 @@ abbrev pub name_of : Journal → ℕ → List ℕ
 name_of [] s = []
 name_of (line ∷ log) s = name_of_after line.what s (name_of log s)
 
--- The value of `made_at` for stream `s` after `line` and its entry (the second argument), if its value before `line` is
--- `before`.
+-- The value of `made_at` for stream `s` after `line`. The second argument is the entry of `line`, and `before` is the
+-- value of `made_at` before `line`.
 abbrev pub made_at_after : Line → Entry → ℕ → ℕ → ℕ
 made_at_after line (entry.Made stream name shards) s before = if stream == s then line.clock else before
 made_at_after line _ s before = before
@@ -104,9 +104,9 @@ stream_named log name = find (λ s. same_name (name_of log s) name) (live_stream
 abbrev pub floor_at : ℕ → ℕ → ℕ
 floor_at clock retention = clock + 1 - retention
 
--- The trim floor that stream `s` has at least from `line` on, where `line` follows the lines of `log`. It is the floor
--- at the clock of `line` by the retention after `line`. If the stream was made before `line`, the floor by the
--- retention before `line` counts instead if it is greater. If the stream wasn't made, it is 0.
+-- The trim floor that `line` gives stream `s` if `line` is added to `log`. If the stream was made before `line`, this
+-- is the greater one of the floors for the retention before and after `line`, both at the clock of `line` (`floor_at`).
+-- If `line` makes the stream, only the retention after `line` counts. If the stream wasn't made, the trim floor is 0.
 abbrev pub floor_after : Journal → Line → ℕ → ℕ
 floor_after log line s =
     if was_made (line ∷ log) s
@@ -114,15 +114,15 @@ floor_after log line s =
     (if was_made log s then floor_at line.clock (retention log s) else 0)
     else 0
 
--- The trim floor that the lines of a journal give stream `s`: the greatest of the floors at all lines (`floor_after`).
--- The present clock doesn't count.
+-- The trim floor that the lines of a journal give stream `s`: the greatest of the floors of the single lines
+-- (`floor_after`), or 0 if there are no lines. The present clock doesn't count.
 abbrev pub floor_of_lines : Journal → ℕ → ℕ
 floor_of_lines [] s = 0
 floor_of_lines (line ∷ log) s = max (floor_after log line s) (floor_of_lines log s)
 
--- The trim floor of stream `s` at the clock `c`: the greater one of the floor that the clock and the present retention
--- give, and the floor that the lines of `log` give. A record that arrived at a time below the trim floor is trimmed,
--- and a shard that was closed at a time below it is expired.
+-- The trim floor of stream `s` at the clock `c`: the greater one of two floors. One is given by the clock and the
+-- present retention, and the other by the lines of `log`. A record that arrived at a time below the trim floor is
+-- trimmed, and a shard that was closed at a time below the trim floor is expired.
 abbrev pub trim_floor : Journal → ℕ → ℕ → ℕ
 trim_floor log c s = max (floor_at c (retention log s)) (floor_of_lines log s)
 

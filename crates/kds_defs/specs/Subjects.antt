@@ -22,9 +22,9 @@ stream_of (entry.Kept s hours) = Some s
 stream_of (entry.Enforced s on) = Some s
 stream_of _ = None
 
--- The name of the stream that a command is for, if the command names a stream that must be live. CreateStream gives
--- `None`, because its stream doesn't exist yet. So do ListStreams, commands with an iterator or a token in place of a
--- name, and commands on leases.
+-- The name of the stream that a command names, if this stream must be live. For CreateStream it is `None`, because the
+-- stream doesn't exist yet. It is also `None` for ListStreams, for commands with an iterator or a token in place of a
+-- name, and for commands on leases.
 abbrev pub name_of_command : Command → Option (List ℕ)
 name_of_command (command.Delete name) = Some name
 name_of_command (command.Describe name after limit) = Some name
@@ -41,8 +41,8 @@ name_of_command (command.Enforce name on) = Some name
 name_of_command _ = None
 
 -- The journal `log` says of stream `s` what an empty journal says. The stream was never made and isn't live, its next
--- sequence number is 1, and the lines make its trim floor 0. It has no shards, records or puts, and its limits on
--- throughput are off.
+-- sequence number is 1, and the trim floor that the lines of `log` give the stream is 0. The stream has no shards,
+-- records or puts, and its limits on throughput are off.
 pub record IsFresh (log : Journal) (s : ℕ) : Type 0 where
   pub gone : is_live log s ≡ false
   pub unmade : was_made log s ≡ false

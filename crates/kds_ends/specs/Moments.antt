@@ -25,9 +25,9 @@ abbrev pub moments_after : ℕ → List ℕ → List ℕ
 moments_after zero told = told
 moments_after (suc count) told = moments_after count (later told)
 
--- A clock gave the moments `given`, one after another. If its contract states its moments, which were `told`, these are
--- the next ones of `told`, and the clock then has the moments `new`. If its contract states none (`None`), nothing is
--- said.
+-- A clock gave the moments `given`, one after another. If the clock's contract states its moments, which were `told`,
+-- then `given` are the next ones of `told`, and the clock has the moments `new` afterwards. If the contract states no
+-- moments (`None`), nothing is said.
 abbrev pub Gives : Option (List ℕ) → List ℕ → Option (List ℕ) → Type 0
 Gives None given new = Unit {0}
 Gives (Some told) given new = (given ≡ moments_of (length given) told)

@@ -73,7 +73,7 @@ never_may : (front : List ℕ) → NeverBecomesHead front → MayBecomeRequest f
 never_may front p (inl m) = p.0 m.0 m.1 [] m.2
 never_may front p (inr inside) = p.1 inside
 
--- Bytes, of which no more are given than a head may have, have one finding at most.
+-- The bytes `front` have one finding at most (`IsFoundIn`): two findings in them are equal.
 pub at_most_one_in : (front : List ℕ) (found other : Found) → IsFoundIn front found → IsFoundIn front other
     → found ≡ other
 at_most_one_in front found other (inl a) (inl b) = a.2 ∙ ap judged (request_unique front a.0 b.0 _ _ a.1.1 b.1.1).0
@@ -94,7 +94,7 @@ never_more front more never rest h r reads =
     never (more ++ rest) h r (reads.0, sym (append_assoc front more rest) ∙ reads.1)
 
 -- Let `a` with `b` after it be the same bytes as `c` with `d` after it. Then `c` begins with `a`, or `a` begins with
--- `c`.
+-- `c`. If `a` begins with `c`, then `d` is the rest of `a` with `b` after it.
 cuts : (a b c d : List ℕ) → a ++ b ≡ c ++ d → ((m : List ℕ) × (c ≡ a ++ m))
     ⊎ ((m : List ℕ) × (a ≡ c ++ m) × (m ++ b ≡ d))
 cuts [] b c d e = inl (c, refl)
@@ -141,7 +141,7 @@ short_printed : (blank : List LineEnd) (method : List ℕ)
 unfolding print_request short_rest
 short_printed blank method = simp append_assoc
 
--- If bytes followed by `more` may become a request, these bytes may become one.
+-- If the bytes `front` followed by `more` may become a request, `front` may become a request.
 pub may_before : (front more : List ℕ) → MayBecomeRequest (front ++ more) → MayBecomeRequest front
 may_before front more (inl m) = inl (more ++ m.0, m.1, (m.2.0, sym (append_assoc front more m.0) ∙ m.2.1))
 may_before front more (inr e) =
@@ -180,8 +180,8 @@ no_room : (front m : List ℕ) → length front ≡ 16384 → length (front ++ m
 no_room front [] e l = refl
 no_room front (x ∷ m) e l = absurd (omega (arith, length-append front (x ∷ m)))
 
--- Let a head or a refusal be found in `front`. If at most 16384 bytes are there with `m` after it, it is found in all
--- of them.
+-- If a head or a refusal is found in `front`, and `front` and `m` together have at most 16384 bytes, the same is found
+-- in `front` followed by `m`.
 pub stays_in : (front m : List ℕ) (found : Found) → length (front ++ m) ≤ 16384 → IsFoundIn front found → found ≢ Need
     → IsFoundIn (front ++ m) found
 stays_in front m found l (inl a) n = inl (a.0, (a.1.0 ++ m, ReadsRequest-append front a.0 a.1.0 m a.1.1), a.2)
@@ -279,7 +279,7 @@ limits_in bytes found (inr (inr c)) =
     subst (λ (f : Found). IsWithinLimits bytes f) (sym c.1)
     (known_open (length (take HEAD_BYTES bytes) == HEAD_BYTES) bytes refl)
 
--- If a call that succeeds returns what is found in `bytes`, this is within the limits.
+-- If a call that succeeds returns what is found in `bytes`, this finding is within the limits.
 pub limits : {E : Type 0} (bytes : List ℕ) (r : Result Found E) → IfOk r (IsFound bytes) → IfOk r (IsWithinLimits bytes)
 limits bytes (Ok found) h = limits_in bytes found h
 limits bytes (Err e) h = tt

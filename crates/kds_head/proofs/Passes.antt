@@ -205,24 +205,24 @@ none_is n e = grind (arith, nat_tests)
 pub some_is : (n : ℕ) → nat_lt 0 n ≡ true → (n == 0) ≡ false
 some_is n e = grind (arith, nat_tests)
 
--- If the code reads the value `v` of the only Content-Length as the number `n`, `n` is the length of the body by the
--- definition. This also holds if there is no such number.
+-- Let `v` be the value of the only header Content-Length, or None if there isn't exactly one such header. If the code
+-- reads `v` as the number `n`, or as None, then `n` is the length of the body by the definition (`body_length`).
 pub body_is : (v : Option (List ℕ)) (n : Option ℕ) (hs : Headers) → n ≡ option_and_then byte_count v
     → v ≡ only_value (codes "Content-Length") hs
     → n ≡ body_length hs
 unfolding body_length
 body_is v n hs e s = e ∙ ap (option_and_then byte_count) s
 
--- If the code reads the value `v` of the only X-Amz-Target as the operation `o`, `o` is the operation by the
--- definition. This also holds if there is no such value.
+-- Let `v` be the value of the only header X-Amz-Target, or None if there isn't exactly one such header. If the code
+-- reads `v` as the operation `o`, then `o` is the operation by the definition (`operation`).
 pub operation_is : (v : Option (List ℕ)) (o : List ℕ) (hs : Headers) → o ≡ option_map_or named_operation v []
     → v ≡ only_value (codes "X-Amz-Target") hs
     → o ≡ operation hs
 unfolding operation
 operation_is v o hs e s = e ∙ ap (λ z. option_map_or named_operation z []) s
 
--- If the code finds by the value `v` of the only Content-Type whether the body is JSON, the result `j` is that of the
--- definition. This also holds if there is no such value.
+-- Let `v` be the value of the only header Content-Type, or None if there isn't exactly one such header. If the code
+-- finds by `v` whether the body is JSON, the result `j` is that of the definition (`says_json`).
 pub json_is : (v : Option (List ℕ)) (j : Bool) (hs : Headers) → j ≡ option_map_or is_json v false
     → v ≡ only_value (codes "Content-Type") hs
     → j ≡ says_json hs
@@ -230,7 +230,7 @@ unfolding says_json
 json_is v j hs e s = e ∙ ap (λ z. option_map_or is_json z false) s
 
 -- If the code finds by the minor version and by `said` whether the connection closes, the result `c` is that of the
--- definition. The Boolean `said` is true if some header Connection has the value `close`.
+-- definition (`closes`). The Boolean `said` is true if some header Connection has the value `close`.
 pub close_is : (minor : ℕ) (said c : Bool) (hs : Headers) → c ≡ (minor == 0 || said)
     → said ≡ any_has (codes "Connection") (codes "close") hs
     → c ≡ (minor == 0 || any_has (codes "Connection") (codes "close") hs)

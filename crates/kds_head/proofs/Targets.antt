@@ -161,8 +161,8 @@ pub reaches : (bs : List ℕ) → EndsInTarget bs → run Blank bs ≡ Target
 reaches bs e = ap (λ z. run Blank z) (e.5 ∙ append_assoc (print_blank e.0) e.1 (32 ∷ e.2))
     ∙ blank_run e.0 (e.1 ++ 32 ∷ e.2) ∙ start_run e.1 e.2 e.3 e.4
 
--- Let `r` be the state after the bytes `bs`. It is inside the target exactly if `bs` end inside the target by the
--- grammar.
+-- Let `r` be the state after the bytes `bs`. This state is inside the target exactly if `bs` end inside the target by
+-- the grammar.
 pub target_is : (r : Reached) (bs : List ℕ) → r ≡ run Blank bs → ((r ≡ Target) → EndsInTarget bs)
     × (EndsInTarget bs → r ≡ Target)
 target_is r bs e = (λ h. in_blank bs (sym e ∙ h), λ h. e ∙ reaches bs h)

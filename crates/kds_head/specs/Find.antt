@@ -14,23 +14,25 @@ use Rattle.kds_head.specs.Table.{judged}
 abbrev pub BeginsWith : List ℕ → RequestHead → Type 0
 BeginsWith front head = (rest : List ℕ) × ReadsRequest front head rest
 
--- Whatever bytes follow `front`, they never begin with a head together, and `front` doesn't end inside a target. A
--- target is judged only once its end has come.
+-- Whatever bytes follow `front`, the bytes `front` and these bytes together don't begin with a head, and `front`
+-- doesn't end inside a target. A target is judged only once its end has come.
 abbrev pub NeverBecomesHead : List ℕ → Type 0
 NeverBecomesHead front = NeverHasRequest front × ¬ (EndsInTarget front)
 
--- The bytes `front` don't begin with a whole head. More bytes may make them do so, or `front` ends inside a target.
+-- The bytes `front` don't begin with a whole head. Either more bytes may make them a whole head, or `front` ends inside
+-- a target.
 abbrev pub MayBecomeHead : List ℕ → Type 0
 MayBecomeHead front = HasNoRequest front × MayBecomeRequest front
 
--- What is found if `bytes` bytes don't begin with a whole head, but more bytes may make them do so: the refusal 431 if
--- a head can't have more bytes (RFC 6585, section 5), and otherwise that more bytes are needed.
+-- What is found if `bytes` bytes don't begin with a whole head, but more bytes may make them do so. If `bytes` is the
+-- greatest number of bytes that a head may have, the finding is the refusal 431 (RFC 6585, section 5). Otherwise the
+-- finding is that more bytes are needed.
 abbrev pub undecided : ℕ → Found
 undecided bytes = if bytes == HEAD_BYTES then Refused 431 else Need
 
 -- The finding `found` is what is found in `front`, which has at most as many bytes as a head may have. If `front`
--- begins with a head, the finding is what the head leads to (`judged`). If no further bytes can make it a head, the
--- finding is the refusal 400. Otherwise it is `undecided`.
+-- begins with a head, the finding is what this head leads to (`judged`). If `front` never begins with a head, whatever
+-- follows (`NeverBecomesHead`), the finding is the refusal 400. Otherwise the finding is `undecided`.
 abbrev pub IsFoundIn : List ℕ → Found → Type 0
 IsFoundIn front found =
     ((head : RequestHead) × BeginsWith front head × (found ≡ judged head))
@@ -41,8 +43,8 @@ IsFoundIn front found =
 abbrev pub IsFound : List ℕ → Found → Type 0
 IsFound bytes found = IsFoundIn (take HEAD_BYTES bytes) found
 
--- The head `whole` has at least one byte, and not more bytes than `bytes` has or than a head may have. Its body isn't
--- longer than a body may be.
+-- The head `whole` has at least one byte, and not more bytes than `bytes` has or than a head may have. The body of this
+-- head isn't longer than a body may be.
 pub record IsBounded (bytes : List ℕ) (whole : Head) : Type 0 where
   pub some : 0 < whole.length
   pub there : whole.length ≤ length bytes
@@ -50,8 +52,8 @@ pub record IsBounded (bytes : List ℕ) (whole : Head) : Type 0 where
   pub body : whole.body ≤ BODY_BYTES
 
 -- The finding in `bytes` is within the limits. If more bytes are needed, `bytes` has fewer bytes than a head may have.
--- If the bytes are refused, the status is one with which connections are refused. If a head was found, it and its body
--- aren't longer than they may be (`IsBounded`).
+-- If the bytes are refused, the status is one with which connections are refused. If a head was found, the head and its
+-- body aren't longer than they may be (`IsBounded`).
 abbrev pub IsWithinLimits : List ℕ → Found → Type 0
 IsWithinLimits bytes Need = length bytes < HEAD_BYTES
 IsWithinLimits bytes (Refused status) = is_refusal status ≡ true

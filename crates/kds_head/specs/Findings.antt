@@ -14,15 +14,15 @@ is_somewhere Nowhere = false
 is_somewhere (Once value) = true
 is_somewhere Often = true
 
--- The value of the header that has a name, by what was seen of this name, or None unless exactly one header has it. The
--- value is a range of the bytes `front`.
+-- By what was seen of a name: the value of the header with this name if exactly one header has the name, and otherwise
+-- None. The value is a range of the bytes `front`.
 abbrev pub value_in : List ℕ → Seen → Option (List ℕ)
 value_in front Nowhere = None
 value_in front (Once value) = Some (span_bytes front value)
 value_in front Often = None
 
--- What was seen of the name `name` is right for `headers`: it says whether some header has the name, and it has the
--- value of the header if exactly one has it.
+-- What was seen of the name `name` (`seen`) is right for `headers`. `seen` says whether some header has this name, and
+-- has the header's value if exactly one header has the name.
 pub record IsSeen (name front : List ℕ) (headers : Headers) (seen : Seen) : Type 0 where
   pub some : is_somewhere seen ≡ nat_lt 0 (count_named name headers)
   pub value : value_in front seen ≡ only_value name headers

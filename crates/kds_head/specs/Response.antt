@@ -29,8 +29,9 @@ is_refusal status = status == 400 || status == 404 || status == 405 || status ==
 abbrev pub is_status : ℕ → Bool
 is_status status = status == 200 || is_refusal status
 
--- The response is one that the service gives. If the first Boolean is true, it is an answer in JSON, with the status
--- 200 or 400. Otherwise it refuses the connection: it has no body, and the connection closes after it (`close`).
+-- The response is one that the service gives. If the first Boolean is true, the response is an answer in JSON, with the
+-- status 200 or 400. Otherwise the response refuses the connection: it has no body, and the connection closes after it
+-- (`close`).
 abbrev pub IsResponse : ℕ → List ℕ → Bool → Bool → Type 0
 IsResponse status body true close = (status ≡ 200) ⊎ (status ≡ 400)
 IsResponse status body false close = (is_refusal status ≡ true) × (body ≡ []) × (close ≡ true)

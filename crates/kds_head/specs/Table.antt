@@ -19,7 +19,7 @@ unfoldable pub refused◌if◌else◌ : ℕ → Bool → Found → Found
 refused status if test else later = if test then Refused status else later
 
 -- What a head of `bytes` bytes leads to, by its method, its target, the minor version of HTTP and its headers. The
--- first check that it fails gives the status of the refusal. If it fails none, it is accepted (`Whole`).
+-- first check that the head fails gives the status of the refusal. If the head fails none, it is accepted (`Whole`).
 abbrev pub judged_by : ℕ → List ℕ → List ℕ → ℕ → Headers → Found
 judged_by bytes method target minor headers =
     refused 400 if nat_lt HEADERS (length headers) else
@@ -37,8 +37,8 @@ judged_by bytes method target minor headers =
       close = closes minor headers;
     })
 
--- What a head in the bytes `front` leads to, whose parts are the ranges `spans` of `front`, and the names and values of
--- whose headers are the ranges `headers`.
+-- What a head in the bytes `front` leads to. The parts of the head are the ranges `spans` of `front`, and the names and
+-- values of its headers are the ranges `headers` of `front`.
 abbrev pub judged_in : List ℕ → List HeaderSpan → RequestSpans → Found
 judged_in front headers spans =
     judged_by spans.len (slice_range front spans.method.start spans.method.end)

@@ -5,7 +5,8 @@ use Rattle.httparse.specs.Grammar.{is_token_byte, is_uri_byte}
 use Rattle.kds_head.specs.declared.target.Reached.{Reached}
 use Rattle.kds_head.specs.declared.target.Reached.TheVariants.{Blank, CarriageReturn, Method, Target, Other}
 
--- The part of a request in which its bytes end after the next byte `b`, by the part in which they ended before `b`.
+-- The part of a request in which its bytes end once the byte `b` has been added. The first argument is the part in
+-- which the bytes ended before.
 abbrev pub after_byte : Reached → ℕ → Reached
 after_byte Blank b = if b == 10 then Blank else if b
     == 13 then CarriageReturn else if is_token_byte b then Method else Other

@@ -18,8 +18,8 @@ is_byte_count text = nat_lt 0 (length text) && nat_le (length text) LENGTH_DIGIT
 unfoldable pub byte_count : List ℕ → Option ℕ
 byte_count text = if is_byte_count text then Some (digits_value 10 text) else None
 
--- The number in the only header Content-Length, or None if there isn't exactly one such header, or if its value doesn't
--- consist of 1 to 19 digits.
+-- The number in the only header Content-Length, or None if there isn't exactly one such header, or if the header's
+-- value doesn't consist of 1 to 19 digits.
 unfoldable pub body_length : Headers → Option ℕ
 body_length headers = option_and_then byte_count (only_value (codes "Content-Length") headers)
 
@@ -29,8 +29,8 @@ named_operation target =
     if starts_with nat_eq target (codes "Kinesis_20131202.") then drop (length (codes "Kinesis_20131202."))
     target else []
 
--- The operation that the only header X-Amz-Target names, or no bytes if there isn't exactly one such header or if it
--- names none (Kinesis API Reference, Making API Requests).
+-- The operation that the only header X-Amz-Target names, or no bytes if there isn't exactly one such header or if this
+-- header names no operation (Kinesis API Reference, Making API Requests).
 unfoldable pub operation : Headers → List ℕ
 operation headers = option_map_or named_operation (only_value (codes "X-Amz-Target") headers) []
 

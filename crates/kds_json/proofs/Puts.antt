@@ -1,5 +1,5 @@
--- If a PutRecord or PutRecords has no fault, its command is one that a request may ask for (`IsRequest`). If it has
--- one, the member that the fault names is valid UTF-8.
+-- If a PutRecord or PutRecords has no fault, its command is one that a request may ask for (`IsRequest`). If it has a
+-- fault, the name of the member in the fault is valid UTF-8.
 use Rattle.std.proofs.Common.{◌≡◌, ℕ, ◌+◌, ◌≤◌, ◌<◌, ◌^◌, ◌++◌, List, length, decimal, nat_le, Result, Ok, Err, IfSome}
 use Rattle.std.proofs.Common.{codes, refl, arith, is_some}
 use Rattle.std.specs.List.{AllByRecursion, sum_by}
@@ -37,8 +37,8 @@ item_reads d =
     (hash_reads key (codes "ExplicitHashKey") d refl)
     (λ hash is_hash. record { key = is_key; hash = is_hash; bytes = is_short })))
 
--- If a PutRecord has no fault, its command is one that a request may ask for. If it has one, the member that the fault
--- names is valid UTF-8.
+-- If a PutRecord has no fault, its command is one that a request may ask for. If it has a fault, the name of the member
+-- in the fault is valid UTF-8.
 pub put_reads : (d : Data) → Reads IsRequest (put_record d)
 unfolding put_record
 put_reads d =
@@ -95,8 +95,8 @@ within_are ds items counts are =
       bytes = grind (arith, nat_tests);
     })
 
--- If a PutRecords has no fault, its command is one that a request may ask for. If it has one, the member that the fault
--- names is valid UTF-8.
+-- If a PutRecords has no fault, its command is one that a request may ask for. If it has a fault, the name of the
+-- member in the fault is valid UTF-8.
 pub many_reads : (d : Data) → Reads IsRequest (put_records d)
 unfolding put_records
 many_reads d =

@@ -1,5 +1,5 @@
--- If a request has no fault, its command is one that a request may ask for (`IsRequest`). If it has one, the member
--- that the fault names is valid UTF-8.
+-- If a request has no fault, its command is one that a request may ask for (`IsRequest`). If it has a fault, the name
+-- of the member in the fault is valid UTF-8.
 use Rattle.std.proofs.Common.{◌≡◌, ℕ, List, Bool, Option, Some, None, Ok, Err, true, false, codes, arith, is_some, refl}
 use Rattle.std.specs.Str.{IsUtf8, bytes_eq}
 use Rattle.std.proofs.lemmas.Str.{IsUtf8-nil}
@@ -202,6 +202,6 @@ asked_reads operation body =
 pub asked_request : (operation body : List ℕ) (what : Command) → asked operation body ≡ Ok what → IsRequest what
 asked_request operation body what e = let is = rw e at (asked_reads operation body) in is
 
--- The member that the fault of a request names is valid UTF-8.
+-- The name of the member in the fault of a request is valid UTF-8.
 pub fault_text : (operation body : List ℕ) (f : Fault) → asked operation body ≡ Err f → IsUtf8 f.member
 fault_text operation body f e = let text = rw e at (asked_reads operation body) in text

@@ -1,6 +1,6 @@
--- One member of a request is read, and `f` reads the rest. A result is right (`Reads IsRequest`) if it is a command
--- that a request may ask for, or a fault that names valid UTF-8. If `f` gives a right result for each value that the
--- member may have, the reading of both gives a right result.
+-- One member of a request is read, and then `f` reads the rest. A result is right (`Reads IsRequest`) if it is a
+-- command that a request may ask for, or a fault whose member name is valid UTF-8. If `f` gives a right result for each
+-- value that the member may have, the whole reading gives a right result.
 use Rattle.std.proofs.Common.{ℕ, List, Option, Result, IfSome, codes, refl}
 use Rattle.std.specs.Prelude.{⊤}
 use Rattle.serde_json.specs.Data.{Data}
@@ -16,8 +16,8 @@ use Rattle.kds_json_members.specs.Results.{◌>>=◌}
 use Rattle.kds_json_members.proofs.Members.{Anything, IsPlain, Reads, absent_reads, anything, name_is, number_is}
 use Rattle.kds_json_members.proofs.Members.{optional_reads, required_reads, then_reads, token_reads}
 
--- If the member is required, `P` holds of each value that `reads` gives, and `f` gives a right result for each value of
--- which `P` holds, the reading gives a right result.
+-- Let the member be required. If `P` holds of each value that `reads` gives, and `f` gives a right result for each
+-- value of which `P` holds, the reading gives a right result.
 pub asks : {A : Type 0} (P : A → Type 0) (reads : Data → Option A) (name : List ℕ) (d : Data) (f : A
     → Result Command Fault) → IsPlain name
     → ((x : Data) → IfSome (reads x) P) → ((x : A) → P x → Reads IsRequest (f x))
@@ -45,7 +45,7 @@ may_take {A} default reads name d f plain k =
     then_reads (Anything A) IsRequest (optional_at default reads name d) f
     (optional_reads (Anything A) default reads name d plain tt (λ x. anything (reads x))) (λ x _. k x)
 
--- If the member is an optional limit, its default is a limit that a request may have, and `f` gives a right result for
+-- Let the member be an optional limit whose default is a limit that a request may have. If `f` gives a right result for
 -- each such limit, the reading gives a right result.
 pub limits : (default : ℕ) (name : List ℕ) (d : Data) (f : ℕ → Result Command Fault) → IsPlain name → IsLimit default
     → ((n : ℕ) → IsLimit n → Reads IsRequest (f n))
@@ -54,13 +54,13 @@ limits default name d f plain is k =
     then_reads IsLimit IsRequest (optional_at default (number_in 1 MOST) name d) f
     (optional_reads IsLimit default (number_in 1 MOST) name d plain is (number_is 1 MOST)) k
 
--- If the member must be absent, which gives a fault if it is there, and `f` gives a right result, the reading gives a
--- right result.
+-- Let the member be one that must be absent. If `f` gives a right result, so does the reading: it gives a fault if the
+-- member is given, and otherwise the result of `f`.
 pub lacks : (name : List ℕ) (d : Data) (f : ⊤ → Result Command Fault) → IsPlain name → ((x : ⊤) → Reads IsRequest (f x))
     → Reads IsRequest (absent_at name d >>= f)
 lacks name d f plain k = then_reads (Anything ⊤) IsRequest (absent_at name d) f (absent_reads name d plain) (λ x _. k x)
 
--- If the member is a token, and `f` gives a right result for each thing that a token stands for, the reading gives a
+-- Let the member be a token. If `f` gives a right result for each thing that a token stands for, the reading gives a
 -- right result.
 pub takes_token : {A : Type 0} (stands_for : List ℕ → Option A) (name : List ℕ) (d : Data) (f : A
     → Result Command Fault) → IsPlain name

@@ -1,6 +1,6 @@
 -- The value that each kind of member is read as has the property of this kind: it is a stream's name, a number in its
--- range, a partition key, a payload that fits, or a hash key. If a member has a fault, the name in the fault is valid
--- UTF-8.
+-- range, a partition key, a payload that fits, or a hash key. If a member has a fault, the member's name in the fault
+-- is valid UTF-8.
 use Rattle.std.proofs.Common.{◌≡◌, ℕ, ◌+◌, ◌≤◌, ◌<◌, ◌^◌, List, [], ◌∷◌, length, Bool, true, false, nat_le, nat_lt}
 use Rattle.std.proofs.Common.{◌&&◌, Option, Some, None, option_map}
 use Rattle.std.proofs.Common.{option_and_then, Result, Ok, Err, IfSome, if◌then◌else◌, refl, arith}
@@ -33,8 +33,8 @@ use Rattle.kds_json_members.proofs.Digests.{hash_fits}
 
 -- ---- Steps that give a value or a fault
 
--- If the step `r` gives a value, `P` holds of this value. If it gives a fault, the member that the fault names is valid
--- UTF-8.
+-- If the step `r` gives a value, `P` holds of this value. If the step gives a fault, the name of the member in the
+-- fault is valid UTF-8.
 abbrev pub Reads : {A : Type 0} → (A → Type 0) → Result A Fault → Type 0
 Reads P r = MatchResult r P (λ f. IsUtf8 f.member)
 
@@ -42,16 +42,16 @@ Reads P r = MatchResult r P (λ f. IsUtf8 f.member)
 abbrev pub Anything : (A : Type 0) → A → Type 0
 Anything A x = Unit {0}
 
--- If `P` holds of the value of the step `r`, and `Q` holds of the value of the step `f` after each such value, `Q`
--- holds of the value of both steps together. The same goes for the members that faults name.
+-- Let `Reads P` hold of the step `r`, and let `Reads Q` hold of the step `f` after each value with the property `P`.
+-- Then `Reads Q` holds of both steps together.
 pub then_reads : {A B : Type 0} (P : A → Type 0) (Q : B → Type 0) (r : Result A Fault) (f : A → Result B Fault)
     → Reads P r
     → ((x : A) → P x → Reads Q (f x)) → Reads Q (r >>= f)
 then_reads P Q (Ok x) f h k = k x h
 then_reads P Q (Err e) f h k = h
 
--- If `P` holds of the value of an option, if there is one, it holds of the value of the step that takes it from the
--- option. The name in the fault must be valid UTF-8.
+-- If `P` holds of the value that the option `o` has, it holds of the value that the step `some_or` takes from the
+-- option. If there is no value, the name in the fault must be valid UTF-8.
 pub some_or_reads : {A : Type 0} (P : A → Type 0) (kind : FaultKind) (name : List ℕ) (o : Option A) → IsUtf8 name
     → IfSome o P
     → Reads P (some_or kind name o)
@@ -69,14 +69,15 @@ pub anything : {A : Type 0} (o : Option A) → IfSome o (Anything A)
 anything (Some x) = tt
 anything None = tt
 
--- If `P` holds of each value that `f` gives, it holds of the value that `f` gives for the value of an option, if there
--- are any.
+-- If `P` holds of each value that `f` gives, it holds of the value that `f` gives for the value of an option. If either
+-- value is missing, nothing is claimed.
 pub and_then_has : {A B : Type 0} (P : B → Type 0) (f : A → Option B) (o : Option A) → ((x : A) → IfSome (f x) P)
     → IfSome (option_and_then f o) P
 and_then_has P f (Some x) h = h x
 and_then_has P f None h = tt
 
--- If `P` holds of `x` when the Bool is true, it holds of the value of the option that has `x` just then.
+-- If `P` holds of `x` when the Bool is true, it holds of the value of the option that has `x` only when the Bool is
+-- true.
 pub kept_if : {A : Type 0} (P : A → Type 0) (b : Bool) (x : A) → (b ≡ true → P x)
     → IfSome (if b then Some x else None) P
 kept_if P true x h = h refl
@@ -197,11 +198,11 @@ absent_of_reads : (name : List ℕ) (o : Option Data) → IsUtf8 name → Reads 
 absent_of_reads name (Some x) text = text
 absent_of_reads name None text = tt
 
--- If a member that must be absent is given, the member that the fault names is valid UTF-8.
+-- If a member that must be absent is given, the name of the member in the fault is valid UTF-8.
 pub absent_reads : (name : List ℕ) (d : Data) → IsPlain name → Reads (Anything ⊤) (absent_at name d)
 absent_reads name d plain = absent_of_reads name (member_of name d) (plain_text name plain)
 
--- If a member with a token has a fault, the member that the fault names is valid UTF-8.
+-- If a member with a token has a fault, the name of the member in the fault is valid UTF-8.
 pub token_reads : {A : Type 0} (stands_for : List ℕ → Option A) (name : List ℕ) (d : Data) → IsPlain name
     → Reads (Anything A) (token_at stands_for name d)
 unfolding token_at

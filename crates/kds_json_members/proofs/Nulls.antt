@@ -4,7 +4,8 @@ use Rattle.serde_json.specs.Data.{Data, null, boolean, number, string, array, ob
 use Rattle.serde_json.specs.Find.{as_str}
 use Rattle.kds_json_members.specs.Member.{unless_null}
 
--- The string that a value is, if it is one, is the same whether null counts as a value or not.
+-- The string that an optional JSON value is, or None if it is no string, is the same whether or not null counts as
+-- absent.
 pub text_unless_null : (o : Option Data) → option_and_then as_str (option_and_then unless_null o)
     ≡ option_and_then as_str o
 text_unless_null None = refl

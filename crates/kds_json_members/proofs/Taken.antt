@@ -19,7 +19,7 @@ use Rattle.kds_json_members.specs.Member.{unless_null, member_of}
 abbrev Entry : Type 0
 Entry = String Global × Value
 
--- Whether an entry of the map has the name `name`, by the name of the entry.
+-- Whether an entry of the map has the name `name`. The second argument is the name of the entry.
 abbrev pub at_name : List ℕ → String Global → Bool
 at_name name = is_at (λ k. slice_cmp nat_cmp name (string_bytes k))
 

@@ -20,8 +20,8 @@ use Rattle.kds_json_members.specs.Member.{member_of, optional_at}
 abbrev pub name_in : Data → Option (List ℕ)
 name_in x = option_and_then name_of (as_str x)
 
--- The name of a stream that the JSON value `x` has, wrapped in Some, or None if `x` has no such name. It is wrapped
--- because an optional member without a value gives None.
+-- The name of a stream that the JSON value `x` has, wrapped in Some, or None if `x` has no such name. The name is
+-- wrapped because an optional name is read as an Option: None if the member is absent, or Some with the name.
 abbrev pub some_name_in : Data → Option (Option (List ℕ))
 some_name_in x = option_map Some (name_in x)
 
@@ -91,8 +91,8 @@ blob_in key_bytes x = option_and_then (blob_of key_bytes) (as_str x)
 abbrev pub id_in : Data → Option ℕ
 id_in x = option_and_then id_of (as_str x)
 
--- The number of the shard whose ID the JSON value `x` has, wrapped in Some, or None if `x` has no such ID. It is
--- wrapped because an optional member without a value gives None.
+-- The number of the shard whose ID the JSON value `x` has, wrapped in Some, or None if `x` has no such ID. The number
+-- is wrapped because an optional ID is read as an Option: None if the member is absent, or Some with the number.
 abbrev pub some_id_in : Data → Option (Option ℕ)
 some_id_in x = option_map Some (id_in x)
 
@@ -101,8 +101,8 @@ some_id_in x = option_map Some (id_in x)
 abbrev pub hash_in : Data → Option ℕ
 hash_in x = option_and_then (number_of 128) (as_str x)
 
--- The hash key of a record: the one in the member `name` of `d` if it is given, and otherwise that of the partition key
--- `key`. If the member is given and is no hash key, the result is a fault.
+-- The hash key of a record. If the member `name` of `d` is given, it is the hash key in this member, and otherwise it
+-- is the hash of the partition key `key`. If the member is given and is no hash key, the result is a fault.
 unfoldable pub hash_at : List ℕ → List ℕ → Data → Result ℕ Fault
 hash_at key name d = optional_at (key_hash key) hash_in name d
 

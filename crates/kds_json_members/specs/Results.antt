@@ -32,8 +32,8 @@ abbrev pub Fails : {A : Type 0} → Stop → Result A Fault → Type 0
 Fails stop.Memory step = Unit {0}
 Fails (stop.Fault f) step = step ≡ Err f
 
--- What a function returned is right for `step`: `step` gives the value that it returned, as `view` shows it, or the
--- fault that it returned. If memory ran out, nothing more is known.
+-- What a function returned is right for `step`. If the function returned a value, `step` gives this value as `view`
+-- shows it. If the function returned a fault, `step` gives this fault. If memory ran out, nothing more is known.
 abbrev pub Gives : {X A : Type 0} → (X → A) → Result X Stop → Result A Fault → Type 0
 Gives view (Ok x) step = step ≡ Ok (view x)
 Gives view (Err e) step = Fails e step

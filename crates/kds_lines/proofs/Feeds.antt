@@ -27,7 +27,7 @@ use Rattle.kds_lines.proofs.Pieces.{begins_more, too_long_more}
 
 -- ---- The output that waits is written
 
--- If all of the output that waits is written, no output waits.
+-- If all of the output that waits is written, then no output waits any more (`Wrote`).
 pub flushed : (start before now : Option (List ℕ)) (output waits missing : List ℕ)
     → Wrote start before output waits missing → Appends before now waits → Wrote start now output [] missing
 flushed start before now output waits missing w a = record {
@@ -121,8 +121,9 @@ module _ (before took : List (List ℕ) → Type 0) (broke refuses : List (List 
     unwritten = all;
   }
 
-  -- The bytes `a` and a line feed end the held line. If memory runs out when the taker is handed this line, whether it
-  -- takes it whole, in part or not, the reading is halted with Memory.
+  -- The bytes `a` and a line feed end the held line, and neither this line nor the input is too long. If memory runs
+  -- out when the taker is handed this line, the reading is halted with Memory, whether the taker takes the line whole,
+  -- in part or not at all.
   line_breaks : (y a held waits : List ℕ) (ts : List (List ℕ)) (used : ℕ) (start now : Option (List ℕ))
       → Fed y ts used held → NoFeed a
       → is_too_long (length (held ++ a)) (used + length (held ++ a) + 1) ≡ false → Wrote start now (output ts) waits []
@@ -234,8 +235,8 @@ module _ (before took : List (List ℕ) → Type 0) (broke refuses : List (List 
     unwritten = h.unwritten;
   }
 
-  -- If output is lost after the taker took the lines `ts`, the first of the bytes `y`, the reading is halted with
-  -- Write, and no output waits.
+  -- If output is lost after the taker took the lines `ts`, which are the first lines of the bytes `y`, the reading is
+  -- halted with Write, and no output waits.
   lost_there : (y : List ℕ) (ts : List (List ℕ)) (start now : Option (List ℕ)) → Begins y ts → took ts
       → Loses start now (output ts)
       → Halted Write took broke refuses output y [] start now
@@ -249,8 +250,8 @@ module _ (before took : List (List ℕ) → Type 0) (broke refuses : List (List 
     unwritten = tt;
   }
 
-  -- If the waiting output can't all be written after the reading was halted with `o`, it is halted with Memory if `o`
-  -- is Memory, and otherwise with Write.
+  -- If the waiting output can't all be written after the reading was halted with `o`, the reading is halted with Memory
+  -- if `o` is Memory, and otherwise with Write.
   pub halted_lost : (o : Outcome) (y waits : List ℕ) (start mid now : Option (List ℕ))
       → Halted o took broke refuses output y waits start mid
       → ((whole missing : List ℕ) → Wrote start mid whole waits missing → Loses start now whole)
@@ -315,7 +316,7 @@ module _ (before took : List (List ℕ) → Type 0) (broke refuses : List (List 
     unwritten = h.unwritten;
   }
 
-  -- Before any byte of `piece` is fed, its fed part is empty, and all of it remains.
+  -- Before any byte of `piece` is fed, the fed part of `piece` is empty, and all of `piece` remains.
   pub lines_begin : (fed piece : List ℕ) (line_buffer : LineBuffer) (start now : Option (List ℕ))
       → Stands took output fed line_buffer start now → FedLines took output fed piece piece line_buffer start now
   lines_begin fed piece line_buffer start now st = record {
@@ -335,7 +336,8 @@ module _ (before took : List (List ℕ) → Type 0) (broke refuses : List (List 
     stands = subst (λ (z : List ℕ). Stands took output z new start now) (append_assoc fed f.front line) st;
   }
 
-  -- If the reading is halted in the line with which the remaining bytes of `piece` begin, it is halted in `piece`.
+  -- If the reading is halted in the line with which the remaining bytes of `piece` begin, the reading is halted in
+  -- `piece` too.
   pub lines_stop : (fed piece rest line next waits : List ℕ) (old : LineBuffer) (start mid now : Option (List ℕ))
       (o : Outcome) → IsFeedStop o
       → (f : FedLines before output fed piece rest old start mid) → rest ≡ line ++ next
@@ -414,7 +416,7 @@ hold_over y a len used held ts el small f n over =
     let o = some_over used (held ++ a) small over' in
     more_over y a ts used held f n o.0 o.1
 
--- If bytes without a line feed are added to the held bytes, `Fed` holds with them.
+-- If the bytes `a` without a line feed are fed after `y`, the held bytes with `a` at their end are held (`Fed`).
 pub hold_fed : (y a : List ℕ) (used : ℕ) (held now : List ℕ) (ts : List (List ℕ)) → now ≡ held ++ a → Fed y ts used held
     → NoFeed a → Fed (y ++ a) ts used now
 hold_fed y a used held now ts e f n = rw e (more_fed y a ts used held f n)
@@ -440,7 +442,7 @@ not_over len used a b = grind (arith, common_steps)
 
 module _ (took : List (List ℕ) → Type 0) (broke refuses : List (List ℕ) → List ℕ → Type 0) (output : List (List ℕ)
     → List ℕ) where
-  -- If the source fails, which keeps its bytes, a running reading is halted with Read.
+  -- If the source fails and keeps its bytes, a running reading is halted with Read.
   pub halted_read : (all left after start now : Option (List ℕ)) (line_buffer : LineBuffer)
       → Running took output all left line_buffer start now → Keeps left after
       → HaltedAfter Read took broke refuses output all after start now
@@ -482,7 +484,7 @@ module _ (took : List (List ℕ) → Type 0) (broke refuses : List (List ℕ) �
       → (lined x).texts ≡ ts ++ (b ys).0
   begun x fed ys ts e b = ap (λ z. (lined z).texts) e ∙ (b ys).1
 
-  -- If memory ran out, `Told` holds of the reading, whether the taker took the next line whole, in part or not.
+  -- If memory ran out, `Told` holds of the reading, whether the taker took the next line whole, in part or not at all.
   told_broken : (x fed ys : List ℕ) (start now : Option (List ℕ)) → x ≡ fed ++ ys
       → (h : Halted Memory took broke refuses output fed [] start now)
       → HasTakenFed Memory took broke fed h.texts → Told Memory took broke refuses output x (Some ys) start now
@@ -521,7 +523,7 @@ module _ (took : List (List ℕ) → Type 0) (broke refuses : List (List ℕ) �
   told_at (Unfinished n) x fed ys start now k e h = absurd k
 
   -- If the reading was halted with `o` before the input's end, and the source tells its bytes, `Told` holds of the
-  -- reading of all of them.
+  -- reading of all these bytes.
   pub told_halt : (o : Outcome) (all left start now : Option (List ℕ)) → IsStop o
       → HaltedAfter o took broke refuses output all left start now
       → IfSome all (λ bytes. Told o took broke refuses output bytes left start now)

@@ -97,7 +97,7 @@ onto_nothing : (ps : List (List ℕ)) → IsCut ps → ps ≡ onto_piece [] ps
 onto_nothing [] c = cc
 onto_nothing (q ∷ qs) c = refl
 
--- If the bytes `a` without a line feed come before `z`, they belong to the first part.
+-- If the bytes `a` without a line feed come before the bytes `z`, then `a` belongs to the first part of both together.
 pieces_onto : (a z : List ℕ) → NoFeed a → pieces (a ++ z) ≡ onto_piece a (pieces z)
 pieces_onto [] z n = onto_nothing (pieces z) (pieces_cut z)
 pieces_onto (b ∷ a) z n = slice_split-cons_no is_feed b (a ++ z) n.0 ∙ ap (onto_first b) (pieces_onto a z n.1)
@@ -163,8 +163,8 @@ lined_over used a (q ∷ r ∷ rs) c n h =
 
 -- ---- Bytes are fed
 
--- The bytes `a` and a line feed end the held line. The lines with them are the lines so far, this line, and those of
--- the bytes `z` that follow. If this line or the input is too long, the lines end before it.
+-- The bytes `a` and a line feed end the held line, and the bytes `z` follow. Then the lines are those so far, this
+-- line, and the lines of `z`. If this line or the input is too long, the lines end before this line.
 feed_goes : (y a z : List ℕ) (ts : List (List ℕ)) (used : ℕ) (held : List ℕ) → Fed y ts used held → NoFeed a
     → lined ((y ++ (a ++ 10 ∷ [])) ++ z)
     ≡ preceded_by ts (cond (is_too_long (length (held ++ a)) (used + length (held ++ a) + 1)) (ended too_long)
@@ -175,8 +175,8 @@ feed_goes y a z ts used held f n =
     ap lined whole_y ∙ f.goes_on (a ++ 10 ∷ z) ∙ ap (λ w. preceded_by ts (lined_from used (pieces w))) whole_held
     ∙ ap (preceded_by ts) (lined_first used (held ++ a) z (no_feed-append held a f.no_feed n))
 
--- The bytes `a` and a line feed end the held line. If neither this line nor the input is too long, it is one more whole
--- line, and no bytes are held.
+-- The bytes `a` and a line feed end the held line. If neither this line nor the input is too long, this line is one
+-- more whole line, and no bytes are held.
 pub line_fed : (y a : List ℕ) (ts : List (List ℕ)) (used : ℕ) (held : List ℕ) → Fed y ts used held → NoFeed a
     → is_too_long (length (held ++ a)) (used + length (held ++ a) + 1) ≡ false
     → Fed (y ++ (a ++ 10 ∷ [])) (ts ++ (held ++ a) ∷ []) (used + length (held ++ a) + 1) []

@@ -1,7 +1,7 @@
 -- Defines what is true while an input is read line by line: which lines the taker took, what was written, and why the
 -- reading stopped. Of a taker, `took texts` says that it took just the lines `texts`, and `output texts` is its output
--- for them. `refuses texts text` says that it stops at the line `text` after them, and `broke texts text` that it then
--- took `text` in part because memory ran out.
+-- for these lines. `refuses texts text` says that the taker stops at the line `text` after `texts`. `broke texts text`
+-- says that it took `text` in part after `texts`, because memory ran out.
 use Rattle.std.specs.Prelude.{◌≡◌, ◌⊎◌, ℕ, ◌+◌, List, [], ◌∷◌, ◌++◌, length, Result, Err}
 use Rattle.std.specs.declared.option.Option.{Option}
 use Rattle.std.specs.Io.KnownBytes.{Consumes}
@@ -12,9 +12,9 @@ use Rattle.kds_lines.specs.declared.outcome.Outcome.{Outcome}
 use Rattle.kds_lines.specs.declared.outcome.Outcome.TheVariants.{Stopped, TooLong, Read, Write, Memory}
 use Rattle.kds_lines.specs.declared.line_buffer.LineBuffer.{LineBuffer}
 
--- The bytes `fed` were fed to the line buffer. The taker took their whole lines, the line buffer counts them, and it
--- holds the bytes after them. Of the output for these lines, a part was written, which took the sink's bytes from
--- `start` to `now`, and the rest waits in the line buffer.
+-- The bytes `fed` were fed to the line buffer. The taker took the whole lines of `fed`. The line buffer counts these
+-- lines, and holds the bytes after them. Of the output for these lines, a first part was written, which took the sink's
+-- bytes from `start` to `now`, and the rest waits in the line buffer.
 pub record Stands (took : List (List ℕ) → Type 0) (output : List (List ℕ)
     → List ℕ) (fed : List ℕ) (line_buffer : LineBuffer)
     (start now : Option (List ℕ)) : Type 0 where
@@ -37,8 +37,8 @@ Stops Write refuses fed texts = Unit {0}
 Stops Memory refuses fed texts = Unit {0}
 Stops _ refuses fed texts = ⊥
 
--- The taker took the lines `texts` of the bytes `fed`. If the outcome is Memory, it may instead have taken `texts` and
--- a part of the next line.
+-- The taker took the lines `texts` of the bytes `fed`. If the outcome is Memory, the taker may instead have taken
+-- `texts` and a part of the next line.
 abbrev pub HasTakenFed : Outcome → (List (List ℕ) → Type 0) → (List (List ℕ) → List ℕ → Type 0) → List ℕ → List (List ℕ)
     → Type 0
 HasTakenFed Memory took broke fed texts =
@@ -46,9 +46,9 @@ HasTakenFed Memory took broke fed texts =
 HasTakenFed _ took broke fed texts = took texts
 
 -- The bytes `fed` were fed when the reading stopped with `outcome`. The taker took the first lines of `fed`
--- (`HasTakenFed`), and `Stops` says why it took no more. Of the output for these lines, a part was written, which took
--- the sink's bytes from `start` to `now`, and then `waits` waits. More output is missing only if the sink failed or
--- memory ran out.
+-- (`HasTakenFed`), and `Stops` says why it took no more. Of the output for these lines, a first part was written, which
+-- took the sink's bytes from `start` to `now`. The next part, `waits`, waits to be written. More output is missing only
+-- if the sink failed or memory ran out.
 pub record Halted (outcome : Outcome) (took : List (List ℕ) → Type 0) (broke refuses : List (List ℕ) → List ℕ → Type 0)
     (output : List (List ℕ) → List ℕ) (fed waits : List ℕ) (start now : Option (List ℕ)) : Type 0 where
   pub texts : List (List ℕ)
@@ -59,8 +59,8 @@ pub record Halted (outcome : Outcome) (took : List (List ℕ) → Type 0) (broke
   pub wrote : Wrote start now (output texts) waits missing
   pub unwritten : Unwritten outcome missing
 
--- After the bytes `fed`, a first part of `piece` was fed too, and `Stands` holds. The bytes `rest` are the part of
--- `piece` that wasn't fed.
+-- After the bytes `fed`, a first part of `piece` was fed too, and the line buffer stands for all of these bytes
+-- (`Stands`). The bytes `rest` are the part of `piece` that wasn't fed.
 pub record FedLines (took : List (List ℕ) → Type 0) (output : List (List ℕ) → List ℕ) (fed piece rest : List ℕ)
     (line_buffer : LineBuffer)
     (start now : Option (List ℕ)) : Type 0 where
@@ -84,8 +84,8 @@ module _ (took took_now : List (List ℕ) → Type 0) (output : List (List ℕ) 
   FeedsFront piece rest = (fed : List ℕ) (start : Option (List ℕ)) → Stands took output fed before start held
       → FedLines took_now output fed piece rest after start now
 
-  -- Whatever was fed before, the step feeds `tail`, which has no line feed, and a line feed. These bytes end the line
-  -- that the line buffer holds.
+  -- Whatever was fed before, if `tail` has no line feed, the step feeds `tail` and then a line feed. These bytes end
+  -- the line whose beginning the line buffer holds.
   abbrev pub EndsLine : List ℕ → Type 0
   EndsLine tail =
       (fed : List ℕ) (start : Option (List ℕ)) → Stands took output fed before start held → NoFeed tail
@@ -98,8 +98,8 @@ module _ (took took_now : List (List ℕ) → Type 0) (output : List (List ℕ) 
         (fed : List ℕ) (start : Option (List ℕ)) → Stands took output fed before start held
         → Halted outcome took_now broke refuses output (fed ++ piece) after.output start now
 
-    -- Whatever was fed before, the reading stops with `outcome` in the line that `tail`, which has no line feed, and a
-    -- line feed end.
+    -- Whatever was fed before, if `tail` has no line feed, the reading stops with `outcome` in the line that ends with
+    -- `tail` and a line feed.
     abbrev pub StopsInLine : Outcome → List ℕ → Type 0
     StopsInLine outcome tail =
         (fed : List ℕ) (start : Option (List ℕ)) → Stands took output fed before start held → NoFeed tail
@@ -148,20 +148,20 @@ module _ (took took_now : List (List ℕ) → Type 0) (output : List (List ℕ)
       → HaltedAfter outcome took_now broke refuses output all left_now start now
 
 -- The outcome of the reading if the output for a piece can't be written, by the result of feeding this piece. It is
--- Memory if memory ran out then, because a line may have been taken in part, and otherwise Write.
+-- Memory if memory ran out while the piece was fed, because a line may have been taken in part, and otherwise Write.
 abbrev pub lost_after : Result (Unit {0}) Outcome → Outcome
 lost_after (Err Memory) = Memory
 lost_after _ = Write
 
--- Why bytes that end no line can't be held, by the outcome. With TooLong, their line or the input is too long, and the
--- lines before it are `texts`. With Memory, nothing more is known. There is no other outcome.
+-- Why bytes that end no line can't be held, by the outcome. With TooLong, the line of these bytes or the input is too
+-- long, and the lines before this line are `texts`. With Memory, nothing more is known. There is no other outcome.
 abbrev pub HoldStops : Outcome → List ℕ → List (List ℕ) → Type 0
 HoldStops TooLong fed texts = IsTooLong fed texts
 HoldStops Memory fed texts = Unit {0}
 HoldStops _ fed texts = ⊥
 
--- The outcome is one with which a line may stop the reading: the taker stops at it, it or the input is too long, or
--- memory runs out.
+-- The outcome is one with which a line may stop the reading: the taker stops at this line, the line or the input is too
+-- long, or memory runs out.
 abbrev pub IsOwnStop : Outcome → Type 0
 IsOwnStop (Stopped n) = Unit {0}
 IsOwnStop TooLong = Unit {0}

@@ -36,8 +36,8 @@ ended e = record { texts = []; end = e }
 abbrev pub preceded : List ℕ → Lined → Lined
 preceded text l = record { texts = text ∷ l.texts; end = l.end }
 
--- How an input ends whose last part, after the last line feed, is given. The number `used` counts the bytes before this
--- part. There is no whole line in it.
+-- No lines, and how an input ends whose part after the last line feed is the second argument. The number `used` counts
+-- the bytes before this part.
 abbrev pub last_of : ℕ → List ℕ → Lined
 last_of used [] = ended whole
 last_of used (b ∷ bs) = ended (if is_too_long (length (b ∷ bs)) (used + length (b ∷ bs)) then too_long else unfinished)
@@ -75,8 +75,9 @@ pub record HasFeedAt (bytes : List ℕ) (at : ℕ) : Type 0 where
 abbrev pub preceded_by : List (List ℕ) → Lined → Lined
 preceded_by ts l = record { texts = ts ++ l.texts; end = l.end }
 
--- The whole lines of `bytes` are `texts`, within the limits. They have `used` bytes with their line feeds, and `held`
--- are the bytes after them, without a line feed. Whatever follows `bytes`, this is how the lines begin.
+-- The whole lines of `bytes` are `texts`, within the limits. These lines have `used` bytes with their line feeds, and
+-- `held` are the bytes after the lines, without a line feed. Whatever follows `bytes`, the lines are `texts`, and then
+-- those of `held` with what follows.
 pub record Fed (bytes : List ℕ) (texts : List (List ℕ)) (used : ℕ) (held : List ℕ) : Type 0 where
   pub goes_on : (more : List ℕ) → lined (bytes ++ more) ≡ preceded_by texts (lined_from used (pieces (held ++ more)))
   pub no_feed : NoFeed held

@@ -1,5 +1,5 @@
 -- Defines how the reading of an input ends, by the bytes that the source tells. Of a taker, `took texts` says that it
--- took just the lines `texts`, and `output texts` is its output for them.
+-- took just the lines `texts`, and `output texts` is its output for these lines.
 use Rattle.std.specs.Prelude.{◌≡◌, ◌⊎◌, ℕ, ◌+◌, List, [], ◌∷◌, ◌++◌, length, Some}
 use Rattle.std.specs.declared.option.Option.{Option}
 use Rattle.std.specs.Io.KnownBytes.{Appends}
@@ -26,14 +26,14 @@ Because Read refuses bytes left texts rest =
 Because Write refuses bytes left texts rest = Unit {0}
 Because Memory refuses bytes left texts rest = Unit {0}
 
--- The output `back` wasn't written. It is empty unless the sink failed or memory ran out.
+-- The output `back` wasn't written. `back` is empty unless the sink failed or memory ran out.
 abbrev pub Unwritten : Outcome → List ℕ → Type 0
 Unwritten Write back = Unit {0}
 Unwritten Memory back = Unit {0}
 Unwritten _ back = back ≡ []
 
--- The taker took the lines `texts`, and not the lines `rest` after them. If the outcome is Memory, it may have taken
--- the first of `rest` in part.
+-- The taker took the lines `texts`, and not the lines `rest` after them. If the outcome is Memory, the taker may have
+-- taken the first of `rest` in part.
 abbrev pub HasTaken : Outcome → (List (List ℕ) → Type 0) → (List (List ℕ) → List ℕ → Type 0) → List (List ℕ)
     → List (List ℕ) → Type 0
 HasTaken Memory took broke texts rest =
@@ -41,9 +41,9 @@ HasTaken Memory took broke texts rest =
 HasTaken _ took broke texts rest = took texts
 
 -- The reading of `bytes`, of which the source has `left` left, ended with `outcome`. The taker took the first of the
--- whole lines within the limits, and `Because` says why it took no more. A first part of its output for them was
--- written, which took the sink's bytes from `before` to `after`. All of it was written unless the sink failed or memory
--- ran out.
+-- whole lines within the limits, and `Because` says why it took no more. A first part of the taker's output for these
+-- lines was written, which took the sink's bytes from `before` to `after`. All of this output was written unless the
+-- sink failed or memory ran out.
 pub record Told (outcome : Outcome) (took : List (List ℕ) → Type 0) (broke refuses : List (List ℕ) → List ℕ → Type 0)
     (output : List (List ℕ) → List ℕ) (bytes : List ℕ) (left before after : Option (List ℕ)) : Type 0 where
   pub texts : List (List ℕ)

@@ -28,7 +28,7 @@ in_order-filter p (r ∷ rs) h =
 
 -- ---- The log
 
--- If the sequence number of the record `x` is above the last one of the log, and `x` arrived no earlier than the record
+-- Let the sequence number of the record `x` be above the last one of the log. If `x` arrived no earlier than the record
 -- `r` of the log, then `r` is before `x` (`IsBefore`).
 up_to_before : (last : Option ℕ) (r x : Logged) → IfSome last (λ n. n < x.seq) → IsUpTo last r → r.arrival ≤ x.arrival
     → IsBefore r x
@@ -54,8 +54,8 @@ orderly-append log x above arrival orderly =
           log.kept orderly.numbers) (omega arith, tt);
     }
 
--- A log stays orderly (`IsOrderly`) if it loses the records that arrived below `floor` and those with a sequence number
--- below `position`.
+-- A log stays orderly (`IsOrderly`) if it loses the records that arrived at a time below `floor` and those with a
+-- sequence number below `position`.
 pub orderly-left : (log : LogValue) (floor position : ℕ) → IsOrderly log
     → IsOrderly (record { kept = left_among floor position log.kept; last = log.last })
 orderly-left log floor position orderly = record {

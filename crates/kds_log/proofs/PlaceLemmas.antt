@@ -1,5 +1,5 @@
--- If records are in order, those that are left for a reader come after all others. A record is left if it arrived at or
--- above a floor (it isn't trimmed) and its sequence number is at or above a position.
+-- If records are in order, those that are left for a reader come after all others. A record is left if it arrived at a
+-- time at or above a floor (it isn't trimmed) and its sequence number is at or above a position.
 use Rattle.std.proofs.Common.{◌≡◌, ℕ, zero, suc, ◌<◌, ◌≤◌, Bool, true, false, List, [], ◌∷◌, length, get_or, drop, map}
 use Rattle.std.proofs.Common.{refl, sym, ap, ◌∙◌, arith}
 use Rattle.std.specs.Prelude.{cond, not, nat_le, max}
@@ -12,7 +12,8 @@ use Rattle.kds_defs.specs.Records.{Logged, is_left, left_among, logged}
 use Rattle.kds_defs.specs.declared.reply.Stored.{Stored}
 use Rattle.kds_log.specs.Log.{IsBefore, AreInOrder, since}
 
--- Whether the record `x` isn't left for a reader: it arrived below `floor`, or its sequence number is below `position`.
+-- Whether the record `x` isn't left for a reader: it arrived at a time below `floor`, or its sequence number is below
+-- `position`.
 abbrev pub is_past : ℕ → ℕ → Stored → Bool
 is_past floor position x = not (is_left floor position (logged x))
 

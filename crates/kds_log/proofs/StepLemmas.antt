@@ -30,8 +30,8 @@ ahead_none xs i le = ap (map logged) (drop_all i xs le)
 abbrev pub Grows : List Stored → ℕ → ℕ → List Logged → List Stored → Type 0
 Grows batch left room rest whole = batch ++ map stored (beginning left room rest) ≡ whole
 
--- If the next record `x` fits into the batch and is added to it, the collected records, followed by the batch of the
--- records after `x`, are still the whole batch (`Grows`).
+-- Suppose that the next record `x` fits into the batch and is added to it. Then the collected records, followed by the
+-- batch of the records after `x`, are still the whole batch (`Grows`).
 pub grows_by : (xs : List Stored) (i : ℕ) (x : Stored) → i < length xs → x ≡ get_or xs i x
     → (batch : List Stored) (left room bytes : ℕ) (whole : List Stored) → (left ≡ 0 → ⊥) → bytes ≡ (logged x).bytes
     → bytes ≤ room

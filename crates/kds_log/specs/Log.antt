@@ -3,13 +3,14 @@ use Rattle.std.specs.Prelude.{◌≡◌, ℕ, ◌+◌, ◌<◌, ◌≤◌, nat_l
 use Rattle.std.specs.List.{AllByRecursion, Contains, filter}
 use Rattle.kds_defs.specs.Records.{Logged}
 
--- A log: the records that it keeps, and the greatest sequence number that was ever appended to it, if any.
+-- A log: the records that it keeps, and the greatest sequence number of all records that were ever appended to it, if
+-- any.
 pub record LogValue : Type 0 where
   pub kept : List Logged
   pub last : Option ℕ
 
--- A log with its reserved memory: the records that it keeps, the greatest sequence number that was ever appended to it,
--- if any, and the number of further records for which memory is reserved.
+-- A log with its reserved memory: the records that it keeps, the greatest sequence number of all records that were ever
+-- appended to it, if any, and the number of further records for which memory is reserved.
 pub record LogWithReserve : Type 0 where
   pub kept : List Logged
   pub last : Option ℕ
@@ -30,13 +31,13 @@ abbrev pub AreInOrder : List Logged → Type 0
 AreInOrder [] = Unit {0}
 AreInOrder (r ∷ rs) = AllByRecursion (IsBefore r) rs × AreInOrder rs
 
--- There is a last sequence number, and the sequence number of the record `r` isn't above it.
+-- There is a last sequence number, and the sequence number of the record `r` isn't above this number.
 abbrev pub IsUpTo : Option ℕ → Logged → Type 0
 IsUpTo None r = ⊥
 IsUpTo (Some n) r = r.seq ≤ n
 
--- The invariant of a log: its records are in order, and none of their sequence numbers is above the greatest one that
--- was ever appended (`last`).
+-- The invariant of a log: its records are in order, and none of their sequence numbers is above that of the last record
+-- that was ever appended (`last`).
 pub record IsOrderly (log : LogValue) : Type 0 where
   pub order : AreInOrder log.kept
   pub numbers : AllByRecursion (IsUpTo log.last) log.kept
@@ -57,7 +58,7 @@ first_number (r ∷ rs) = Some r.seq
 abbrev pub since : ℕ → List Logged → List Logged
 since moment rs = filter (λ r. nat_le moment r.arrival) rs
 
--- The option has the least of the numbers `ns`, or it is `None` because `ns` is empty.
+-- The option has the least of the numbers `ns`, or it is `None` and `ns` is empty.
 abbrev pub IsLeast : List ℕ → Option ℕ → Type 0
 IsLeast ns None = ns ≡ []
 IsLeast ns (Some n) = Contains ns n × AllByRecursion (λ m. n ≤ m) ns
@@ -78,7 +79,7 @@ IsWithin limit room rs = (length rs ≤ limit) × (bytes_in rs ≤ room)
 abbrev pub IsPrefix : List Logged → List Logged → Type 0
 IsPrefix front rs = (rest : List Logged) × (rs ≡ front ++ rest)
 
--- A list has a first record, and its payload and key have at most `room` bytes together.
+-- A list has a first record, and the payload and the key of this record have at most `room` bytes together.
 abbrev pub FirstFits : ℕ → List Logged → Type 0
 FirstFits room [] = ⊥
 FirstFits room (r ∷ rs) = r.bytes ≤ room

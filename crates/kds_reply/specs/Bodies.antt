@@ -9,8 +9,8 @@ abbrev pub member_if : List ℕ → Option Data → Members → Members
 member_if name None ms = ms
 member_if name (Some d) ms = member name d ms
 
--- The members `ms` with a value set for `name`: the member `name` gets this value, or it is added in the order of the
--- names. If there is no value, the result is just `ms`.
+-- The members `ms` with a value set for `name`. If `ms` has the member `name`, this member gets the value, and
+-- otherwise the member is added in the order of the names. If there is no value, the result is just `ms`.
 abbrev pub put_if : List ℕ → Option Data → Members → Members
 put_if name None ms = ms
 put_if name (Some d) ms = put name d ms

@@ -7,8 +7,8 @@ use Rattle.kds_reply_texts.specs.Bodies.{number_data, id_data, list_data}
 use Rattle.kds_reply.specs.Bodies.{member_if, page_string}
 use Rattle.kds_reply_texts.specs.Children.{range_data}
 
--- The object for the sequence numbers of a shard: its starting one, and its ending one if the shard is closed (Kinesis
--- API Reference, SequenceNumberRange).
+-- The object for the sequence numbers of a shard: the starting sequence number, and the ending one if the shard is
+-- closed (Kinesis API Reference, SequenceNumberRange).
 unfoldable pub sequence_data : ℕ → Option ℕ → Data
 sequence_data start end =
     object

@@ -77,8 +77,8 @@ unfoldable pub summary_data : About → ℕ → Data
 summary_data about open_shards =
     object (member (codes "StreamDescriptionSummary") (description_summary_data about open_shards) no_members)
 
--- The reply to UpdateShardCount: the stream's name, how many open shards it had before, and how many it is to have
--- (Kinesis API Reference, UpdateShardCount, Response Elements).
+-- The reply to UpdateShardCount: the stream's name, how many open shards the stream had before, and how many it is to
+-- have (Kinesis API Reference, UpdateShardCount, Response Elements).
 unfoldable pub scaled_data : List ℕ → ℕ → ℕ → Data
 scaled_data name before target =
     object

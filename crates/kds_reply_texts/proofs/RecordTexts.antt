@@ -18,7 +18,7 @@ use Rattle.serde_json.specs.View.{items_of}
 use Rattle.kds_defs.specs.declared.reply.Stored.{Stored}
 use Rattle.kds_reply_texts.specs.Records.{record_data}
 
--- The pieces of a record make its text. Its numbers and its base64 text need no escaping.
+-- The pieces of the record `r`, one after another, make the text of this record.
 pub record_text : (r : Stored)
     → codes "{\"ApproximateArrivalTimestamp\":"
     ++ (decimal (r.arrival / 1000) ++ (codes ",\"Data\":\"" ++ (escape (encode_of standard r.payload)
@@ -29,8 +29,8 @@ pub record_text : (r : Stored)
 unfolding record_data escape_byte
 record_text r = simp append_assoc
 
--- Let `r` be the size of the base64 text of `n` bytes, or None if it doesn't fit into 64 bits. If `r` has a size, it is
--- the length of this text.
+-- Let `r` be the size of the base64 text of `n` bytes, or None if this size doesn't fit into 64 bits. If `r` has the
+-- size `size`, this is the length of the text.
 pub size_is : (n size : ℕ) (r : Option ℕ) → (encoded_size n true < 2 ^ 64 → r ≡ Some (encoded_size n true))
     → (2 ^ 64 ≤ encoded_size n true → r ≡ None) → r ≡ Some size → size ≡ encoded_size n true
 size_is n size r fits long is = elim (cases_lt (encoded_size n true) (2 ^ 64)) [
@@ -83,8 +83,8 @@ record_pieces r n payload name is_n is_payload is_name =
 
 -- ---- The elements of an array, one after another
 
--- If the element at the index `i` is appended, with a comma before it if it isn't the first (`later`), the text so far
--- and that of the elements still to come are together `all`, as before.
+-- The element at the index `i` is appended, with a comma before it if it isn't the first (`later`). If the text before
+-- and that of the elements still to come were together `all`, this is still so afterwards.
 pub next_item : {A : Type 0} (f : A → Data) (xs : List A) (i : ℕ) (x : A) (later : Bool) (out parted more all : List ℕ)
     → i < length xs → x ≡ get_or xs i x
     → parted ≡ out ++ comma_if later → more ≡ parted ++ compact_text (f x)

@@ -1,5 +1,5 @@
--- If a text is written over bytes of a vector, the vector has this text there. What is written in this way for a record
--- is the record's JSON text.
+-- If a text is written over some bytes of a vector, the vector has this text in their place. What the code writes in
+-- this way for a record is the record's JSON text.
 use Rattle.std.proofs.Common.{◌≡◌, ℕ, ◌+◌, ◌/◌, ◌≤◌, true, List, ◌++◌, length, take, drop, replicate, subst, ap, ◌∙◌}
 use Rattle.std.proofs.Common.{decimal, codes, arith, append_assoc}
 use Rattle.std.proofs.lemmas.List.{length-append, length-replicate, length-take-le, take_at}
@@ -38,8 +38,8 @@ over_part a k n xs ys text rest is inside end =
 front_first : (a b c rest : List ℕ) → (a ++ (b ++ c)) ++ rest ≡ a ++ (b ++ (c ++ rest))
 front_first a b c rest = simp append_assoc
 
--- If `front`, `payload` and `name` are the text before the payload, the payload and the escaped key of the record `r`,
--- what is written from them is the text of `r`.
+-- Let `front`, `payload` and `name` be the text before the payload, the payload and the escaped key of the record `r`.
+-- Then what is written from them is the text of `r`.
 pub record_over : (r : Stored) (front payload name : List ℕ)
     → front ≡ front_text (r.arrival / 1000) → payload ≡ r.payload → name ≡ escape (utf8_lossy r.key)
     → written_record front payload name r.seq ≡ compact_text (record_data r)
@@ -67,8 +67,8 @@ pub encoded_by : (e : GeneralPurpose) (m old new : List ℕ) → e ≡ standard 
     → IsEncodedOver standard m old new
 encoded_by e m old new is written = subst (λ (g : GeneralPurpose). IsEncodedOver g m old new) is written
 
--- If the `k` elements `new` are written over the first elements of a vector, its first `e` of these `k` elements are
--- the first `e` of `new`.
+-- If the `k` elements `new` are written over the first `k` elements of a vector, the first `e` of these are then the
+-- first `e` elements of `new`.
 pub over_vec : (e k : ℕ) (new items : List ℕ) → length new ≡ k → take e (take k (new ++ drop (length new) items))
     ≡ take e new
 over_vec e k new items size = ap (λ (s : List ℕ). take e s) (take_at new _ k size)

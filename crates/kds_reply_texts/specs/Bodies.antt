@@ -12,7 +12,7 @@ use Rattle.kds_token.specs.Ids.{shard_id}
 use Rattle.kds_token.specs.Tokens.{iter_token}
 use Rattle.kds_reply_texts.specs.Errors.{refusal_name, refusal_message}
 
--- The sequence number or hash key `n` as a JSON string, which has it in decimal.
+-- The sequence number or hash key `n` in decimal, as a JSON string.
 abbrev pub number_data : ℕ → Data
 number_data n = string (decimal n)
 
@@ -36,8 +36,8 @@ unfoldable pub failed_data : List ℕ → List ℕ → Data
 failed_data name message =
     object (member (codes "ErrorCode") (string name) (member (codes "ErrorMessage") (string message) no_members))
 
--- The object for one record of PutRecords: where it was stored, or the error of a PutRecord that the limits of shard
--- `sh` hold back.
+-- The object for one record of PutRecords: the place where the record was stored, or the error for a record that the
+-- limits of the shard `sh` hold back.
 abbrev pub outcome_data : Outcome → Data
 outcome_data (Stored p) = place_data p
 outcome_data (Throttled sh) = failed_data (refusal_name (refusal.Throttled sh)) (refusal_message (refusal.Throttled sh))

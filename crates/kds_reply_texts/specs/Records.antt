@@ -30,8 +30,8 @@ record_data r =
     (member (codes "SequenceNumber") (number_data r.seq) no_members))))
 
 -- The reply to GetRecords: the records `batch`, by how many milliseconds the reader is behind, and the next shard
--- iterator. At the end of a closed shard there is no next iterator. It is null then, and the shard's children are
--- included (Kinesis API Reference, GetRecords, Response Elements).
+-- iterator. At the end of a closed shard (None), the next iterator is null, and the shard's children are included
+-- (Kinesis API Reference, GetRecords, Response Elements).
 unfoldable pub records_data : List Stored → Option Iter → ℕ → List Shard → Data
 records_data batch (Some next) behind children =
     object

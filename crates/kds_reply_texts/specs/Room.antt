@@ -1,5 +1,5 @@
--- Defines the JSON text of a record that is written over zero bytes, which were appended before. This is done if the
--- record's key needs no escaping.
+-- Defines the JSON text of a record that the code writes over zero bytes, which it appended before. The code does this
+-- for a record whose key needs no escaping.
 use Rattle.std.specs.Prelude.{ℕ, List, ◌+◌, ◌++◌, true, codes, decimal, length}
 use Rattle.base64.specs.Engines.{standard}
 use Rattle.base64.specs.GeneralPurpose.{encode_of}

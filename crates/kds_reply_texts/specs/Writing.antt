@@ -17,8 +17,8 @@ abbrev pub id_tokens : Option ℕ → List Token
 id_tokens None = []
 id_tokens (Some shard) = string (shard_id shard) ∷ []
 
--- The call added `tokens` behind the JSON tokens of the writer `old`, which is now `new`, unless memory ran out. In
--- both cases, the bytes before the first token are unchanged.
+-- A call changed the writer `old` to `new`. If the result is Ok, the call added `tokens` behind the JSON tokens of
+-- `old`. In any case, the bytes before the first token are unchanged.
 pub record AddsTokens {A E : Type 0} (result : Result A E) (old new : Written) (tokens : List Token) : Type 0 where
   pub ok : OnOk result (new.tokens ≡ old.tokens ++ tokens)
   pub before : new.before ≡ old.before

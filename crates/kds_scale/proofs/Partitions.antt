@@ -233,7 +233,8 @@ pub record IsScalable (xs : List ShardState) : Type 0 where
   pub bounded : AllByRecursion IsBounded xs
   pub numbered : AreNumbered 0 xs
 
--- The first keys of the open shards (`open_starts`) rise strictly.
+-- If the shards `xs` are scalable (`IsScalable`), the first keys of the ranges of the open ones (`open_starts`) rise
+-- strictly.
 pub rise_open : (xs : List ShardState) → IsScalable xs → RiseFrom 0 (open_starts xs)
 rise_open xs ok = rising xs (λ k. once xs k ok.tiled ok.bounded)
 
@@ -249,7 +250,7 @@ pub record IsHomeOf (xs : List ShardState) (k : ℕ) (x : ShardState) : Type 0 w
   pub is_open_now : is_open x ≡ true
   pub contains : Covers x.range k
 
--- Each hash key `k` has a home `x` among the shards `xs` (`IsHomeOf`).
+-- If the shards `xs` are scalable (`IsScalable`), each hash key `k` has a home `x` among them (`IsHomeOf`).
 pub home_of : (xs : List ShardState) (k : ℕ) → IsScalable xs → k < 2 ^ 128 → (x : ShardState) × IsHomeOf xs k x
 home_of xs k ok below =
     let f = home_found xs 0 k ok.numbered (omega (arith, ok.tiled.times k below)) in
@@ -269,8 +270,8 @@ same_shard xs i j x y h g e = same_some x y (sym h ∙ ap (slice_get xs) e ∙ g
 
 -- ---- A merge at a start
 
--- A merge at the key `b` is of the shards `low` and `high`. The shard `low` is the home of the key before `b`, and ends
--- there. The shard `high` is the home of `b`, and starts at `b`.
+-- A merge at the key `b` is of the shards `low` and `high`. The shard `low` is the home of the key before `b`, and its
+-- range ends at this key. The shard `high` is the home of `b`, and its range starts at `b`.
 pub record Joins (xs : List ShardState) (b : ℕ) : Type 0 where
   pub low : ShardState
   pub high : ShardState
@@ -298,7 +299,8 @@ touches_by false xs b low high ok some below lh hh at is =
     let to : low.range.end < b = grind (arith, nat_tests) in
     omega (arith, at)
 
--- If `b` isn't 0 and an open shard starts at `b`, there are two shards for a merge at `b` (`Joins`).
+-- If the shards `xs` are scalable, `b` isn't 0 and an open shard starts at `b`, there are two shards for a merge at `b`
+-- (`Joins`).
 pub joins : (xs : List ShardState) (b : ℕ) → IsScalable xs → 0 < b → is_start (open_starts xs) b ≡ true → Joins xs b
 joins xs b ok some m =
     let s = starts_there xs b (sym (member xs b) ∙ m) in
@@ -385,7 +387,7 @@ left_by false h b k a t is sum at few =
     let z : a ≡ t = grind (arith, nat_tests) in
     ap (nat_lt 0) z ∙ ap (λ (r : Bool). not r && nat_lt 0 t) (sym is)
 
--- After the merge at `b`, the first keys of the open shards are those before it without `b`.
+-- After the merge at `b` of scalable shards, the first keys of the open shards are those before the merge, without `b`.
 pub starts_joined : (xs : List ShardState) (b : ℕ) (closing : Closing) (start : ℕ) → IsScalable xs → 0 < b → Joins xs b
     → open_starts (after_join xs b closing start) ≡ without b (open_starts xs)
 starts_joined xs b closing start ok some j =
@@ -454,8 +456,8 @@ bounded_new (suc n) start low high =
     let f = width_fits n (2 ^ 128 / suc n) (2 ^ 128 % suc n) (omega arith) (omega arith) high in
     bounded_uniform (2 ^ 128 / suc n) 0 n 0 start f.0 (omega (arith, f.1))
 
--- If `a + n * w` is below 2^128, so are the first keys of the last `n + 1` uniform ranges, which begin at `a` and have
--- the width `w`.
+-- Let the last `n + 1` uniform ranges begin at the key `a` and have the width `w`. If `a + n * w` is below 2^128, so
+-- are the first keys of these ranges.
 below_uniform : (w a n : ℕ) → a + n * w < 2 ^ 128
     → AllByRecursion (λ b. b < 2 ^ 128) (starts_of (uniform_from w a (suc n)))
 below_uniform w a zero fits = (omega arith, tt)
@@ -531,8 +533,8 @@ scalable_joined xs b closing start ok j =
 
 -- ---- A split at a key at which no open shard starts
 
--- A split at the key `b` is of the shard `shard`, which is the home of `b`. The key lies inside its range, so that
--- neither part is empty.
+-- A split at the key `b` is of the shard `shard`, which is the home of `b`. The key `b` lies inside the range of this
+-- shard, so that neither part of the range is empty.
 pub record Cuts (xs : List ShardState) (b : ℕ) : Type 0 where
   pub shard : ShardState
   pub is_home : IsHomeOf xs b shard
@@ -545,7 +547,8 @@ cuts_inside r b h differ = let low : r.start ≤ b = h.0 in let high : b ≤ r.e
 positive_so : (n : ℕ) → 1 ≤ n → nat_lt 0 n ≡ true
 positive_so n h = grind (arith, nat_tests)
 
--- If no open shard starts at the hash key `b`, there is a shard for a split at `b` (`Cuts`).
+-- If the shards `xs` are scalable and no open shard starts at the hash key `b`, there is a shard for a split at `b`
+-- (`Cuts`).
 pub cuts : (xs : List ShardState) (b : ℕ) → IsScalable xs → b < 2 ^ 128 → is_start (open_starts xs) b ≡ false
     → Cuts xs b
 cuts xs b ok below m =
@@ -592,7 +595,8 @@ few_by false b k a t is sum few gone = grind (arith, nat_tests)
 no_times : (n : ℕ) → nat_lt 0 n ≡ false → n ≡ 0
 no_times n h = grind (arith, nat_tests)
 
--- After the split at `b`, the first keys of the open shards are those before it with `b` added.
+-- After the split at `b` of scalable shards, the first keys of the open shards are those before the split, with `b`
+-- added.
 pub starts_cut : (xs : List ShardState) (b : ℕ) (closing : Closing) (start : ℕ) → IsScalable xs
     → is_start (open_starts xs) b ≡ false → Cuts xs b
     → open_starts (after_cut xs b closing start) ≡ with_start b (open_starts xs)

@@ -25,8 +25,8 @@ use Rattle.kds_server.specs.Steps.{Reads, IsReadStop}
 
 -- ---- The output is written
 
--- Let `Reads` hold for the session `s`. After its output was written, `Reads` holds for the session `new`, which has
--- sent this output.
+-- If `Reads` holds for the session `s`, and the output of `s` was then written, `Reads` holds for the session `new`,
+-- which has sent this output.
 pub flushed : (all left : Option (List ℕ)) (s new : SessionState) (start held now : Option (List ℕ))
     (given : List Command) (told : Answers) → Reads all left s start held given told
     → CarriesOn s new (sent_more s.output) → Appends held now s.output
@@ -61,8 +61,8 @@ tells_at bytes left given told start now closed w = inr w
 tells_at bytes left given told start now inside w = w
 tells_at bytes left given told start now (refused status) w = (status, w)
 
--- If the input has ended, the session is quiet and its output is empty, all responses were written, and `Tells` holds
--- with the status that the session's ending gives.
+-- If the input has ended, the session is quiet and its output is empty, then `Tells` holds with the status that the
+-- session's ending gives: all responses were written.
 tells_end : WholeText
     → (all left : Option (List ℕ)) (s : SessionState) (given : List Command) (told : Answers)
     (start now : Option (List ℕ)) → Reads all left s start now given told → IsQuiet s → s.output ≡ []
@@ -106,8 +106,8 @@ tells_over whole follows status (Some bytes) (Some rest) s asked given told star
     (written_by whole s bytes given told r.sent start now st quiet_now (ap (λ (z : SessionState). z.output) same)
     r.written))
 
--- If the source fails, which keeps its bytes, and the session is quiet and its output is empty, `Tells` holds with
--- Read: all responses to the bytes that were read were written.
+-- If the source failed and kept its bytes, the session is quiet and its output is empty, then `Tells` holds with Read:
+-- all responses to the bytes that were read were written.
 tells_read : WholeText
     → (all left after : Option (List ℕ)) (s : SessionState) (given : List Command) (told : Answers)
     (start now : Option (List ℕ)) → Reads all left s start now given told → IsQuiet s → s.output ≡ []
@@ -150,7 +150,7 @@ tells_part first (Some bytes) (Some rest) s given told start held now r o =
     (part_by first s r.fed rest given told r.sent start now r.stands
     (front_later start held now r.sent s.output r.written o))
 
--- If nothing is written, a prefix of any text is written, the empty one.
+-- To write nothing is to write a prefix of any text: the empty prefix.
 pub front_none : (held : Option (List ℕ)) (text : List ℕ) → AppendsFront held held text
 front_none held text = ([], text, refl, Appends-nil held)
 
@@ -176,8 +176,7 @@ tells_stop whole first Memory k all left after s asked given told start now r qu
     tells_so_far first all left s given told start now r
 tells_stop whole first other k all left after s asked given told start now r quiet same keeps = absurd k
 
--- Let `WrittenPart` hold with the commands `given` and then `what`. It also holds with `given` alone, if no turn of
--- `what` was made.
+-- If `WrittenPart` holds with the commands `given` and then `what`, `WrittenPart` also holds with `given` alone.
 part_asked : (bytes : List ℕ) (given : List Command) (told : Answers) (what : Command) (start now : Option (List ℕ))
     → WrittenPart bytes (given ++ what ∷ []) told start now → WrittenPart bytes given told start now
 part_asked bytes given told what start now p = record {
@@ -185,15 +184,15 @@ part_asked bytes given told what start now p = record {
   written = p.written;
 }
 
--- If the source tells its bytes, and `WrittenPart` holds with the commands `given` and then `what`, it holds with
--- `given` alone.
+-- If the source tells its bytes, and `WrittenPart` holds with the commands `given` and then `what`, `WrittenPart` also
+-- holds with `given` alone.
 pub tells_asked : (all : Option (List ℕ)) (given : List Command) (told : Answers) (what : Command)
     (start held : Option (List ℕ)) → IfSome all (λ bytes. WrittenPart bytes (given ++ what ∷ []) told start held)
     → IfSome all (λ bytes. WrittenPart bytes given told start held)
 tells_asked None given told what start held p = tt
 tells_asked (Some bytes) given told what start held p = part_asked bytes given told what start held p
 
--- If `WrittenPart` holds with the answers `told`, it also holds with one more answer `a` that wasn't written.
+-- If `WrittenPart` holds with the answers `told`, `WrittenPart` also holds with one more answer `a`.
 part_told : (bytes : List ℕ) (given : List Command) (told : Answers) (a : Result Reply Refusal)
     (start now : Option (List ℕ)) → WrittenPart bytes given told start now
     → WrittenPart bytes given (told ++ a ∷ []) start now
@@ -204,8 +203,8 @@ part_told bytes given told a start now p = record {
       (sym (append_assoc told (a ∷ []) later)) (p.written ms ending f (a ∷ later));
 }
 
--- If the source tells its bytes, and `WrittenPart` holds with the answers `told`, it holds with one more answer `a`
--- that wasn't written.
+-- If the source tells its bytes, and `WrittenPart` holds with the answers `told`, `WrittenPart` also holds with one
+-- more answer `a`.
 pub tells_told : (all : Option (List ℕ)) (given : List Command) (told : Answers) (a : Result Reply Refusal)
     (start held : Option (List ℕ)) → IfSome all (λ bytes. WrittenPart bytes given told start held)
     → IfSome all (λ bytes. WrittenPart bytes given (told ++ a ∷ []) start held)
@@ -235,7 +234,8 @@ some_none s e = cc
 
 -- ---- What holds of a status
 
--- If `P` implies `Q` for each status, and `P` holds of the status that is given, if there is one, so does `Q`.
+-- If `P` implies `Q` for each status, and `P` holds for the status in `o`, if there is one, then `Q` holds for the
+-- status in `o`, if there is one.
 pub if_some : (o : Option Status) (P Q : Status → Type 0) → ((s : Status) → P s → Q s) → IfSome o P → IfSome o Q
 if_some None P Q f p = tt
 if_some (Some s) P Q f p = f s p

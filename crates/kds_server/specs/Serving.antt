@@ -11,16 +11,17 @@ use Rattle.kds_server.specs.Around.{Around}
 use Rattle.kds_server.specs.Turns.{turns_at, followed, TurnsMade}
 use Rattle.kds_server.specs.Texts.{Tells}
 
--- The clock gave no moment from `before` to `now`. If the status is Memory, it may have given one, at which memory ran
--- out in a turn.
+-- The clock gave no moment from `before` to `now`. If the status is Memory, the clock may have given one moment, at
+-- which memory ran out in a turn.
 abbrev pub AsksAtMostOnce : Status → Option (List ℕ) → Option (List ℕ) → Type 0
 AsksAtMostOnce Memory before now = (now ≡ before) ⊎ ((at : ℕ) × Gives before (at ∷ []) now)
 AsksAtMostOnce _ before now = now ≡ before
 
 -- A connection that began after the history `h` ended with `status`. The pairs `input`, `clock` and `out` have what the
 -- source has left, the clock's moments and what the sink holds, before and after. The commands `given` became turns
--- with the answers `told`. If the source tells its bytes, the commands, what was written and the status are right for
--- these bytes (`Tells`).
+-- with the answers `told`. Then the clock gave no further moment, or one at which memory ran out in a turn
+-- (`AsksAtMostOnce`). If the source tells its bytes, the commands, what was written and the status are right for these
+-- bytes (`Tells`).
 pub record Served (h : List Turn) (input clock out : Around (Option (List ℕ))) (status : Status) : Type 0 where
   pub given : List Command
   pub told : Answers
@@ -35,7 +36,7 @@ abbrev pub turns_of : {h : List Turn} {input clock out : Around (Option (List �
 turns_of s = turns_at s.made.moments s.given
 
 -- For each history that the machine stands for before the connection, the connection made turns after this history and
--- ended with `status` (`Served`), and the machine then stands for this history followed by these turns.
+-- ended with `status` (`Served`). The machine then stands for this history followed by these turns.
 abbrev pub ServedAfter : {M : Type 0} → (M → List Turn → Type 0) → Around M
     → (input clock out : Around (Option (List ℕ))) (status : Status) → Type 0
 ServedAfter stands_for machine input clock out status =

@@ -1,4 +1,5 @@
--- Defines how far a connection is that is being served: what was read, which commands were taken, and what was written.
+-- Defines how far a connection that is being served has come: what was read, which commands were taken, and what was
+-- written.
 use Rattle.std.specs.Prelude.{ℕ, ◌≡◌, ◌+◌, ◌-◌, ◌*◌, ◌<◌, ◌≤◌, Bool, true, false, List, [], ◌∷◌, ◌++◌, length}
 use Rattle.std.specs.Prelude.{IfErr, IfOk, IfSome, IsErrOf, OnOk, Result}
 use Rattle.std.specs.declared.option.Option.{Option}
@@ -28,16 +29,17 @@ pub record Reads (all left : Option (List ℕ)) (session : SessionState) (start 
   pub stands : StandsFor session (traffic fed given told sent)
   pub written : Appends start held sent
 
--- The clock gave some moments, which took its moments from `before` to `now`, and the statement `makes` is true of the
--- ones given.
+-- The clock gave some moments, which took the clock from the moments `before` to the moments `now`. The statement
+-- `makes` is true of the moments that were given.
 pub record Taken (makes : List ℕ → Type 0) (before now : Option (List ℕ)) : Type 0 where
   pub moments : List ℕ
   pub gives : Gives before moments now
   pub made : makes moments
 
--- The commands `given` were taken so far, at moments that the clock gave, with the answers `told` (`makes`). The
--- session stands for what was read and written so far (`Reads`). The pairs have what the source has left, the clock's
--- moments and what the sink holds, at first and now.
+-- The commands `given` were taken so far with the answers `told`, at moments that the clock gave, and `makes` is true
+-- of these moments, commands and answers. The session stands for what was read and written so far (`Reads`). The pairs
+-- `input`, `clock` and `out` have what the source has left, the clock's moments and what the sink holds, each at first
+-- and now.
 pub record Running (makes : List ℕ → List Command → Answers → Type 0) (session : SessionState)
     (input clock out : Around (Option (List ℕ))) : Type 0 where
   pub given : List Command
@@ -45,9 +47,10 @@ pub record Running (makes : List ℕ → List Command → Answers → Type 0) (s
   pub reads : Reads input.before input.after session out.before out.after given told
   pub taken : Taken (λ moments. makes moments given told) clock.before clock.after
 
--- The connection ended with `status`, after the commands `given` were taken with the answers `told` (`makes`). Then the
--- clock gave no moment, or one at which memory ran out in a turn (`AsksAtMostOnce`). If the source tells its bytes, the
--- commands, what was written and the status are right for these bytes (`Tells`).
+-- The connection ended with `status`, after the commands `given` were taken with the answers `told`, and `makes` is
+-- true of the moments, commands and answers. Then the clock gave no further moment, or one at which memory ran out in a
+-- turn (`AsksAtMostOnce`). If the source tells its bytes, the commands, what was written and the status are right for
+-- these bytes (`Tells`).
 pub record Ended (makes : List ℕ → List Command → Answers → Type 0) (input clock out : Around (Option (List ℕ)))
     (status : Status) : Type 0 where
   pub given : List Command
@@ -59,17 +62,18 @@ pub record Ended (makes : List ℕ → List Command → Answers → Type 0) (inp
 
 -- ---- Steps of a connection, whatever was read, taken and written before
 
--- If the session `session` stands for what was read and written so far (`Reads`), `session_now` does so after a step.
--- What the source has left went from `left` to `left_now`, and what the sink holds from `held` to `held_now`. No
--- command was given or answered.
+-- If the session `session` stands for what was read and written before a step (`Reads`), then `session_now` stands for
+-- what was read and written after the step. In the step, what the source has left went from `left` to `left_now`, and
+-- what the sink holds went from `held` to `held_now`. No command was given or answered.
 abbrev pub ReadsOn : (left : Option (List ℕ)) (session : SessionState) (held : Option (List ℕ))
     (left_now : Option (List ℕ)) (session_now : SessionState) (held_now : Option (List ℕ)) → Type 0
 ReadsOn left session held left_now session_now held_now =
     (all start : Option (List ℕ)) (given : List Command) (told : Answers) → Reads all left session start held given told
     → Reads all left_now session_now start held_now given told
 
--- If the session `session` stands for what was read and written so far (`Reads`), the connection ends with `status`,
--- which is right for the source's bytes (`Tells`). The source then has `left_now` left, and the sink holds `held_now`.
+-- Assume that the session `session` stands for what was read and written so far (`Reads`), and that the source tells
+-- its bytes. Then the connection may end with `status`, as `Tells` says of these bytes. The source then has `left_now`
+-- left, and the sink holds `held_now`.
 abbrev pub EndsThere : (left : Option (List ℕ)) (session : SessionState) (held left_now held_now : Option (List ℕ))
     (status : Status) → Type 0
 EndsThere left session held left_now held_now status =
@@ -112,8 +116,8 @@ module _ {S : Type 0} (made : S → List ℕ → List Command → Answers → S 
       → Ended (MadeFrom first there.state) (around all there.left) (around before there.clock) (around start there.held)
       status
 
-  -- Whatever was taken before, the command `what`, which the session gave last, was taken and got its answer. The
-  -- connection goes on with `state_now`, `session_now` and `clock_now`, and the source and the sink are unchanged.
+  -- Whatever was taken before, the session's last command `what` was taken and got its answer. The connection goes on
+  -- with `state_now`, `session_now` and `clock_now`, and the source and the sink are unchanged.
   abbrev pub TakesOne : (what : Command) (state : S) (session : SessionState) (clock : Option (List ℕ))
       (state_now : S) (session_now : SessionState) (clock_now : Option (List ℕ)) → Type 0
   TakesOne what state session clock state_now session_now clock_now =
@@ -122,9 +126,9 @@ module _ {S : Type 0} (made : S → List ℕ → List Command → Answers → S 
       → Reads all left session start held (given ++ what ∷ []) told
       → Running (MadeFrom first state_now) session_now (around all left) (around before clock_now) (around start held)
 
-  -- Whatever was taken before, memory ran out at the command `what`, which the session gave last, and the connection
-  -- ends with Memory. Whether the command was taken isn't known. So it isn't safe to send it again, as it may then be
-  -- taken twice.
+  -- Whatever was taken before, memory ran out at the session's last command `what`, and the connection ends with
+  -- Memory. Whether this command was taken isn't known. So it isn't safe to send the command again, because it may then
+  -- be taken twice.
   abbrev pub RanOutOfMemory : (what : Command) (state : S) (session : SessionState) (clock : Option (List ℕ))
       (state_now : S)
       (clock_now : Option (List ℕ)) → Type 0
@@ -138,9 +142,9 @@ module _ {S : Type 0} (made : S → List ℕ → List Command → Answers → S 
 abbrev pub UNFINISHED_BYTES : ℕ
 UNFINISHED_BYTES = HEAD_BYTES + BODY_BYTES
 
--- A number that falls with each turn and with each read that brings bytes, and so bounds how many may still come. For
--- each request that is allowed and for the end of the connection, it counts a turn and the bytes of an unfinished
--- message, without the bytes that are unread now.
+-- A number that falls with each turn and with each read that brings bytes. So it bounds how many turns and reads may
+-- still come. Its first part counts a turn and UNFINISHED_BYTES bytes for each request that is still allowed and for
+-- the end of the connection. Its second part is UNFINISHED_BYTES without the bytes that are unread now.
 abbrev pub work : SessionState → ℕ
 work s = to_come s * (UNFINISHED_BYTES + 1) + (UNFINISHED_BYTES - length s.unread)
 
@@ -152,8 +156,8 @@ IsReadStop _ = ⊥
 
 -- A piece was read and fed to the session `old`, which is now `new`. The result is true if bytes came, false at the end
 -- of the input, and the status Read or Memory if the read or the feeding failed. Unless bytes came and were fed, the
--- session is unchanged. From before to after, what the source has left went from `left` to `left_now`, and its fault
--- count from `faults` to `faults_now`. The count hasn't fallen, and it rose if the read failed.
+-- session is unchanged. What the source has left was `left` before and is now `left_now`. The source's fault count was
+-- `faults` before and is now `faults_now`: it hasn't fallen, and it rose if the read failed.
 pub record ReadsPiece (left left_now : Option (List ℕ)) (old new : SessionState) (faults faults_now : ℕ)
     (result : Result Bool Status) : Type 0 where
   pub ok : OnOk result ((held : Option (List ℕ)) → ReadsOn left old held left_now new held)

@@ -20,8 +20,8 @@ settled_at c i [] at = tt
 settled_at c zero (v ∷ vs) at = at
 settled_at c (suc i) (v ∷ vs) at = (at.0, settled_at c i vs at.1)
 
--- Let `g` be any function of a stream. If `g` gives the same for each stream after settling as before, it gives the
--- same for each of several streams after one of them is settled.
+-- Let `g` be any function of a stream. If settling a stream doesn't change what `g` gives for it, then settling one
+-- stream of a list doesn't change what `g` gives for each stream of the list.
 pub kept_in : {Y : Type 0} (g : StreamValue → Y) → ((v : StreamValue) → g (settled v) ≡ g v)
     → (i : ℕ) (vs : List StreamValue) → map g (settled_in i vs) ≡ map g vs
 kept_in g same i [] = refl
@@ -60,8 +60,8 @@ pub retreated_at : (c clock : ℕ) (vs : List StreamValue) → AreAt c vs
 retreated_at c clock [] at = tt
 retreated_at c clock (v ∷ vs) at = (at.0, retreated_at c clock vs at.1)
 
--- Let `g` be any function of a stream. If `g` gives the same for each stream after the change `f` as before, it gives
--- the same for each stream of a list that `f` changed.
+-- Let `g` be any function of a stream. If `g` gives the same for each stream before and after the change `f`, it does
+-- so for each stream of a list that `f` changes.
 pub kept_of : {Y : Type 0} (g : StreamValue → Y) (f : StreamValue → StreamValue) → ((v : StreamValue) → g (f v) ≡ g v)
     → (vs : List StreamValue) → map g (map f vs) ≡ map g vs
 kept_of g f same [] = refl
@@ -69,8 +69,9 @@ kept_of g f same (v ∷ vs) = ap (λ y. y ∷ map g (map f vs)) (same v) ∙ ap 
 
 -- ---- The journals that they show
 
--- Let `w` show the journal. A service `u` shows it too if as many streams were ever made in `u`, its streams have the
--- same numbers as those of `w` and are at its clock, and each of them shows the journal.
+-- Let the service `w` show the journal. Then the service `u` shows it too, if as many streams were ever made in `u` as
+-- in `w`, and the streams of both have the same numbers. Each stream of `u` must be at the clock of `u` and show the
+-- journal.
 pub shows_along : (w u : ServiceValue) (log : Journal) → u.made_count ≡ w.made_count
     → numbers_of u.streams ≡ numbers_of w.streams
     → AreAt u.clock u.streams → AreShown log u.streams → ShowsAll w log → ShowsAll u log

@@ -21,8 +21,7 @@ use Rattle.kds_service.proofs.Readings.{live_count, open_are, some_named}
 use Rattle.kds_service.specs.Indexes.{is_full, index_by_name}
 use Rattle.kds_service.specs.Shown.{Leads, ServiceValue, ShowsAll, StaysShownWith, service}
 
--- The machine, which counts in the journal, and the service, which counts its own streams, agree on whether there is no
--- room for a stream of `count` shards.
+-- Whether there is no room for a stream of `count` shards is the same by the journal as by the streams of the service.
 full : (w : ServiceValue) (log : Journal) (count : ℕ) → ShowsAll w log
     → (nat_le LIVE_STREAMS (length (live_streams log)) || nat_lt OPEN_SHARDS (open_count log + count))
     ≡ is_full w.streams count
@@ -31,7 +30,7 @@ full w log count all =
     ∙ ap (λ n. nat_le LIVE_STREAMS (length w.streams) || nat_lt OPEN_SHARDS (n + count)) (open_are w log all)
 
 -- A premise of the lemmas here, which the file `Lives` proves: if a new stream shows the journal with the line that
--- makes it, the service with this stream at the end shows this journal too.
+-- makes this stream, the service with this stream at the end shows this journal too.
 abbrev pub Adds : Type 0
 Adds = (c b n by count : ℕ) (name : List ℕ) (vs : List StreamValue) (v : StreamValue) (log : Journal)
     → ShowsAll (service c b n vs) log
@@ -54,8 +53,8 @@ module _ (c b n : ℕ) (vs : List StreamValue) (name : List ℕ) (count : ℕ) w
       (λ log by all. passed_if _ _ _ (some_named (service c b n vs) log name all ∙ is)
       ∙ refused_if _ _ _ (full (service c b n vs) log count all ∙ at_limit))
 
-  -- If no stream has the name and there is room, but `n`, the greatest number of a stream so far, is the last number
-  -- that there is, CreateStream is refused with Spent, and the service is unchanged.
+  -- Let no stream have the name, and let there be room. If `n`, the number of the latest stream, is the greatest
+  -- possible number, CreateStream is refused with Spent, and the service is unchanged.
   pub create_spent : is_some (index_by_name vs name) ≡ false → is_full vs count ≡ false → (n == last_number) ≡ true
       → Leads (service c b n vs) (service c b n vs) (command.Create name count) (Err refusal.Spent)
   create_spent is room last =

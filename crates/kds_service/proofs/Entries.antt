@@ -28,7 +28,7 @@ module _ {K X : Type 0} where
   keys_set (e ∷ es) zero w = refl
   keys_set (e ∷ es) (suc i) w = ap (λ ys. e.0 ∷ ys) (keys_set es i w)
 
-  -- If no key of the map is equal to `k`, the pair of `k` and `v` is added at the end.
+  -- If no key of the map is equal to `k`, inserting `v` under `k` adds the pair of `k` and `v` at the end.
   pub insert_last : (eq : K → K → Bool) (n : ℕ) (es : List (K × X)) (k : K) (v : X)
       → position_from (eq k) n (keys_of es) ≡ None → insert_entry eq es k v ≡ es ++ ((k, v) ∷ [])
   insert_last eq n [] k v none = refl
@@ -49,8 +49,8 @@ map_take_out f (x ∷ xs) (suc i) = ap (λ ys. f x ∷ ys) (map_take_out f xs i)
 
 -- ---- Each stream is still under its own name and at the clock
 
--- If the stream `x` at the index `i` is replaced by `v`, which has the same name and is at the clock `c`, each stream
--- is still under its own name and at this clock (`AreNamedAt`).
+-- Let the stream `v` have the name of the stream `x` at the index `i`, and be at the clock `c`. If `v` replaces `x`,
+-- each stream is still under its own name and at this clock (`AreNamedAt`).
 pub named_set : (c i : ℕ) (es : List (List ℕ × StreamValue)) (x v : StreamValue) → AreNamedAt c es
     → slice_get (values_of es) i ≡ Some x → v.name ≡ x.name → v.clock ≡ c → AreNamedAt c (set_value_at es i v)
 named_set c i es x v placed here name clock = record {
@@ -59,8 +59,8 @@ named_set c i es x v placed here name clock = record {
   at = subst (AreAt c) (sym (values_set es i v)) (all_set (λ u. u.clock ≡ c) i (values_of es) v placed.at clock);
 }
 
--- If a call on the stream `x` failed and so left it unchanged as `v`, writing `v` back to the index `i` changes no
--- value.
+-- If a call on the stream `x` at the index `i` failed and left the stream unchanged as `v`, then writing `v` back to
+-- this index changes no value.
 pub kept_set : {A E : Type 0} (r : Result A E) (i : ℕ) (es : List (List ℕ × StreamValue)) (x v : StreamValue)
     → slice_get (values_of es) i ≡ Some x → OnErr r (v ≡ x) → OnErr r (values_of (set_value_at es i v) ≡ values_of es)
 kept_set (Ok a) i es x v here same = tt
@@ -98,8 +98,8 @@ named_remove c i es fs placed taken = record {
       (all_remove (λ u. u.clock ≡ c) i (values_of es) placed.at);
 }
 
--- Let each stream of `es` be under its own name. If `fs` has the same keys, and its streams have the same names and are
--- at the clock `c`, then each stream of `fs` is under its own name and at this clock (`AreNamedAt`).
+-- Let each stream of `es` be under its own name. Let `fs` have the same keys, and streams with the same names that are
+-- at the clock `c`. Then each stream of `fs` is under its own name and at this clock (`AreNamedAt`).
 pub named_along : (c : ℕ) (es fs : List (List ℕ × StreamValue)) → keys_of es ≡ names_of (values_of es)
     → keys_of fs ≡ keys_of es → names_of (values_of fs) ≡ names_of (values_of es) → AreAt c (values_of fs)
     → AreNamedAt c fs

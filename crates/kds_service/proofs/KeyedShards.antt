@@ -38,7 +38,7 @@ found_from n (suc i) s (v ∷ vs) x is here =
     let rest = later_fails (λ m. m == s) n i v.no (numbers_of vs) is in
     here_or_later v vs s false rest.0 ∙ found_from (n + 1) i s vs x rest.1 here
 
--- The stream at the index that the search for the number `s` finds is the one that `stream_at` finds.
+-- If the search for the number `s` finds the index `i`, the stream at this index is the one that `stream_at` finds.
 pub stream_found : (i s : ℕ) (vs : List StreamValue) (x : StreamValue) → Some i ≡ index_by_number vs s
     → slice_get vs i ≡ Some x → Some x ≡ stream_at vs s
 stream_found i s vs x found here = sym (found_from 0 i s vs x (sym found ∙ ap Some (from_zero i)) here)
@@ -67,8 +67,8 @@ of_here log c s v vs x true e at shown is rest =
     subst (IsOf log c s) (same_some v x is) (record { no = eqb-true v.no s e; clock = at; shown = shown })
 of_here log c s v vs x false e at shown is rest = rest is
 
--- If all streams are at the clock `c` and show the journal, the stream that `stream_at` finds for the number `s` has
--- this number, is at this clock, and shows the journal.
+-- Let all streams be at the clock `c` and show the journal. Then the stream that `stream_at` finds for the number `s`
+-- has this number, is at this clock, and shows the journal.
 pub is_of : (log : Journal) (c s : ℕ) (vs : List StreamValue) (x : StreamValue) → AreAt c vs → AreShown log vs
     → stream_at vs s ≡ Some x → IsOf log c s x
 is_of log c s [] x at shown is = absurd (none-some x is)
@@ -138,8 +138,8 @@ module _ (w : ServiceValue) (log : Journal) (all : ShowsAll w log) (key : ShardR
   pub state_is : state_in w.streams key ≡ live_shard log key
   state_is = state_by (stream_at w.streams key.stream) refl
 
--- Let `x` be the stream that is found for the number `s`. If `P` holds of the clock and the number of `x`, it holds of
--- the service's clock `c` and of `s`.
+-- Let the service show the journal, and let `x` be its stream with the number `s`. If `P` holds of the clock and the
+-- number of `x` when `x` shows the journal, then `P` holds of the service's clock `c` and of `s`.
 pub at_key : (P : ℕ → ℕ → Type 0) (log : Journal) (c b n s : ℕ) (vs : List StreamValue) (x : StreamValue)
     → ShowsAll (service c b n vs) log → Some x ≡ stream_at vs s → (Shows x log → P x.clock x.no) → P c s
 at_key P log c b n s vs x all found answered =

@@ -27,16 +27,16 @@ pub refused_leads : (w : ServiceValue) (what : Command) (r : Refusal)
 refused_leads w what r is =
     λ log by all. after_refused (decide log w.clock by what) r log (ShowsAll w) (is log by all) all
 
--- A premise of the lemmas here, which the file `Lives` proves: if one stream is replaced by a stream that shows the
--- journal with its own lines, the service with it shows this journal too.
+-- A premise of the lemmas here, which the file `Lives` proves. If a stream of a service is replaced by one that shows
+-- the journal with some lines about this stream, the service then shows the journal with these lines.
 abbrev pub Changes : Type 0
 Changes = (c b n i : ℕ) (vs : List StreamValue) (x v : StreamValue) (log : Journal) (lines : List Line)
     → ShowsAll (service c b n vs) log → slice_get vs i ≡ Some x → v.no ≡ x.no → v.clock ≡ c → AreOf x.no c lines
     → Shows v (with_lines lines log) → ShowsAll (service c b n (slice_set vs i v)) (with_lines lines log)
 
--- Let the command be for the stream `x` at the index `i`. If the call of this stream changes `x` to `v` and gives the
--- answer that the machine gives (`Serves`), the command leads from the streams `vs` to `ws`, which have `v` in place of
--- `x` (`LeadsTo`).
+-- Let the command be for the stream `x` at the index `i`. Let the call of this stream change `x` to `v` and give the
+-- machine's answer (`Serves`). Then the command leads from the streams `vs` to `ws`, which have `v` in place of `x`
+-- (`LeadsTo`).
 pub stream_leads : {E : Type 0} (c i : ℕ) (vs ws : List StreamValue) (x v : StreamValue) (what : Command)
     (open_limit : ℕ)
     (r : Result (Result Reply Refusal) E)
@@ -58,8 +58,8 @@ stream_leads c i vs ws x v what open_limit (Ok gives) change at here found set o
           (change c b n i vs x v log lines all here no_is (clock_is ∙ now) of led.1),
     )
 
--- If the result `r` isn't an error, and the command leads from the streams `vs` to `ws`, it leads from the service with
--- `vs` to the service with `ws`. The other fields of the services are the same.
+-- If the command leads from the streams `vs` to `ws` (`LeadsTo`), it leads from the service with `vs` to the service
+-- with `ws` and the same other fields (`Leads`). If `r` is an error, nothing is claimed.
 pub serve_leads : {E : Type 0} (r : Result (Result Reply Refusal) E) (c b n : ℕ) (vs ws : List StreamValue)
     (what what' : Command) → IfOk r (LeadsTo c vs ws what') → what ≡ what'
     → IfOk r (Leads (service c b n vs) (service c b n ws) what)

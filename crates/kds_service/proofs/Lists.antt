@@ -1,5 +1,5 @@
 -- If a stream in a list is replaced, added or removed, the numbers of the streams still rise. All streams show the new
--- journal if the changed one and the others do.
+-- journal if the new stream does, and if each other stream that shows the old journal does too.
 use Rattle.std.proofs.Common.{◌≡◌, ◌≢◌, ℕ, zero, suc, ◌+◌, ◌<◌, ◌≤◌, Bool, true, false, ◌==◌, List, [], ◌∷◌, ◌++◌}
 use Rattle.std.proofs.Common.{length, map, take, drop, remove, slice_get, slice_set, Some, refl, sym, ap, subst, ◌∙◌}
 use Rattle.std.proofs.Common.{arith}
@@ -42,7 +42,7 @@ module _ {X : Type 0} (P : X → Type 0) where
 
 -- ---- The stream at an index
 
--- If an index is below the length, there is a stream at it.
+-- If the index `i` is below the number of streams, there is a stream at this index.
 pub there_is : (i : ℕ) (vs : List StreamValue) → i < length vs → (x : StreamValue) × (slice_get vs i ≡ Some x)
 there_is i [] below = absurd (omega arith)
 there_is zero (v ∷ vs) below = (v, refl)
@@ -56,14 +56,14 @@ above low i [] x rising here = absurd (none-some x here)
 above low zero (v ∷ vs) x rising here = subst (λ (u : StreamValue). low < u.no) (same_some v x here) rising.0
 above low (suc i) (v ∷ vs) x rising here = let rest = above v.no i vs x rising.1 here in omega (arith, rising.0, rest)
 
--- Numbers that rise and are above `high` are also above `low`, if `low` isn't above `high`.
+-- If numbers rise and are above `high`, and `low` isn't above `high`, then the numbers also rise and are above `low`.
 pub rising_from : (low high : ℕ) (ns : List ℕ) → low ≤ high → IsRising high ns → IsRising low ns
 rising_from low high [] below rising = tt
 rising_from low high (n ∷ ns) below rising = (omega (arith, rising.0), rising.1)
 
 -- ---- Among numbers
 
--- If numbers rise and are all above `low`, the number `s`, which isn't above `low`, isn't among them.
+-- If numbers rise and are all above `low`, and `s` isn't above `low`, then `s` isn't among these numbers.
 pub not_below : (low s : ℕ) (ns : List ℕ) → s ≤ low → IsRising low ns → is_among ns s ≡ false
 not_below low s [] below rising = refl
 not_below low s (n ∷ ns) below rising =
@@ -86,8 +86,8 @@ map_same f i [] x v here same = refl
 map_same f zero (u ∷ us) x v here same = ap (λ y. y ∷ map f us) (same ∙ ap f (sym (same_some u x here)))
 map_same f (suc i) (u ∷ us) x v here same = ap (λ ys. f u ∷ ys) (map_same f i us x v here same)
 
--- Let the numbers of the streams rise and be above `k`. If each stream with another number than `k` that shows the
--- journal `log` also shows `log'`, all of the streams show `log'`.
+-- Let the numbers of the streams rise and be above `k`. If each stream that shows the journal `log` and has another
+-- number than `k` also shows `log'`, all of the streams show `log'`.
 shown_rest : (log log' : Journal) (c k : ℕ) (vs : List StreamValue) → IsRising k (numbers_of vs) → AreAt c vs
     → AreShown log vs → ((u : StreamValue) → Shows u log → u.clock ≡ c → u.no ≢ k → Shows u log') → AreShown log' vs
 shown_rest log log' c k [] rising at shown others = tt
@@ -97,8 +97,8 @@ shown_rest log log' c k (u ∷ us) rising at shown others = (
       at.1 shown.1 others,
 )
 
--- Let the stream `v` replace `x` at the index `i`. If `v` shows `log'`, and each stream with another number than that
--- of `x` that shows `log` also shows `log'`, all streams show `log'`.
+-- Let the stream `v` replace `x` at the index `i`, and let `v` show `log'`. If each stream that shows `log` and has
+-- another number than `x` also shows `log'`, all streams show `log'`.
 pub shown_set : (log log' : Journal) (c low i : ℕ) (vs : List StreamValue) (x v : StreamValue)
     → IsRising low (numbers_of vs) → AreAt c vs → AreShown log vs → slice_get vs i ≡ Some x → Shows v log'
     → ((u : StreamValue) → Shows u log → u.clock ≡ c → u.no ≢ x.no → Shows u log') → AreShown log' (slice_set vs i v)
@@ -120,14 +120,14 @@ shown_set log log' c low (suc i) (u ∷ us) x v rising at shown here new others 
 abbrev pub AreUpTo : ℕ → List StreamValue → Type 0
 AreUpTo n vs = AllByRecursion (λ v. v.no ≤ n) vs
 
--- If the number `m`, which is above all numbers of the streams, is added at the end, the numbers still rise.
+-- If the number `m` is above all numbers of the streams, the numbers still rise after `m` is added at the end.
 pub rising_push : (low n m : ℕ) (vs : List StreamValue) → low < m → n < m → AreUpTo n vs → IsRising low (numbers_of vs)
     → IsRising low (numbers_of vs ++ (m ∷ []))
 rising_push low n m [] first last below rising = (first, tt)
 rising_push low n m (v ∷ vs) first last below rising =
     (rising.0, rising_push v.no n m vs (omega (arith, below.0)) last below.1 rising.1)
 
--- If `s` isn't among numbers after `m` was added to them, it wasn't among them before, and it isn't `m`.
+-- If `s` isn't among the numbers `ns` with `m` added at the end, then `s` isn't among `ns`, and `s` isn't `m`.
 pub among_push : (ns : List ℕ) (m s : ℕ) → is_among (ns ++ (m ∷ [])) s ≡ false → (is_among ns s ≡ false)
     × ((m == s) ≡ false)
 among_push [] m s out = (refl, (or_parts (m == s) false out).0)
@@ -136,8 +136,8 @@ among_push (n ∷ ns) m s out =
     let rest = among_push ns m s parts.1 in
     (or_from (n == s) (is_among ns s) parts.0 rest.0, rest.1)
 
--- Let the stream `v` be added at the end. If `v` shows `log'`, and each stream with a number up to `n` that shows `log`
--- also shows `log'`, all streams show `log'`.
+-- Let the stream `v`, which shows `log'`, be added at the end. If each stream that shows `log` and has a number up to
+-- `n` also shows `log'`, all streams show `log'`.
 pub shown_push : (log log' : Journal) (c n : ℕ) (vs : List StreamValue) (v : StreamValue) → AreUpTo n vs → AreAt c vs
     → AreShown log vs → Shows v log' → ((u : StreamValue) → Shows u log → u.clock ≡ c → u.no ≤ n → Shows u log')
     → AreShown log' (vs ++ (v ∷ []))
@@ -155,8 +155,8 @@ rising_remove low (suc i) [] rising = tt
 rising_remove low zero (v ∷ vs) rising = rising_from low v.no (numbers_of vs) (omega (arith, rising.0)) rising.1
 rising_remove low (suc i) (v ∷ vs) rising = (rising.0, rising_remove v.no i vs rising.1)
 
--- Let the stream `x` be removed. If each stream with another number that shows `log` also shows `log'`, all streams
--- that are left show `log'`.
+-- Let the stream `x` be removed. If each stream that shows `log` and has another number than `x` also shows `log'`, all
+-- streams that are left show `log'`.
 pub shown_remove : (log log' : Journal) (c low i : ℕ) (vs : List StreamValue) (x : StreamValue)
     → IsRising low (numbers_of vs) → AreAt c vs → AreShown log vs → slice_get vs i ≡ Some x
     → ((u : StreamValue) → Shows u log → u.clock ≡ c → u.no ≢ x.no → Shows u log') → AreShown log' (remove vs i)
@@ -169,8 +169,8 @@ shown_remove log log' c low (suc i) (u ∷ us) x rising at shown here others = (
   shown_remove log log' c u.no i us x rising.1 at.1 shown.1 here others,
 )
 
--- If the number `s` isn't among those of the streams that are left, and isn't the number of the removed stream `x`, it
--- wasn't among the numbers before.
+-- If the number `s` is neither that of a stream that is left nor that of the removed stream `x`, then it isn't the
+-- number of any stream in `vs`.
 pub among_remove : (i s : ℕ) (vs : List StreamValue) (x : StreamValue) → slice_get vs i ≡ Some x
     → is_among (numbers_of (remove vs i)) s ≡ false → (x.no == s) ≡ false → is_among (numbers_of vs) s ≡ false
 among_remove i s [] x here out differ = refl
@@ -191,16 +191,16 @@ get_rest f [] (suc i) = refl
 get_rest f (x ∷ xs) zero = refl
 get_rest f (x ∷ xs) (suc i) = get_rest f xs i
 
--- If `f` was applied to the streams before the index `i`, and then to the stream `x` at `i`, it is applied to the first
--- `suc i` streams.
+-- Applying `f` to the streams before the index `i`, and then to the stream `x` at `i`, gives the list with `f` applied
+-- to the first `suc i` streams.
 set_next : (f : StreamValue → StreamValue) (xs : List StreamValue) (i : ℕ) (x : StreamValue) → slice_get xs i ≡ Some x
     → slice_set (map f (take i xs) ++ drop i xs) i (f x) ≡ map f (take (suc i) xs) ++ drop (suc i) xs
 set_next f [] i x here = absurd (none-some x here)
 set_next f (y ∷ ys) zero x here = ap (λ z. f z ∷ ys) (sym (same_some y x here))
 set_next f (y ∷ ys) (suc i) x here = ap (λ zs. f y ∷ zs) (set_next f ys i x here)
 
--- If `f` was applied to the streams before the index `i`, and then to the stream `x` at `i`, it is applied to the first
--- `i + 1` streams.
+-- Applying `f` to the streams before the index `i`, and then to the stream `x` at `i`, gives the list with `f` applied
+-- to the first `i + 1` streams.
 pub set_rest : (f : StreamValue → StreamValue) (xs : List StreamValue) (i : ℕ) (x : StreamValue)
     → slice_get xs i ≡ Some x → slice_set (map f (take i xs) ++ drop i xs) i (f x) ≡ map f (take (i + 1) xs)
     ++ drop (i + 1) xs

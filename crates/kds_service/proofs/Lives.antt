@@ -1,5 +1,5 @@
--- A service still shows its journals after one of its streams is changed, added or removed, and after a line of a
--- lease. A command for one stream adds only lines of this stream.
+-- A service still shows its journal, with the new lines added, after one of its streams is changed, added or removed,
+-- and after a line of a lease. A command for one stream adds only lines of this stream.
 use Rattle.std.proofs.Common.{◌≡◌, ◌≢◌, ℕ, ◌+◌, ◌<◌, ◌≤◌, Bool, true, ◌==◌, List, [], ◌∷◌, ◌++◌, remove, slice_get}
 use Rattle.std.proofs.Common.{slice_set}
 use Rattle.std.proofs.Common.{Some, None, refl, sym, ap, subst, ◌∙◌, arith}
@@ -81,8 +81,8 @@ live_more s t c (line ∷ lines) log of =
 beyond : (n s t : ℕ) → s ≤ n → n < t → t ≡ s → ⊥
 beyond n s t a b e = absurd (omega arith)
 
--- Let `v` have the number of the stream `x` at the index `i`. If `v` shows the journal with its own lines added, the
--- service with `v` in place of `x` shows this journal too.
+-- Let `v` have the number of the stream `x` at the index `i`, and let `lines` be about this stream. If `v` shows the
+-- journal with `lines` added, the service with `v` in place of `x` shows this journal too.
 pub shows_after : (c b n i : ℕ) (vs : List StreamValue) (x v : StreamValue) (log : Journal) (lines : List Line)
     → LinesOfOthers
     → ShowsAll (service c b n vs) log → slice_get vs i ≡ Some x → v.no ≡ x.no → v.clock ≡ c → AreOf x.no c lines
@@ -107,8 +107,8 @@ shows_after c b n i vs x v log lines law all here numbered clock of shown =
 
 -- ---- A new stream
 
--- If the new stream `v`, whose number is `n + 1`, shows the journal with the line that makes it, the service with this
--- stream at the end shows this journal too.
+-- Let the new stream `v` have the number `n + 1`. If `v` shows the journal with the line that makes `v`, the service
+-- with `v` at the end of its streams shows this journal too.
 pub shows_added : (c b n by count : ℕ) (name : List ℕ) (vs : List StreamValue) (v : StreamValue) (log : Journal)
     → LinesOfOthers
     → ShowsAll (service c b n vs) log → v.no ≡ n + 1 → v.clock ≡ c
@@ -141,7 +141,7 @@ shows_added c b n by count name vs v log law all numbered clock shown =
 
 -- ---- A stream is deleted
 
--- If the stream `x` at the index `i` is removed from the service, the service shows the journal with the line that
+-- If the stream `x` at the index `i` is removed from the service, the service then shows the journal with the line that
 -- deletes `x`.
 pub shows_removed : (c b n by i : ℕ) (vs : List StreamValue) (x : StreamValue) (log : Journal) → LinesOfOthers
     → ShowsAll (service c b n vs) log

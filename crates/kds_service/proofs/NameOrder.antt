@@ -29,7 +29,7 @@ less Greater = refl
 abbrev pub shown_before : Bor (List ℕ) → Bor (List ℕ) → Bool
 shown_before a b = name_before a.now b.now
 
--- To come before by the names that the elements have (`name`) is a strict weak order.
+-- The order of elements by their names (`name`) is a strict weak order.
 pub before_orders : {X : Type 0} (name : X → List ℕ) → IsStrictWeakOrder (λ x y. name_before (name x) (name y))
 before_orders name = subst (λ (test : Ordering → Bool).
     IsStrictWeakOrder (λ x y. test (slice_cmp nat_cmp (name x) (name y)))) (λ i o. less o i)
@@ -117,8 +117,8 @@ none_before name (n ∷ ns) rest =
 
 -- ---- Sorted lists are equal if as many of their names come before each name
 
--- Let as many names of the list `x ∷ xs` come before `y` as of the list `y ∷ ys`, in which no name comes before its
--- first name `y`. Then `x` doesn't come before `y`.
+-- Let no name of `ys` come before `y`, and let as many names of `x ∷ xs` as of `y ∷ ys` come before `y`. Then `x`
+-- doesn't come before `y`.
 first_not_before : (x y : List ℕ) (xs ys : List (List ℕ)) → NotBefore y ys
     → sum_by (before y) (x ∷ xs) ≡ sum_by (before y) (y ∷ ys) → name_before x y ≡ true → ⊥
 first_not_before x y xs ys rest same h =
@@ -177,8 +177,8 @@ sorted_names xs ys moved sorted =
     (λ f. sum_by-IsPermutation f names (map (λ n. n.now) ys)
     (IsPermutation-map (λ (n : Bor (List ℕ)). n.now) xs ys moved) ∙ sym (sum_in_order f names))
 
--- If the name of the stream at the index `i` is appended to the names so far, these, followed by the names of the
--- streams still to come, are the same list as before.
+-- Let the name of the stream at the index `i` be appended to the names so far. Then the names so far, followed by those
+-- of the streams still to come, are the same list as before.
 pub names_step : (vs : List StreamValue) (i : ℕ) (x : StreamValue) (name : Bor (List ℕ))
     (so_far more : List (Bor (List ℕ))) → slice_get vs i ≡ Some x → name.now ≡ x.name → more ≡ so_far ++ name ∷ []
     → map (λ n. n.now) more ++ names_of (drop (i + 1) vs) ≡ map (λ n. n.now) so_far ++ names_of (drop i vs)

@@ -44,8 +44,8 @@ in_rotation count n = if nat_lt n count then n else 0
 abbrev pub next_in_rotation : ℕ → ℕ → ℕ
 next_in_rotation count n = next_of count (in_rotation count n)
 
--- The service `w` after one settling. The stream that is next in the rotation (`in_rotation`) is settled, the index
--- after it comes next, and the clock that the service remembers becomes its present clock.
+-- The service `w` after one settling. The stream at the next index of the rotation (`in_rotation`) is settled, and the
+-- rotation moves on by one index. The clock that the service remembers becomes its present clock.
 abbrev pub settled_next : ServiceValue → ServiceValue
 settled_next w =
     let count = length w.streams in

@@ -53,9 +53,9 @@ is_among (n ∷ ns) s = (n == s) || is_among ns s
 abbrev pub AreShown : Journal → List StreamValue → Type 0
 AreShown log vs = AllByRecursion (λ v. Shows v log) vs
 
--- The service `w` shows the journal `log`: as many streams were made in `log` as in `w`, and the streams of `w` are at
--- its clock, in the rising order of their numbers, and each shows `log`. A stream that isn't in `w` isn't live in
--- `log`, and `log` says nothing of a stream with a greater number than `w.made_count` (`IsFresh`).
+-- The service `w` shows the journal `log`. As many streams were made in `log` as in `w`. The streams of `w` are at the
+-- clock of `w`, in the rising order of their numbers, and each of them shows `log`. A stream that isn't in `w` isn't
+-- live in `log`, and `log` says nothing of a stream with a greater number than `w.made_count` (`IsFresh`).
 pub record ShowsStreams (w : ServiceValue) (log : Journal) : Type 0 where
   pub made : made_count log ≡ w.made_count
   pub at : AreAt w.clock w.streams
@@ -68,8 +68,8 @@ pub record ShowsStreams (w : ServiceValue) (log : Journal) : Type 0 where
 abbrev pub ShowsAll : ServiceValue → Journal → Type 0
 ShowsAll w = ShowsStreams (record w { next_to_settle = 0 })
 
--- The statement `holds` is true of each journal that a service with the streams `vs` shows, together with this
--- service's clock.
+-- The statement `holds` is true of each journal that a service with the streams `vs` shows, and of this service's
+-- clock.
 abbrev pub InJournalsOf : List StreamValue → (Journal → ℕ → Type 0) → Type 0
 InJournalsOf vs holds = (c b n : ℕ) (log : Journal) → ShowsAll (service c b n vs) log → holds log c
 
@@ -86,7 +86,7 @@ module _ (c b n : ℕ) (vs : List StreamValue) (log : Journal) where
       → ShowsAll (service c b n (slice_set vs i v)) (with_lines lines log)
 
   -- Let the new stream `v` have the number `n + 1` and the clock `c`. If `v` shows the journal with the line by which
-  -- the actor `by` makes it, the service with `v` added at the end shows this journal too. The line has the stream's
+  -- the actor `by` makes `v`, the service with `v` added at the end shows this journal too. The line has the stream's
   -- name and its number of shards, `count`.
   abbrev pub StaysShownWith : StreamValue → ℕ → List ℕ → ℕ → Type 0
   StaysShownWith v by name count =
@@ -99,15 +99,15 @@ module _ (c b n : ℕ) (vs : List StreamValue) (log : Journal) where
   StaysShownWithout i x by = slice_get vs i ≡ Some x
       → ShowsAll (service c b n (remove vs i)) (plain_line c by (entry.Gone x.no) ∷ log)
 
--- After each journal that the service `old` shows, the command `what` of any actor at the service's clock is answered
--- with `gives`, and the service `new` shows this journal with the lines of the command.
+-- After each journal that the service `old` shows, the answer to the command `what` of any actor at the service's clock
+-- is `gives`. The service `new` shows this journal with the lines of the command.
 abbrev pub Leads : ServiceValue → ServiceValue → Command → Result Reply Refusal → Type 0
 Leads old new what gives = (log : Journal) (by : ℕ) → ShowsAll old log
     → (gives ≡ answer_of (decide log old.clock by what))
     × ShowsAll new (with_lines (lines_of (decide log old.clock by what)) log)
 
--- The command `what`, which makes no stream, leads from a service with the streams `vs` to the service with the streams
--- `ws` and the answer `gives` (`Leads`). Both have the clock `c`, the same earlier clock, and the same number of
--- streams ever made.
+-- The command `what` leads from a service with the clock `c` and the streams `vs` to the service with the streams `ws`
+-- instead, and with the answer `gives` (`Leads`). The clock, the earlier clock and the number of streams ever made stay
+-- the same.
 abbrev pub LeadsTo : ℕ → List StreamValue → List StreamValue → Command → Result Reply Refusal → Type 0
 LeadsTo c vs ws what gives = (b n : ℕ) → Leads (service c b n vs) (service c b n ws) what gives

@@ -63,7 +63,7 @@ unfinished_begins laws bytes m (inr short) b =
     let s : size short.0 ≡ size m.head = ap size h in
     absurd (omega (arith, s, short.1.short, b.0.whole))
 
--- Bytes that end a connection, in any way but by a message that closes it, begin with no whole message.
+-- Bytes that have an ending (`Ends`) begin with no whole message.
 pub ends_begins : HeadLaws → (bytes : List ℕ) (e : Ending) (m : Message) → Ends bytes e → Begins bytes m → ⊥
 ends_begins laws bytes boundary m e b = let some = some_size laws bytes m b in
     absurd (omega (arith, some, b.0.whole, ap length e))
@@ -97,7 +97,8 @@ one_ending laws bytes closed f a b = absurd a
 cons_same : (m n : Message) (ms ns : List Message) → m ≡ n → ms ≡ ns → m ∷ ms ≡ n ∷ ns
 cons_same m n ms ns e f = cc
 
--- Bytes that come after `before` messages of a connection fall into messages, and have an ending, in one way at most.
+-- If bytes that come after `before` messages of a connection fall into messages with an ending (`Falls`), they do so in
+-- one way only.
 pub one_way : HeadLaws → (before : ℕ) (bytes : List ℕ) (ms ns : List Message) (e f : Ending) → Falls before bytes ms e
     → Falls before bytes ns f → (ms ≡ ns) × (e ≡ f)
 one_way laws before bytes [] [] e f a b = (refl, one_ending laws bytes e f a b)
@@ -122,7 +123,7 @@ one_way laws before bytes (m ∷ ms) (n ∷ ns) e f a b =
 
 -- ---- More bytes follow
 
--- If bytes begin with the head `head` and its whole body, they begin with the message that these make.
+-- If bytes begin with the head `head` and its whole body, they begin with the message of this head and body.
 pub begins_at : (bytes : List ℕ) (head : Head) → IsWhole bytes head → Begins bytes (message_at bytes head)
 begins_at bytes head whole = (whole, refl)
 
@@ -148,8 +149,8 @@ begins_more laws bytes more m b = (
 rest_more : (bytes more : List ℕ) (m : Message) → Begins bytes m → rest_of (bytes ++ more) m ≡ rest_of bytes m ++ more
 rest_more bytes more m b = drop-append-le (size m.head) bytes more b.0.whole
 
--- Let `done` requests be read and at least one be left of REQUESTS. The next request is the last one that is allowed
--- exactly if at most one is left.
+-- `done` of REQUESTS requests were read, and `left` are left, at least one. The next request is the last one that is
+-- allowed exactly if `left` is at most one.
 pub last_is : (done left : ℕ) → done + left ≡ REQUESTS → 0 < left → (done + 1 == REQUESTS) ≡ nat_le left 1
 last_is done left e some = grind (arith, nat_tests)
 
@@ -185,8 +186,8 @@ not_last : (n left : ℕ) (close : Bool) → n + left ≡ REQUESTS → 0 < left 
 not_last n left true e some h = absurd (cc)
 not_last n left false e some h = grind (arith, nat_tests)
 
--- Let the unread bytes begin with the message `m`, which doesn't close the connection. Then the messages into which
--- they and any bytes after them fall begin with `m`, and the bytes after `m` fall into the other messages.
+-- The unread bytes begin with the message `m`, which doesn't close the connection. If the unread bytes and further
+-- bytes fall into messages, the first of these messages is `m`, and the bytes after `m` fall into the other messages.
 past : HeadLaws → (n : ℕ) (unread more : List ℕ) (m : Message) (ms : List Message) (e : Ending) → Begins unread m
     → closes_after (n + 1) m.head ≡ false
     → Falls n (unread ++ more) ms e → (rest : List Message) × (ms ≡ m ∷ rest)
@@ -204,8 +205,8 @@ past laws n unread more m (k ∷ ms) e b close f =
           (of_false (closes_after (n + 1) m.head) _ _ close after),
     )
 
--- A connection that goes on (`GoesOn`) still goes on after the message `m` is read, if `m` doesn't close it. One
--- request fewer is then left.
+-- A connection that goes on (`GoesOn`) still goes on after the message `m` is read, if `m` doesn't close the
+-- connection. One request fewer is then left.
 pub goes_past : HeadLaws → (fed : List ℕ) (done : List Message) (left : ℕ) (unread : List ℕ) (m : Message)
     → GoesOn fed done left unread → Begins unread m
     → closes_after (length done + 1) m.head ≡ false → GoesOn fed (done ++ m ∷ []) (left - 1) (rest_of unread m)
@@ -234,7 +235,7 @@ goes_past laws fed done left unread m g b more_come =
     }
 
 -- After a message that closes the connection was read, the bytes that were fed, with any bytes after them, fall into
--- the messages up to this one.
+-- the messages up to this one. Their ending is `closed`.
 pub goes_last : HeadLaws → (fed : List ℕ) (done : List Message) (left : ℕ) (unread : List ℕ) (m : Message)
     → GoesOn fed done left unread → Begins unread m
     → closes_after (length done + 1) m.head ≡ true → (more : List ℕ) → Falls 0 (fed ++ more) (done ++ m ∷ []) closed
@@ -260,8 +261,8 @@ at_end fed done left unread e g f =
     (subst (λ (z : List Message). Falls 0 (fed ++ []) z e) (append-nil done)
     (g.onward [] [] e (subst (λ (z : List ℕ). Ends z e) (sym (append-nil unread)) f)))
 
--- If no whole message is unread, the bytes that were fed fall into the messages `done`. They end between two messages
--- if nothing is unread, and otherwise inside a message.
+-- If no whole message is unread, the bytes that were fed fall into the messages `done`. The fed bytes end between two
+-- messages if nothing is unread, and otherwise inside a message.
 pub goes_ending : (fed : List ℕ) (done : List Message) (left : ℕ) (unread : List ℕ) → GoesOn fed done left unread
     → IsUnfinished unread → Falls 0 fed done (end_in going unread)
 goes_ending fed done left [] g u = at_end fed done left [] boundary g refl
@@ -269,12 +270,14 @@ goes_ending fed done left (x ∷ xs) g u = at_end fed done left (x ∷ xs) insid
 
 -- ---- Whether the body is whole
 
--- If bytes begin with the head `head` and are at least as many as the message, they begin with the whole message.
+-- If bytes begin with the head `head`, and there are at least as many bytes as the message has, they begin with the
+-- whole message.
 pub whole_by : (bytes : List ℕ) (head : Head) → IsFound bytes (Whole head) → nat_le (size head) (length bytes) ≡ true
     → IsWhole bytes head
 whole_by bytes head f e = record { found = f; whole = le_so _ _ e }
 
--- If bytes begin with the head `head` and are fewer than the message, they end before its body does.
+-- If bytes begin with the head `head`, and there are fewer bytes than the message has, they end before the message's
+-- body does.
 pub short_by : (bytes : List ℕ) (head : Head) → IsFound bytes (Whole head) → nat_le (size head) (length bytes) ≡ false
     → IsShort bytes head
 short_by bytes head f e = record { found = f; short = above_so _ _ e }
@@ -295,15 +298,16 @@ unfinished_short limits bytes (inr short) =
 
 -- ---- A head that is kept
 
--- If bytes begin with the head `kept`, they still do so when more bytes follow. This also holds if no head is kept.
+-- If bytes begin with the head that is kept, they still do so when more bytes follow (`IsKept`). If no head is kept,
+-- nothing is claimed.
 pub kept_more : HeadStays → (bytes more new : List ℕ) (kept : Option Head) → new ≡ bytes ++ more → IsKept bytes kept
     → IsKept new kept
 kept_more stays bytes more new None e k = tt
 kept_more stays bytes more new (Some h) e k =
     subst (λ (z : List ℕ). IsFound z (Whole h)) (sym e) (stays bytes more (Whole h) k (λ e. need_whole h (sym e)))
 
--- Let there be at most UNREAD_BYTES unread bytes. If no more bytes are fed than the rest of this limit, there are still
--- at most UNREAD_BYTES.
+-- If at most UNREAD_BYTES bytes are unread, and no more bytes are fed than the rest of this limit, then at most
+-- UNREAD_BYTES bytes are unread afterwards.
 pub fed_fits : (bytes more new : List ℕ) → new ≡ bytes ++ more → length more ≤ UNREAD_BYTES - length bytes
     → length bytes ≤ UNREAD_BYTES → length new ≤ UNREAD_BYTES
 fed_fits bytes more new e room few = let n : length new ≡ length bytes + length more =

@@ -16,8 +16,8 @@ commands-push [] m = append-nil (command_of (asked_by m))
 commands-push (d ∷ done) m = ap (λ z. command_of (asked_by d) ++ z) (commands-push done m)
     ∙ sym (append_assoc (command_of (asked_by d)) (commands done) (command_of (asked_by m)))
 
--- What one message adds to the responses: to a command, the response with the first of the answers `left`, or nothing
--- if no answer is left, and to a fault, the fault's own response.
+-- What one message adds to the responses. A command adds the response with the first of the answers `left`, or nothing
+-- if no answer is left. A fault adds its own response.
 abbrev pub adds : Result Command Fault → Bool → Answers → List ℕ
 adds r close left = respond r close left (λ answers. [])
 
@@ -34,8 +34,8 @@ respond_push (Ok what) close (a ∷ told) left rest later more end go len =
     ap (λ z. answered (reply_of a) close ++ z) (go told (omega arith))
     ∙ sym (append_assoc (answered (reply_of a) close) (later told) end)
 
--- The responses to `done` and one more message are those to `done`, followed by the response to this message. The
--- answers `told` are those to the commands of `done`, and `left` are the answers after them.
+-- The responses to `done` and one more message are the responses to `done`, followed by the response to this message.
+-- The answers `told` are those to the commands of `done`, and `left` are the answers after them.
 pub responses-push : (before : ℕ) (done : List Message) (m : Message) (told left : Answers)
     → length told ≡ length (commands done)
     → responses before (done ++ m ∷ []) (told ++ left) ≡ responses before done told

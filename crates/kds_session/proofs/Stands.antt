@@ -1,6 +1,6 @@
--- If a session stands for a traffic, then after bytes are fed, a message is read or an answer is told, it stands for
--- the traffic with this in addition. A reading (`Progress`) is what one call of `next` has consumed and answered so
--- far. The session adopts it at the end.
+-- What a session stands for after bytes were fed, a message was read or an answer was told: the traffic from before,
+-- with the bytes, the command or the answer added. A reading (`Progress`) is what one call of `next` has consumed and
+-- answered so far. The session adopts the reading at the end of the call.
 use Rattle.std.proofs.Common.{◌≡◌, ◌≢◌, ℕ, ◌+◌, ◌-◌, ◌<◌, ◌≤◌, List, [], ◌∷◌, ◌++◌, length, drop, sym, ap, ◌∙◌, subst}
 use Rattle.std.proofs.Common.{arith, refl, Bool, true, false, Ok, Err, Result, Option, Some, None, drop-drop, inl, inr}
 use Rattle.std.specs.Prelude.{◌||◌, nat_le}
@@ -39,7 +39,7 @@ use Rattle.kds_session.proofs.Responses.{commands-push, responses-push, adds}
 -- ---- A live session that waits for no answer
 
 -- The session `s`, through which the traffic `past` has passed, goes on and waits for no answer. The messages `done`
--- were read, their commands are the ones given, all of these have answers, and only the responses to `done` were
+-- were read. The commands given are those of `done`, and each has its answer. Only the responses to `done` were
 -- written.
 pub record Runs (s : SessionState) (past : Traffic) : Type 0 where
   pub done : List Message
@@ -84,8 +84,9 @@ feeds s past bytes st new e = subst (λ (n : SessionState). StandsFor n (fed_mor
 
 -- ---- The connection is refused
 
--- Let the unread bytes of a live session begin with a head that is refused. The session that has the refusal's response
--- in its output and is refused stands for the same traffic, and is quiet (`IsQuiet`).
+-- The unread bytes of the live session `s` begin with a head that is refused. `new` is `s` with the refusal's response
+-- in its output and with the connection refused. Then `new` stands for the traffic that `s` stands for, and is quiet
+-- (`IsQuiet`).
 pub refused_now : HeadStays → (s : SessionState) (status : ℕ) (past : Traffic) → StandsFor s past → IsFree s
     → IsFound s.unread (RefusedHead status) → (new : SessionState)
     → new ≡ record s { output = s.output ++ response_text status [] false true; standing = Refused status }
@@ -107,15 +108,15 @@ refused_now stays s status past st free found new e =
 
 -- ---- One more message is read
 
--- Let at least one of REQUESTS requests be left. The code's test whether the connection closes after the next message
+-- If at least one of REQUESTS requests is left, the code's test whether the connection closes after the next message
 -- gives what `closes_after` gives.
 close_is : (close : Bool) (done left : ℕ) (head : Head) → done + left ≡ REQUESTS → 0 < left
     → close ≡ (head.close || nat_le left 1) → closes_after (done + 1) head ≡ close
 close_is close done left head e some c = ap (λ b. head.close || b) (last_is done left e some) ∙ sym c
 
 -- The unread bytes of a session that goes on begin with a message with the head `head`, and `close` says whether the
--- connection closes after it. The commands given and the bytes written so far, with what this message adds to them, are
--- the commands and the responses of the messages up to this one.
+-- connection closes after this message. The commands given and the bytes written so far, with what this message adds,
+-- are the commands and the responses of the messages up to this one.
 record OneMore (s : SessionState) (past : Traffic) (head : Head) (close : Bool) : Type 0 where
   pub was : Runs s past
   pub close_is : closes_after (length was.done + 1) head ≡ close
@@ -160,8 +161,9 @@ fault_commands : (s : SessionState) (past : Traffic) (head : Head) (close : Bool
 fault_commands s past head close f o asks =
     sym (append-nil past.given) ∙ ap (λ r. past.given ++ command_of r) (sym asks) ∙ o.commands_are
 
--- Let the first unread message of a live session have a fault and not close the connection. The session that has read
--- this message, with the fault's response in its output, stands for the same traffic.
+-- The first unread message of the live session `s` has a fault and doesn't close the connection. `new` is `s` after it
+-- has read this message, with the fault's response in its output. Then `new` stands for the traffic that `s` stands
+-- for.
 pub fault_goes : HeadLaws → (s : SessionState) (past : Traffic) (head : Head) (close : Bool) (f : Fault)
     → StandsFor s past → IsFree s
     → close ≡ (head.close || nat_le s.left 1) → close ≡ false → IsWhole s.unread head
@@ -191,9 +193,9 @@ fault_goes laws s past head close f st free c goes_on whole asks new e =
           ∙ ap (λ z. responses 0 done past.told ++ stage_text z) (sym stage);
     })
 
--- Let the first unread message of a live session have a fault and close the connection. The session that has read this
--- message, with the fault's response in its output, and is closed stands for the same traffic, and is quiet
--- (`IsQuiet`).
+-- The first unread message of the live session `s` has a fault and closes the connection. `new` is `s` after it has
+-- read this message, with the fault's response in its output and with the connection closed. Then `new` stands for the
+-- traffic that `s` stands for, and is quiet (`IsQuiet`).
 pub fault_closes : HeadLaws → (s : SessionState) (past : Traffic) (head : Head) (close : Bool) (f : Fault)
     → StandsFor s past → IsFree s
     → close ≡ (head.close || nat_le s.left 1) → close ≡ true → IsWhole s.unread head
@@ -253,8 +255,9 @@ pub waits_for : (close : Bool) → waiting_for close ≢ Nothing
 waits_for true e = cc
 waits_for false e = cc
 
--- Let the first unread message of a live session ask for the command `what`. The session that has read this message and
--- waits for an answer stands for the traffic with `what` given in addition.
+-- The first unread message of the live session `s` asks for the command `what`. `new` is `s` after it has read this
+-- message, and waits for the answer. Then `new` stands for the traffic that `s` stands for, with `what` given in
+-- addition.
 pub command_given : HeadLaws → (s : SessionState) (past : Traffic) (head : Head) (close : Bool) (what : Command)
     → StandsFor s past → IsFree s
     → close ≡ (head.close || nat_le s.left 1) → IsWhole s.unread head → asked_by (message_at s.unread head) ≡ Ok what
@@ -308,7 +311,7 @@ command_given laws s past head close what st free c whole asks new e =
 -- ---- The session adopts a reading of its unread bytes
 
 -- The reading `new` consumed `n` bytes more than the reading `r`. The session that `new` makes has `n` fewer unread
--- bytes than the one that `r` makes, and its other fields are those of `new`.
+-- bytes than the session that `r` makes, and all other fields are those of `new`.
 pub past_state : (bytes : List ℕ) (r new : Progress) (n : ℕ) → new.read ≡ r.read + n
     → read_state bytes new ≡ record {
       unread = drop n (drop r.read bytes);
@@ -327,8 +330,8 @@ past_state bytes r new n e =
     } in
     y) (ap (λ k. drop k bytes) e ∙ sym (drop-drop n r.read bytes))
 
--- If the reading `p` consumed one message of `n` bytes more than `r`, and a command then waits, the session that it
--- makes has `n` fewer unread bytes, is allowed one request fewer, and waits for `v`.
+-- The reading `p` consumed one message of `n` bytes more than the reading `r`, and a command then waits. The session
+-- that `p` makes is that of `r` with `n` fewer unread bytes and one request fewer allowed, and it waits for `v`.
 pub command_state : (bytes : List ℕ) (r p : Progress) (n : ℕ) (w v : Waiting)
     → p ≡ record r { read = r.read + n; left = r.left - 1 } → w ≡ v
     → read_state bytes (record p { waiting = w }) ≡ record (read_state bytes r) {
@@ -345,8 +348,9 @@ command_state bytes r p n w v e f =
       waiting = z;
     } in y) f
 
--- If the reading `p` consumed one faulty request of `n` bytes more than `r`, the session that it makes has `n` fewer
--- unread bytes, is allowed one request fewer, and has the fault's response `text` added to its output.
+-- The reading `p` consumed one faulty request of `n` bytes more than the reading `r`. The session that `p` makes is
+-- that of `r` with `n` fewer unread bytes, one request fewer allowed, and the fault's response `text` added to the
+-- output.
 pub fault_state : (bytes : List ℕ) (r p : Progress) (n : ℕ) (t text : List ℕ)
     → p ≡ record r { responses = t; read = r.read + n; left = r.left - 1 } → t ≡ r.responses ++ text
     → read_state bytes p ≡ record (read_state bytes r) {
@@ -363,9 +367,9 @@ fault_state bytes r p n t text e f =
       output = z;
     } in y) f
 
--- If the reading `p` consumed one faulty request of `n` bytes more than `r`, and the connection closes after it, the
--- session that it makes has `n` fewer unread bytes, is allowed one request fewer, has the fault's response `text` added
--- to its output, and is closed.
+-- The reading `p` consumed one faulty request of `n` bytes more than the reading `r`, and the connection closes after
+-- it. The session that `p` makes is that of `r` with `n` fewer unread bytes, one request fewer allowed, and the fault's
+-- response `text` added to the output. It is also closed.
 pub closed_state : (bytes : List ℕ) (r p : Progress) (n : ℕ) (t text : List ℕ)
     → p ≡ record r { responses = t; read = r.read + n; left = r.left - 1 } → t ≡ r.responses ++ text
     → read_state bytes (record p { standing = Closed })
@@ -379,8 +383,8 @@ closed_state bytes r p n t text e f =
     ap (λ (z : SessionState). let y : SessionState = record z { standing = Closed } in
     y) (fault_state bytes r p n t text e f)
 
--- If the reading `p` found a refused head after what `r` consumed, the session that it makes has the refusal's response
--- added to its output and is refused with `status`. Its other fields are unchanged.
+-- The reading `p` found a refused head after the bytes that `r` consumed. The session that `p` makes is that of `r`
+-- with the refusal's response added to the output, and is refused with `status`.
 pub refused_state : (bytes : List ℕ) (r p : Progress) (status : ℕ)
     → p ≡ record r { responses = r.responses ++ response_text status [] false true; standing = Refused status }
     → read_state bytes p ≡ record (read_state bytes r) {
@@ -422,8 +426,9 @@ stands_then s r past st = record {
   written = sym (append_assoc past.sent s.output r.responses) ∙ st.written;
 }
 
--- The reading `r` makes a session whose output lacks that of `s`. If `IsNext` holds of it, with the output of `s`
--- counted as sent, `IsNext` holds of the session that has adopted `r`.
+-- The session that the reading `r` makes has only the output of `r`, and not that of `s`. If `IsNext` holds for this
+-- session, with the output of `s` counted as sent, then `IsNext` holds for `new`, the session `s` after it has adopted
+-- `r`.
 pub taken_over : (s : SessionState) (r : Progress) (o : Option Command) (past : Traffic)
     → IsNext o (read_state s.unread r) (sent_more s.output past)
     → (new : SessionState) → new ≡ with_progress s r → IsNext o new past
@@ -432,8 +437,9 @@ taken_over s r None past n new e =
 taken_over s r (Some what) past n new e =
     subst (λ (x : SessionState). IsNext (Some what) x past) (sym e) (stands_then s r (given_one what past) n.0, n.1)
 
--- Let `IsNext` hold of the session that the reading `r` makes, for each traffic that the reading stood for at its
--- start. Then it holds of the session that has adopted `r`, for each traffic that `s` stands for.
+-- The reading `r` began as `start`, and `new` is the session `s` after it has adopted `r`. Assume that `IsNext` holds
+-- for the session that `r` makes, for each traffic that the session of `start` stands for. Then `IsNext` holds for
+-- `new`, for each traffic that `s` stands for.
 pub next_by : (s v : SessionState) (bytes : List ℕ) (start r : Progress) (o : Option Command) → v ≡ s → bytes ≡ v.unread
     → start ≡ record { read = 0; left = v.left; responses = []; standing = Live; waiting = Nothing } → IsFree s
     → ((past : Traffic) → StandsFor (read_state bytes start) past → IsNext o (read_state bytes r) past)
@@ -456,8 +462,8 @@ next_by s v bytes start r o ev eb es free go new e past st =
 
 -- ---- An answer is told
 
--- The answer `a` to the one command that waits adds its response to the responses so far. Then each command has its
--- answer.
+-- The answer `a` to the one command that waits adds the response of `a` to the responses so far. Then each command has
+-- its answer.
 pub awaited_text : (close : Bool) (done : List Message) (told : Answers) (a : Result Reply Refusal)
     → IsAwaited close done told
     → (responses 0 done (told ++ a ∷ []) ≡ responses 0 done told ++ answered (reply_of a) close)
@@ -484,8 +490,8 @@ awaited_text close done told a w =
           ∙ sym (length-append (commands w.before) (w.what ∷ [])) ∙ sym (ap length all),
     )
 
--- If the session `s` waits for an answer, the session that has the answer's response in its output stands for the
--- traffic with the answer told in addition.
+-- The session `s` waits for an answer. `new` is `s` after the answer `a`, with the response of `a` in its output. Then
+-- `new` stands for the traffic that `s` stands for, with `a` told in addition.
 pub answer_told : (s : SessionState) (past : Traffic) (a : Result Reply Refusal) → StandsFor s past
     → s.waiting ≢ Nothing
     → (new : SessionState) → new ≡ record s {
@@ -581,14 +587,14 @@ less_asked s head close unread free c new e =
     by_close true some = omega arith
     by_close false some = let h = some refl in omega arith
 
--- If `IsNearer` holds from `a` to `b` and from `b` to `c`, it holds from `a` to `c`.
+-- If `IsNearer` holds from `a` to `b` and from `b` to `c`, then `IsNearer` holds from `a` to `c`.
 pub nearer_then : (a b c : SessionState) → IsNearer a b → IsNearer b c → IsNearer a c
 nearer_then a b c (inl h) (inl k) = inl (omega arith)
 nearer_then a b c (inl h) (inr k) = inl (omega (arith, h, k.1))
 nearer_then a b c (inr h) (inl k) = inl (omega (arith, h.1, k))
 nearer_then a b c (inr h) (inr k) = inr (k.0 ∙ h.0, k.1 ∙ h.1)
 
--- If `IsNearer` holds from `a` to `b`, and `to_come` falls from `b` to `c`, it falls from `a` to `c`.
+-- If `IsNearer` holds from `a` to `b`, and `to_come` falls from `b` to `c`, then `to_come` falls from `a` to `c`.
 pub nearer_less : (a b c : SessionState) → IsNearer a b → to_come c < to_come b → to_come c < to_come a
 nearer_less a b c (inl h) k = omega arith
 nearer_less a b c (inr h) k = omega (arith, h.1, k)
@@ -613,8 +619,8 @@ told_still left d new w close c waits e =
 abbrev pub Limits : Type 0
 Limits = (bytes : List ℕ) (found : Found) → IsFound bytes found → IsWithinLimits bytes found
 
--- If the reading gave no command and makes a quiet session, the session that has adopted the reading waits for no
--- answer and has no whole message unread (`IsReadOut`).
+-- If the reading gave no command and makes a quiet session, then `IsReadOut` holds for the session that has adopted the
+-- reading.
 pub read_out : Limits → (o : Option Command) (s v new : SessionState) (bytes : List ℕ) (r : Progress) → v ≡ s
     → bytes ≡ v.unread → (o ≡ None → IsQuiet (read_state bytes r)) → new ≡ with_progress s r → IsReadOut o new
 read_out limits (Some what) s v new bytes r ev eb q e = tt
@@ -632,8 +638,8 @@ fewer_same (Some what) a b s n ea eb ua ub h = omega arith
 fewer_same None a b s n ea eb ua ub (inl h) = inl (omega arith)
 fewer_same None a b s n ea eb ua ub (inr h) = inr (sym ub ∙ h.0 ∙ ua, sym eb ∙ h.1 ∙ ea)
 
--- If `to_come` falls over the reading in the way that `IsFewer` describes, it does so from the session `s` to the
--- session that has adopted the reading.
+-- If `IsFewer` holds over the reading, from `start` to `r`, then `IsFewer` also holds from the session `s` to the
+-- session that has adopted `r`.
 pub fewer_by : (o : Option Command) (s v new : SessionState) (bytes : List ℕ) (start r : Progress) → v ≡ s
     → bytes ≡ v.unread → start ≡ record { read = 0; left = v.left; responses = []; standing = Live; waiting = Nothing }
     → IsFree s
@@ -649,7 +655,8 @@ fewer_by o s v new bytes start r ev eb es free h e =
 few_then_fed : (n : ℕ) → n < HEAD_BYTES + BODY_BYTES → PIECE_BYTES ≤ UNREAD_BYTES - n
 few_then_fed n h = omega arith
 
--- If no command is given and no whole message is unread, a live session may be fed a whole piece (`CanBeFed`).
+-- If no command is given and the session `new` is read out (`IsReadOut`), then a live `new` may be fed a whole piece
+-- (`CanBeFed`).
 pub read_out_fed : (o : Option Command) (new : SessionState) → IsReadOut o new → CanBeFed o new
 read_out_fed (Some what) new r = tt
 read_out_fed None new r = λ live. few_then_fed (length new.unread) (r.1 live)

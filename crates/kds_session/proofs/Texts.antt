@@ -1,5 +1,5 @@
 -- The commands that a session gave and the bytes that it wrote are those of all bytes of the connection, or the first
--- of them.
+-- part of those.
 use Rattle.std.proofs.Common.{◌≡◌, ◌≢◌, ℕ, List, [], ◌∷◌, ◌++◌, length, sym, ap, ◌∙◌, subst, arith, refl, Option, Some}
 use Rattle.std.proofs.Common.{None}
 use Rattle.std.specs.Prelude.{slice_get}
@@ -22,8 +22,8 @@ use Rattle.kds_session.proofs.Responses.{responses-front, responses-enough, comm
 
 -- ---- All bytes that were fed, if the session is quiet
 
--- If no whole message is unread while the stage is `going`, the bytes `fed` fall into the messages `done` with the
--- ending that the stage and the unread bytes determine (`end_in`), and `stage_text` is the text of this ending.
+-- Assume that no whole message is unread if the stage is `going`. Then the bytes `fed` fall into the messages `done`,
+-- with the ending that the stage and the unread bytes determine (`end_in`). `stage_text` is the text of this ending.
 ending_of : (stage : Stage) (fed : List ℕ) (done : List Message) (left : ℕ) (unread : List ℕ)
     → Leads stage fed done left unread → (stage ≡ going → IsUnfinished unread)
     → (stage_text stage ≡ end_text (end_in stage unread)) × Falls 0 fed done (end_in stage unread)
@@ -37,8 +37,8 @@ live_by Live w e = refl
 live_by Closed w e = absurd (cc e)
 live_by (Refused status) w e = absurd (cc e)
 
--- If the session is quiet (`IsQuiet`), the commands that it gave and the bytes that it wrote are those of all bytes
--- that it was fed. These bytes end as the session's state determines (`end_of`).
+-- If the session `s` is quiet (`IsQuiet`), the commands that `s` gave and the bytes that it wrote are those of all
+-- bytes that `s` was fed. The fed bytes end as the state of `s` determines (`end_of`).
 pub quiet_text : (s : SessionState) (past : Traffic) → StandsFor s past → IsQuiet s
     → (http : IsHttp past.fed past.given past.told (past.sent ++ s.output)) × (http.ending ≡ end_of s)
 quiet_text s past st quiet =
@@ -63,7 +63,7 @@ over_more going fed done left unread more ends g = absurd (ends refl)
 over_more (over ending) fed done left unread more ends g =
     λ rest. subst (λ (z : List ℕ). Falls 0 z done ending) (sym (append_assoc fed more rest)) (g (more ++ rest))
 
--- If the session isn't live, it stands for the same traffic with any bytes `more` fed in addition.
+-- If the session `s` isn't live, it stands for the same traffic with any bytes `more` fed in addition.
 pub nothing_more : (s : SessionState) (past : Traffic) → StandsFor s past → s.standing ≢ Live → (more : List ℕ)
     → StandsFor s (fed_more more past)
 nothing_more s past st ended more = record {

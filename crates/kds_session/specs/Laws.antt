@@ -8,25 +8,27 @@ use Rattle.kds_session.specs.Text.{Answers, commands, responses, end_text, IsHtt
 use Rattle.kds_session.specs.States.{SessionState}
 use Rattle.kds_session.specs.Standing.{Traffic, fed_more, StandsFor, IsQuiet, end_of}
 
--- Bytes that come after `before` messages of a connection fall into messages, and have an ending, in one way at most.
+-- If bytes that come after `before` messages of a connection fall into messages with an ending (`Falls`), they do so in
+-- one way only: the bytes determine the messages and the ending.
 abbrev pub OneDivision : Type 0
 OneDivision = (before : ℕ) (bytes : List ℕ) (ms ns : List Message) (ending other : Ending)
     → Falls before bytes ms ending → Falls before bytes ns other → (ms ≡ ns) × (ending ≡ other)
 
--- If the session `s` waits for no answer and no whole message is unread (`IsQuiet`), the commands that it gave and the
--- bytes that it wrote are those of all bytes that it was fed, with the answers that it was told. These bytes end as the
--- state of `s` determines (`end_of`).
+-- Assume that the session `s` is quiet (`IsQuiet`). Then the commands that `s` gave and the bytes that it wrote are
+-- those of all bytes that `s` was fed, with the answers that `s` was told (`IsHttp`). The fed bytes end as the state of
+-- `s` determines (`end_of`).
 abbrev pub WholeText : Type 0
 WholeText = (s : SessionState) (past : Traffic) → StandsFor s past → IsQuiet s
     → (http : IsHttp past.fed past.given past.told (past.sent ++ s.output)) × (http.ending ≡ end_of s)
 
--- Once the session isn't live, it ignores bytes: it stands for the same traffic with any bytes `more` fed in addition.
+-- If the session `s` isn't live, it ignores bytes: `s` stands for the same traffic with any bytes `more` fed in
+-- addition.
 abbrev pub NothingFollows : Type 0
 NothingFollows = (s : SessionState) (past : Traffic) → StandsFor s past → s.standing ≢ Live → (more : List ℕ)
     → StandsFor s (fed_more more past)
 
 -- The commands `given` are the first commands of the messages `ms`. Whatever answers come after `told`, the bytes
--- `text` are a prefix of the responses to `ms`, followed by what is written for `ending`.
+-- `text` are a prefix of this whole text: the responses to `ms`, and then what is written for `ending`.
 pub record IsFirstPart (ms : List Message) (ending : Ending) (given : List Command) (told : Answers) (text : List ℕ) :
     Type 0 where
   pub first : (coming : List Command) × (commands ms ≡ given ++ coming)

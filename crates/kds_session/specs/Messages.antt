@@ -26,8 +26,8 @@ pub record IsShort (bytes : List ℕ) (head : Head) : Type 0 where
   pub found : IsFound bytes (Whole head)
   pub short : length bytes < size head
 
--- The bytes `bytes` don't begin with a whole message yet, but may when more bytes come: their head isn't whole, or it
--- is whole and their body isn't.
+-- The bytes `bytes` don't begin with a whole message yet, but may when more bytes come. Either the head isn't whole, or
+-- the head is whole and the body isn't.
 abbrev pub IsUnfinished : List ℕ → Type 0
 IsUnfinished bytes = IsFound bytes Need ⊎ ((head : Head) × IsShort bytes head)
 
@@ -50,16 +50,16 @@ pub data Ending : Type 0 where
   boundary inside closed : Ending
   refused : ℕ → Ending
 
--- The bytes `bytes`, which come after the last whole message, have this ending. It isn't `closed`: if the connection
--- closes after a message, `Falls` says so.
+-- The bytes `bytes`, which come after the last whole message, have this ending. `closed` is never their ending: if the
+-- connection closes after a message, `Falls` says so.
 abbrev pub Ends : List ℕ → Ending → Type 0
 Ends bytes boundary = bytes ≡ []
 Ends bytes inside = (0 < length bytes) × IsUnfinished bytes
 Ends bytes closed = ⊥
 Ends bytes (refused status) = IsFound bytes (Refused status)
 
--- Whether the connection closes after the message with the number `number`, counted from 1: its head asks for this, or
--- it is the last message that is allowed (RFC 9112, section 9.6).
+-- Whether the connection closes after the message with the number `number`, counted from 1. This is so if the head asks
+-- for it, or if the message is the last one that is allowed (RFC 9112, section 9.6).
 abbrev pub closes_after : ℕ → Head → Bool
 closes_after number head = head.close || number == REQUESTS
 

@@ -18,9 +18,9 @@ pub data Stage : Type 0 where
   going : Stage
   over : Ending → Stage
 
--- The stage of a connection, by the session's standing and by the answer that it waits for. If it waits for the answer
--- after which the connection closes (`LastAnswer`), the connection is already over, because it reads no further
--- message.
+-- The stage of a connection, by the session's standing and by the answer that the session waits for. If this is the
+-- answer after which the connection closes (`LastAnswer`), the connection is already over, because no further message
+-- is read.
 abbrev pub stage_of : Standing → Waiting → Stage
 stage_of Live Nothing = going
 stage_of Live Answer = going
@@ -28,8 +28,8 @@ stage_of Live LastAnswer = over closed
 stage_of Closed waiting = over closed
 stage_of (Refused status) waiting = over (refused status)
 
--- The last of the messages `done` asks for a command that has no answer yet, and each command before it has one. The
--- Boolean `close` says whether the connection closes after this last message.
+-- The last of the messages `done` asks for a command that has no answer yet. Each command of the messages before it has
+-- an answer. The Boolean `close` says whether the connection closes after this last message.
 pub record IsAwaited (close : Bool) (done : List Message) (told : Answers) : Type 0 where
   pub before : List Message
   pub last : Message
@@ -39,15 +39,15 @@ pub record IsAwaited (close : Bool) (done : List Message) (told : Answers) : Typ
   pub told_before : length told ≡ length (commands before)
   pub close_is : closes_after (length before + 1) last.head ≡ close
 
--- Which commands of the messages `done` have their answers, by what the session waits for. All have one if it waits for
--- nothing, and otherwise all but the command of the last message (`IsAwaited`).
+-- Which commands of the messages `done` have answers in `told`, by what the session waits for. If it waits for nothing,
+-- each command has an answer. Otherwise each command but that of the last message has an answer (`IsAwaited`).
 abbrev pub Awaits : Waiting → List Message → Answers → Type 0
 Awaits Nothing done told = length told ≡ length (commands done)
 Awaits Answer done told = IsAwaited false done told
 Awaits LastAnswer done told = IsAwaited true done told
 
--- Of the bytes `fed`, the messages `done` were read, and `left` further messages, at least one, are allowed. Whatever
--- bytes `more` follow, all bytes fall into `done`, followed by the messages of `unread` with `more`.
+-- From the bytes `fed`, the messages `done` were read. `left` further messages are allowed, and `left` is at least 1.
+-- Whatever bytes `more` follow, all bytes fall into `done` and then into the messages of `unread` with `more`.
 pub record GoesOn (fed : List ℕ) (done : List Message) (left : ℕ) (unread : List ℕ) : Type 0 where
   pub count : length done + left ≡ REQUESTS
   pub some_left : 0 < left
@@ -57,14 +57,14 @@ pub record GoesOn (fed : List ℕ) (done : List Message) (left : ℕ) (unread : 
       → (ms : List Message) × (all ≡ done ++ ms) × Falls (length done) (unread ++ more) ms ending
 
 -- How the bytes `fed` fall into messages, by the stage. If the connection goes on, the messages `done` were read, and
--- those of the bytes `unread` come next (`GoesOn`). If it is over, `fed` and whatever bytes follow fall into `done`,
--- with the stage's ending.
+-- those of the bytes `unread` come next (`GoesOn`). If the connection is over, `fed` and whatever bytes follow fall
+-- into `done`, with the stage's ending.
 abbrev pub Leads : Stage → List ℕ → List Message → ℕ → List ℕ → Type 0
 Leads going fed done left unread = GoesOn fed done left unread
 Leads (over ending) fed done left unread = (more : List ℕ) → Falls 0 (fed ++ more) done ending
 
--- What is written at the end of a connection, by its stage: nothing while it goes on, and otherwise the text of its
--- ending.
+-- What is written at the end of a connection, by its stage: nothing while the connection goes on, and otherwise the
+-- text of the stage's ending.
 abbrev pub stage_text : Stage → List ℕ
 stage_text going = []
 stage_text (over ending) = end_text ending
@@ -85,9 +85,10 @@ traffic fed given told sent = record { fed = fed; given = given; told = told; se
 abbrev pub no_traffic : Traffic
 no_traffic = traffic [] [] [] []
 
--- The session `s` stands for the traffic `past`. The commands given are those of the messages `done`, and each has its
--- answer, except perhaps the last, for which only a live session waits. What was sent, followed by the output, is the
--- responses to `done` and, if the connection is over, the text of its ending.
+-- The session `s` stands for the traffic `past`. The commands given are those of the messages `done`, which were read
+-- from the fed bytes (`Leads`). Each command has its answer, except the last one while `s` waits for its answer, and
+-- `s` waits only if it is live. What was sent, followed by the output, is the responses to `done` and then, if the
+-- connection is over, the text of its ending.
 pub record StandsFor (s : SessionState) (past : Traffic) : Type 0 where
   pub done : List Message
   pub given_is : past.given ≡ commands done
@@ -117,7 +118,8 @@ sent_more bytes past = record past { sent = past.sent ++ bytes }
 abbrev pub CarriesOn : SessionState → SessionState → (Traffic → Traffic) → Type 0
 CarriesOn old new change = (past : Traffic) → StandsFor old past → StandsFor new (change past)
 
--- The session `s` waits for no answer. If it is live, no whole message is unread, and its unread bytes aren't refused.
+-- The session `s` waits for no answer. If `s` is live, no whole message is unread, and the unread bytes don't begin
+-- with a refused head.
 abbrev pub IsQuiet : SessionState → Type 0
 IsQuiet s = (s.standing ≡ Live → IsUnfinished s.unread) × (s.waiting ≡ Nothing)
 
@@ -130,9 +132,9 @@ HasNoneLeft (over ending) unread = Unit {0}
 abbrev pub IsAtBoundary : SessionState → Type 0
 IsAtBoundary s = HasNoneLeft (stage_of s.standing s.waiting) s.unread
 
--- How all bytes end, by the stage and by the unread bytes, if no whole message is unread. While the connection goes on,
--- they end between two messages if nothing is unread, and otherwise inside a message. If it is over, they have its
--- ending.
+-- How all bytes of a connection end, by the stage and by the unread bytes, if no whole message is unread. While the
+-- connection goes on, all bytes end between two messages if nothing is unread, and otherwise inside a message. If the
+-- connection is over, all bytes have the stage's ending.
 abbrev pub end_in : Stage → List ℕ → Ending
 end_in going [] = boundary
 end_in going (b ∷ bs) = inside
@@ -142,8 +144,8 @@ end_in (over ending) unread = ending
 abbrev pub end_of : SessionState → Ending
 end_of s = end_in (stage_of s.standing s.waiting) s.unread
 
--- How much may still come on a connection in a stage: `left` requests and the end while it goes on, or 0 once it is
--- over.
+-- How much may still come on a connection, by its stage. While the connection goes on, `left` requests and the end of
+-- the connection may come, and once it is over, nothing.
 abbrev pub still : Stage → ℕ → ℕ
 still going left = left + 1
 still (over ending) left = 0

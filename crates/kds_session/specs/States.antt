@@ -5,8 +5,9 @@ use Rattle.kds_session.specs.declared.state.Standing.TheVariants.{Closed}
 use Rattle.kds_session.specs.declared.state.Waiting.{Waiting}
 use Rattle.kds_session.specs.declared.state.Waiting.TheVariants.{Nothing, Answer, LastAnswer}
 
--- What contracts see of a session: the bytes that were fed and aren't read yet, the bytes of responses that aren't sent
--- yet, how many further requests are allowed, the state of the connection, and whether a command waits for its answer.
+-- What contracts see of a session: the bytes that were fed and aren't read yet (`unread`), the bytes of responses that
+-- aren't sent yet (`output`), and how many further requests are allowed (`left`). Then follow the state of the
+-- connection, and whether a command waits for its answer.
 pub record SessionState : Type 0 where
   pub unread : List ℕ
   pub output : List ℕ

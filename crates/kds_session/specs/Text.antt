@@ -14,7 +14,7 @@ use Rattle.kds_session.specs.Messages.{Message, Ending, boundary, inside, closed
 
 -- The command that a whole request asks for, or its first fault. An empty `operation`, which means that the target
 -- doesn't have the required form, is the fault Unknown. A request without the JSON content type (`json`) is the fault
--- Serialization. The operation and the body are judged after these two (Kinesis API Reference, Common Errors).
+-- Serialization. The operation and the body are judged after these two checks (Kinesis API Reference, Common Errors).
 unfoldable pub requested : List ℕ → Bool → List ℕ → Result Command Fault
 requested operation json body =
     if length operation == 0 then Err (fault_of Unknown [])
@@ -25,12 +25,12 @@ requested operation json body =
 abbrev pub asked_by : Message → Result Command Fault
 asked_by m = requested m.head.operation m.head.json m.body
 
--- The command that a request asks for, alone in a list, or no command if the request has a fault.
+-- The command that a request asks for, as a list of one. The list is empty if the request has a fault.
 abbrev pub command_of : Result Command Fault → List Command
 command_of (Ok what) = what ∷ []
 command_of (Err fault) = []
 
--- The commands that a list of messages asks for, in order. A faulty request has none.
+-- The commands that a list of messages asks for, in order. A faulty request asks for none.
 abbrev pub commands : List Message → List Command
 commands [] = []
 commands (m ∷ ms) = command_of (asked_by m) ++ commands ms
@@ -40,7 +40,7 @@ abbrev pub Answers : Type 0
 Answers = List (Result Reply Refusal)
 
 -- The response with the status and the JSON body of `reply`. The Boolean `close` says whether the connection closes
--- after it.
+-- after this response.
 abbrev pub answered : ℕ × List ℕ → Bool → List ℕ
 answered reply close = response_text reply.0 reply.1 true close
 

@@ -1,6 +1,6 @@
--- A stream still shows its journal and keeps its invariant (`IsStream`) after its clock has moved on, and after one of
--- its logs has lost its trimmed records (the log is settled). A retreat sets a stream's clock and cut back to the
--- values that the stream keeps for it.
+-- A stream still shows its journal and keeps its invariant (`IsStream`) after its clock moves on, and after one of its
+-- logs loses its trimmed records (is settled). A retreat sets a stream's clock and cut back to `clock_before` and
+-- `cut_before`.
 use Rattle.std.proofs.Common.{◌≡◌, ℕ, zero, suc, ◌+◌, ◌≤◌, Bool, true, false, List, [], ◌∷◌, length, Option, refl, sym}
 use Rattle.std.proofs.Common.{ap, ◌∙◌, arith}
 use Rattle.std.specs.Prelude.{cond, not, nat_le, nat_lt, ◌&&◌}
@@ -19,8 +19,8 @@ use Rattle.kds_stream.specs.Value.{IsStream, StreamValue, cut_at, later_cut}
 
 -- ---- Logs and a higher trim floor
 
--- If logs keep a journal's records except for some that arrived below `floor` (`AreKept`), they also keep them except
--- for some that arrived below a higher floor.
+-- If logs keep the records of a journal except for some that arrived before the time `floor` (`AreKept`), the same is
+-- true with a later time `higher` instead of `floor`.
 pub kept_higher : (floor higher : ℕ) (log : Journal) (s n : ℕ) (ls : List LogValue) → floor ≤ higher
     → AreKept floor log s n ls → AreKept higher log s n ls
 kept_higher floor higher log s n [] le h = tt
@@ -29,8 +29,8 @@ kept_higher floor higher log s n (l ∷ ls) le h = (
   kept_higher floor higher log s (n + 1) ls le h.1,
 )
 
--- A stream still shows its journal after its clock has moved on to `clock` and its cut (the trim horizon) has moved
--- with it.
+-- A stream still shows its journal after its clock moves on to `clock`. Its cut (the trim horizon) becomes `cut`, the
+-- later one of its old cut and the cut at `clock`.
 pub shows_advanced : (v : StreamValue) (log : Journal) (clock : ℕ) (cut : Option ℕ)
     → cut ≡ later_cut v.cut (cut_at clock v.hours) → v.clock ≤ clock → Shows v log
     → Shows (record v { clock = clock; cut = cut; clock_before = v.clock; cut_before = v.cut }) log
@@ -54,8 +54,8 @@ shows_advanced v log clock cut is later shown =
       rates = shown.rates;
     }
 
--- A stream keeps its invariant (`IsStream`) after its clock has moved on to `clock` and its cut (the trim horizon) has
--- moved with it.
+-- A stream keeps its invariant (`IsStream`) after its clock moves on to `clock`. Its cut (the trim horizon) becomes
+-- `cut`, the later one of its old cut and the cut at `clock`.
 pub stream_advanced : (v : StreamValue) (clock : ℕ) (cut : Option ℕ) → cut ≡ later_cut v.cut (cut_at clock v.hours)
     → v.clock ≤ clock → IsStream v
     → IsStream (record v { clock = clock; cut = cut; clock_before = v.clock; cut_before = v.cut })
@@ -90,8 +90,8 @@ left_twice_by false true r rs f p g isb isc le h = absurd (late r.arrival r.seq 
     late arrival seq f p g isb isc le = grind (arith, nat_tests)
 left_twice_by false false r rs f p g isb isc le h = h
 
--- Trimming records at the floor `g` and then at the floor `f`, which isn't lower, leaves the same records as trimming
--- them at `f` alone. In both cases, only records from the position `p` on are left.
+-- Let the floor `g` be at most the floor `f`. Trimming records at `g` and then at `f` leaves the same records as
+-- trimming them at `f` alone. In both cases, only records from the position `p` on are left.
 pub left_twice : (f p g : ℕ) (rs : List Logged) → g ≤ f → left_among f p (left_among g 0 rs) ≡ left_among f p rs
 left_twice f p g [] le = refl
 left_twice f p g (r ∷ rs) le =
@@ -109,7 +109,7 @@ kept_settled floor log s n zero (l ∷ ls) h =
 kept_settled floor log s n (suc i) (l ∷ ls) h = (h.0, kept_settled floor log s (n + 1) i ls h.1)
 
 -- The stream `v` after the log at the index `i` has lost its trimmed records. The log at the index `next` is the next
--- to lose them, and a retreat goes back to `clock` and `cut`.
+-- one to be settled, and a retreat goes back to `clock` and `cut`.
 abbrev pub settled_at_index : StreamValue → ℕ → ℕ → Option ℕ → ℕ → StreamValue
 settled_at_index v i clock cut next =
     record v {

@@ -13,9 +13,9 @@ use Rattle.kds_stream.specs.Value.{cut_at, later_cut}
 
 -- ---- What a line adds to the trim floor of a stream
 
--- What a line adds to the trim floor of a stream, which is 0 if the stream isn't made even after the line (`made`). It
--- is `floor`, by the retention after the line, or `floor_before`, by the retention before it, if this is greater and
--- the stream was made before the line (`before`).
+-- The trim floor that a line gives a stream: 0 if the stream isn't made after the line (`made` is false), and otherwise
+-- `floor`, by the retention after the line. If the stream was made before the line (`before` is true) and
+-- `floor_before`, by the retention before the line, is greater, the result is `floor_before`.
 pub added : Bool → Bool → ℕ → ℕ → ℕ
 added made before floor floor_before = if made then max floor (if before then floor_before else 0) else 0
 
@@ -105,8 +105,8 @@ advanced_floor log c d s h cut later lasts is =
 pub trims_at : (d hours : ℕ) → IsRetention hours → floor_of (cut_at d hours) ≤ d
 trims_at d hours lasting = omega (arith, cut_floor d hours, lasting.0)
 
--- Let the trim floor for `cut` be at most the clock `c`, and let `d` be a later clock. Then the trim floor for the
--- later one of `cut` and the cut by `d` is at most `d`.
+-- Let the trim floor for `cut` be at most the clock `c`, and let `d` be a later clock. Then the later one of `cut` and
+-- the cut by `d` and an allowed retention has a trim floor of at most `d`.
 pub trims_later : (c d hours : ℕ) (cut : Option ℕ) → IsRetention hours → c ≤ d → floor_of cut ≤ c
     → floor_of (later_cut cut (cut_at d hours)) ≤ d
 trims_later c d hours cut lasting later h = omega (arith, later_floor cut (cut_at d hours), trims_at d hours lasting)

@@ -15,7 +15,7 @@ use Rattle.kds_stream.proofs.Others.{kept_along}
 use Rattle.kds_stream.specs.Showing.{Shows}
 use Rattle.kds_stream.specs.Value.{StreamValue}
 
--- The line by which the actor `by` turns the limits of the stream `v` on, if `on` is true, or off.
+-- The line by which the actor `by` turns the limits of the stream `v` on if `on` is true, and off if it is false.
 abbrev pub limits_line : StreamValue → ℕ → Bool → Line
 limits_line v by on = plain_line v.clock by (entry.Enforced v.no on)
 

@@ -1,4 +1,5 @@
--- Which shards are listed, and that the code answers GetShardIterator and GetRecords as the decisions on them do.
+-- Which shards are listed, and that the code answers GetShardIterator and GetRecords as the decisions on these commands
+-- do.
 use Rattle.std.proofs.Common.{◌≡◌, ℕ, ◌<◌, Bool, true, false, List, [], length, get_or, map, Option, Some, None, refl}
 use Rattle.std.proofs.Common.{sym, ap, ◌∙◌, arith}
 use Rattle.std.specs.Prelude.{slice_get, is_none, is_some, not, ◌&&◌, ◌||◌, if◌then◌else◌, Result, Ok, Err}
@@ -81,7 +82,7 @@ is_listed_some floor (Some x) = by (is_closed_below floor x)
     by true = refl
     by false = refl
 
--- If shard `sh` is listed by the test `is_listed_at`, the stream has a log for it.
+-- If shard `sh` is listed by the test `is_listed_at`, the stream has a log for this shard.
 pub made_within : (v : StreamValue) (sh : ℕ) → IsStream v → is_listed_at (floor_of v.cut) (slice_get v.tree sh) ≡ true
     → sh < length v.logs
 made_within v sh is h = by (slice_get v.tree sh) refl h
@@ -90,7 +91,7 @@ made_within v sh is h = by (slice_get v.tree sh) refl h
     by None e h = absurd cc
     by (Some x) e h = omega (arith, slice_get_within v.tree sh x e, is.as_many)
 
--- If the code finds the listed shard `sh`, shown as `y`, the stream has a log for it.
+-- If the code finds the listed shard `sh`, shown as `y`, the stream has a log for this shard.
 pub listed_within : (v : StreamValue) (sh : ℕ) (y : Shard) → IsStream v
     → Some y ≡ option_map shown (listed_at (floor_of v.cut) (slice_get v.tree sh)) → sh < length v.logs
 listed_within v sh y is h = made_within v sh is (has_state (floor_of v.cut) (slice_get v.tree sh) y h).listed
@@ -163,8 +164,8 @@ module _ (v : StreamValue) (log : Journal) (show : Shows v log) where
   chosen_none true n h = absurd cc
   chosen_none false n h = refl
 
-  -- If the code finds the listed shard `sh`, the start `from` is allowed, and `p` is the position that the shard's log
-  -- gives, GetShardIterator answers with an iterator at the position `p`.
+  -- Let the code find the listed shard `sh`, let the start `from` be allowed, and let `p` be the position that the
+  -- shard's log gives. Then GetShardIterator answers with an iterator at `p`.
   pub iterator_done : (sh : ℕ) (from : Start) (y : Shard) (l : LogValue) (p : ℕ) → sh < length v.logs
       → l ≡ get_or v.logs sh l → Some y ≡ option_map shown (listed_at (floor_of v.cut) (slice_get v.tree sh))
       → ((x : ShardState) → y ≡ shown x
@@ -198,9 +199,9 @@ module _ (v : StreamValue) (log : Journal) (show : Shows v log) where
   closed_by None = refl
   closed_by (Some closing) = refl
 
-  -- By the journal, reading of shard `sh` ends at `reach` if and only if the shard, shown as `y`, has an ending
-  -- sequence number and its log `l` has no untrimmed record from `reach` on. `left` is the arrival of the first such
-  -- record, or `None`.
+  -- Let `y` be shard `sh` as replies show it, and `left` the arrival of the first untrimmed record from `reach` on in
+  -- the shard's log `l`, or `None`. By the journal, reading of the shard ends at `reach` if and only if `y` has an
+  -- ending sequence number and `left` is `None`.
   pub ends_is : (sh reach : ℕ) (y : Shard) (x : ShardState) (l : LogValue) (left : Option ℕ)
       → slice_get v.tree sh ≡ Some x → y ≡ shown x → sh < length v.logs → l ≡ get_or v.logs sh l
       → left ≡ first_arrival (left_among (floor_of v.cut) reach l.kept)
@@ -222,7 +223,7 @@ module _ (v : StreamValue) (log : Journal) (show : Shows v log) where
     reach_is = ap (λ rs. position_after position (numbers_of rs)) (batch_is v log show sh l below at position limit)
         ∙ sym after
 
-    -- A read of the shard that is shown as `y` ends the shard if and only if the shard has an ending sequence number
+    -- Let `y` be the shard as replies show it. A read ends the shard if and only if `y` has an ending sequence number
     -- and no untrimmed record comes after the batch (`left` is `None`).
     pub read_end : (y : Shard) (end : Bool) → Some y ≡ option_map shown (slice_get v.tree sh)
         → end ≡ (is_some y.end && is_none left)

@@ -35,8 +35,8 @@ written_back n new old h = take_at new (drop (length new) old) n h
 
 -- ---- A record is added to the log of its shard
 
--- If `l` is the log at the index `i` of `ls`, then `l` without its reserved memory is the log at the index `i` of `ls`
--- without theirs (`log_of`).
+-- If `l` is the log at the index `i` of `ls`, it still is after the reserved memory is left out of `l` and of all logs
+-- in `ls` (`log_of`).
 pub log_at : (ls : List LogWithReserve) (i : ℕ) (l : LogWithReserve) → l ≡ get_or ls i l
     → log_of l ≡ get_or (map log_of ls) i (log_of l)
 log_at [] i l is = refl
@@ -49,8 +49,8 @@ length-appended i r [] = refl
 length-appended zero r (l ∷ ls) = refl
 length-appended (suc i) r (l ∷ ls) = ap suc (length-appended i r ls)
 
--- The logs that a put writes back are the logs that were lent to it, with two changes in the log at the index `sh`: the
--- record `r` was added, and the records that arrived below `floor` were removed.
+-- The logs that a put writes back are the logs of the stream, with two changes in the log at the index `sh`: the record
+-- `r` was added, and then the records that arrived before the time `floor` were removed.
 pub put_back : (n sh i floor : ℕ) (r : Logged) (new items lent : List LogWithReserve) → length new ≡ n
     → map log_of new ≡ settled_at floor i (with_appended i r (map log_of lent)) → lent ≡ items → i ≡ sh
     → map log_of (take n (new ++ drop (length new) items)) ≡ settled_at floor sh (with_appended sh r (map log_of items))
@@ -81,8 +81,8 @@ two_more new one reserved before l m second first same is other =
     one_more_log new one (before ++ (empty_log ∷ [])) m second (one_more_log one reserved before l first same is) other
     ∙ append_assoc before (empty_log ∷ []) (empty_log ∷ [])
 
--- Suppose that `P` is true of each log, and that `Q` follows from `P`, for the log itself and for the log with the
--- record `r` added. Then `Q` is true of each log after `r` is added to the log at the index `i`.
+-- Suppose that `P` is true of each log. Suppose also that if `P` is true of a log, `Q` is true of this log, and of this
+-- log with the record `r` added. Then `Q` is true of each log after `r` is added to the log at the index `i`.
 pub all-appended : (P Q : LogValue → Type 0) (i : ℕ) (r : Logged) → ((l : LogValue) → P l → Q l)
     → ((l : LogValue) → P l → Q (record { kept = l.kept ++ r ∷ []; last = Some r.seq })) → (ls : List LogValue)
     → AllByRecursion P ls → AllByRecursion Q (with_appended i r ls)
@@ -98,8 +98,8 @@ length-settled floor n [] = refl
 length-settled floor zero (l ∷ ls) = refl
 length-settled floor (suc n) (l ∷ ls) = ap suc (length-settled floor n ls)
 
--- Let `P` be true of each log, and stay true of a log that loses the records that arrived below `floor`. Then `P` is
--- true of each log after the log at the index `n` has lost these records.
+-- Let `P` be true of each log, and stay true of a log that loses the records that arrived before the time `floor`. Then
+-- `P` is true of each log after the log at the index `n` has lost these records.
 pub all-settled : (P : LogValue → Type 0) (floor n : ℕ) → ((l : LogValue) → P l → P (settled_log floor l))
     → (ls : List LogValue) → AllByRecursion P ls → AllByRecursion P (settled_at floor n ls)
 all-settled P floor n f [] h = tt

@@ -1,4 +1,4 @@
--- A new stream meets the invariant (`IsStream`), and shows the journal with the line that makes it.
+-- A new stream meets the invariant (`IsStream`), and shows the journal with the line that makes this stream.
 use Rattle.std.proofs.Common.{◌≡◌, ℕ, zero, suc, ◌+◌, ◌*◌, ◌/◌, ◌^◌, ◌≤◌, false, List, [], ◌∷◌, length, Option, refl}
 use Rattle.std.proofs.Common.{sym, ap, subst, ◌∙◌, arith}
 use Rattle.std.specs.Prelude.{◌==◌, replicate}
@@ -35,7 +35,7 @@ all_first : (next n start : ℕ) (ranges : List Span) → AllByRecursion (EndsUn
 all_first next n start [] = tt
 all_first next n start (r ∷ rs) = (tt, all_first next (n + 1) start rs)
 
--- If `P` is true of `x`, it is true of each element of a list that has `x` several times.
+-- If `P` is true of `x`, then `P` is true of each element of a list that has `n` times the element `x`.
 pub all_replicate : {A : Type 0} (P : A → Type 0) (n : ℕ) (x : A) → P x → AllByRecursion P (replicate n x)
 all_replicate P zero x h = tt
 all_replicate P (suc n) x h = (h, all_replicate P n x h)
@@ -61,7 +61,7 @@ few_made : (count : ℕ) → IsShardCount count → length (filter is_open (made
 few_made count h = omega (arith, h.1, open_first 0 1 (uniform count), length_uniform (2 ^ 128 / count) 0 count)
 
 -- The value of a stream that was just made at the time `made`, with the number `s` and the name `name`. Its retention
--- is the first one, its limits are off, and its next sequence number is 1.
+-- is that of new streams (`FIRST_HOURS`), its limits are off, and its next sequence number is 1.
 abbrev pub new_value : ℕ → ℕ → List ℕ → List ShardState → List LogValue → List WindowValue → Option ℕ → Option ℕ
     → StreamValue
 new_value s made name tree logs windows cut cut_before = record {

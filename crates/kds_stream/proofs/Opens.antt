@@ -1,5 +1,5 @@
--- After a split or a merge that isn't refused, at most `OPEN_SHARDS` shards are open, provided that fewer were open
--- before the split, or no more before the merge.
+-- If fewer than `OPEN_SHARDS` shards are open, at most `OPEN_SHARDS` are open after a split that isn't refused. If at
+-- most `OPEN_SHARDS` shards are open, the same is true after a merge that isn't refused.
 use Rattle.std.proofs.Common.{◌≡◌, ℕ, zero, suc, ◌+◌, ◌<◌, ◌≤◌, Bool, true, false, List, [], ◌∷◌, ◌++◌, length, Option}
 use Rattle.std.proofs.Common.{Some, None, refl, sym, ap, ◌∙◌, arith, length-append}
 use Rattle.std.specs.Prelude.{cond, not, slice_get, if◌then◌else◌}
@@ -18,7 +18,7 @@ use Rattle.kds_tree.specs.Tree.{merge_refusal, split_refusal}
 abbrev pub open_among : List ShardState → ℕ
 open_among xs = length (filter is_open xs)
 
--- If an open shard (`b`) is put in front of a list, the list has one more element.
+-- If `b` is true, so that the shard `x` is put in front of the list `xs`, the list has one more element.
 one_more : (b : Bool) (x : ShardState) (xs : List ShardState) → b ≡ true → length (cond b (x ∷ xs) xs) ≡ suc (length xs)
 one_more true x xs h = refl
 one_more false x xs h = absurd cc
@@ -32,7 +32,7 @@ no_less : (b : Bool) (x : ShardState) (xs : List ShardState) → length xs ≤ l
 no_less true x xs = omega arith
 no_less false x xs = omega arith
 
--- After the shard at the index `sh` is closed, no more shards are open than before.
+-- After the shard at the index `sh` is closed, at most as many shards are open as before.
 open_closed : (sh : ℕ) (closing : Closing) (xs : List ShardState)
     → open_among (with_closed sh closing xs) ≤ open_among xs
 open_closed sh closing [] = omega arith
@@ -45,7 +45,7 @@ both_more : (b : Bool) (x : ShardState) (xs ys : List ShardState) → suc (lengt
 both_more true x xs ys h = ap suc h
 both_more false x xs ys h = h
 
--- After an open shard at the index `sh` is closed, one shard less is open than before.
+-- After the open shard at the index `sh` is closed, one shard fewer is open than before.
 open_fewer : (sh : ℕ) (closing : Closing) (xs : List ShardState) → is_open_at (slice_get xs sh) ≡ true
     → suc (open_among (with_closed sh closing xs)) ≡ open_among xs
 open_fewer sh closing [] h = absurd cc

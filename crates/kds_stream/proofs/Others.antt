@@ -13,8 +13,8 @@ use Rattle.kds_stream.specs.Value.{StreamValue}
 
 -- ---- Journals with the same records
 
--- If logs keep the records of stream `s` in the journal `log` (`AreKept`), they keep those in another journal `log'`
--- that has the same records of `s`.
+-- Let the journals `log` and `log'` have the same records of stream `s`. If logs keep the records of `s` in `log`
+-- (`AreKept`), the same logs keep those in `log'`.
 pub kept_along : (floor : ℕ) (log log' : Journal) (s n : ℕ) (ls : List LogValue)
     → ((sh : ℕ) → records log' s sh ≡ records log s sh)
     → AreKept floor log s n ls → AreKept floor log' s n ls

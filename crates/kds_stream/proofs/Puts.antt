@@ -37,16 +37,16 @@ use Rattle.kds_stream.specs.Value.{EndsUnder, IsClosedUnder, IsStream, StreamVal
 
 -- ---- The next sequence number after a line that takes one
 
--- The next sequence number after a line that takes one is `m + 1`, if it was `m` before. `b` says that the line is
--- about the stream.
+-- If the next sequence number of a stream is `m` before a line of this stream that takes one, it is `m + 1` after the
+-- line. `b` says that the line is about this stream.
 pub one_more : (b : Bool) (n m : ℕ) → b ≡ true → n ≡ m → (if b then 1 else 0) + n ≡ m + 1
 one_more true n m h e = omega arith
 one_more false n m h e = absurd cc
 
 -- ---- What holds at a stream also holds at an equal one
 
--- If the answer `a` and the stream `w` after a call fit the decision at the stream `u`, they fit the decision at an
--- equal stream `u'`.
+-- Let `a` be the answer of the decision at the stream `u`, and let the stream `w` show the journal with this decision's
+-- lines. Then both are also true of the decision at an equal stream `u'`.
 pub led_along : (decided : StreamValue → Decision) (u u' w : StreamValue) (log : Journal) (a : Result Reply Refusal)
     → u ≡ u' → (a ≡ answer_of (decided u)) × Shows w (with_lines (lines_of (decided u)) log)
     → (a ≡ answer_of (decided u')) × Shows w (with_lines (lines_of (decided u')) log)
@@ -66,8 +66,8 @@ put_record v item = record {
   payload = item.payload;
 }
 
--- If the record `r` arrived at or above `from`, it stays at the end of a list from which the records that arrived below
--- `from` are removed.
+-- If the record `r` arrived at or after the time `from`, it stays at the end of a list from which the records that
+-- arrived before `from` are removed.
 left_one : (from : ℕ) (rs : List Logged) (r : Logged) → from ≤ r.arrival
     → left_among from 0 (rs ++ r ∷ []) ≡ left_among from 0 rs ++ r ∷ []
 left_one from rs r le =
@@ -78,7 +78,8 @@ left_one from rs r le =
     late from arrival seq h = grind (arith, nat_tests)
 
 -- Suppose that the journal `log'` has the records of `log`, and also the record `r` at the end of shard `at`. If logs
--- keep the records of `log` (`AreKept`), then these logs with `r` added to the log of this shard keep those of `log'`.
+-- keep the records of `log` (`AreKept`), then the logs with `r` added to the log of this shard keep the records of
+-- `log'`.
 kept_put : (floor : ℕ) (log log' : Journal) (s n i at : ℕ) (r : Logged) (ls : List LogValue) → floor ≤ r.arrival
     → at ≡ n + i → records log' s at ≡ records log s at ++ r ∷ []
     → ((sh : ℕ) → at ≢ sh → records log' s sh ≡ records log s sh)
@@ -166,7 +167,7 @@ held_is log c s xs item on sh bytes ps same enforces at counted are =
 -- ---- The decision
 
 module _ (v : StreamValue) (log : Journal) (by : ℕ) (item : NewItem) (shown : Shows v log) where
-  -- If the item is throttled (`is_held_back`), PutRecord is refused with `Throttled` and the item's home `sh`, and the
+  -- If the item is throttled (`is_held_back`), PutRecord is refused with `Throttled` and the item's home `sh`. The
   -- stream shows the journal with the decision's lines, of which there are none.
   pub put_throttled : (sh : ℕ) → sh ≡ home_among (filter is_open v.tree) item.hash
       → is_held_back log v.clock v.no item ≡ true
@@ -179,8 +180,8 @@ module _ (v : StreamValue) (log : Journal) (by : ℕ) (item : NewItem) (shown : 
         both.1,
       )
 
-  -- If the item isn't throttled but no sequence number is left, PutRecord is refused with `Spent`, and the stream shows
-  -- the journal with the decision's lines, of which there are none.
+  -- If the item isn't throttled but no sequence number is left, PutRecord is refused with `Spent`. The stream shows the
+  -- journal with the decision's lines, of which there are none.
   pub put_spent : is_held_back log v.clock v.no item ≡ false → v.next ≡ last_number
       → (Err refusal.Spent ≡ answer_of (put log v.clock by v.no item))
       × Shows v (with_lines (lines_of (put log v.clock by v.no item)) log)
@@ -331,7 +332,7 @@ module _ (v : StreamValue) (log : Journal) (by : ℕ) (item : NewItem) (shown : 
 
   -- If the item isn't throttled and a sequence number is left, PutRecord answers with the record's shard and sequence
   -- number. Suppose that `logs`, `windows` and `next` are those of `v` with the record stored and counted in its home
-  -- `sh`. Then the stream with them shows the journal with the decision's lines.
+  -- `sh`. Then the stream with `logs`, `windows` and `next` shows the journal with the decision's lines.
   pub put_done : (sh next : ℕ) (logs : List LogValue) (windows : List WindowValue)
       → is_held_back log v.clock v.no item ≡ false → next ≡ v.next + 1 → v.next ≢ last_number
       → sh ≡ home_among (filter is_open v.tree) item.hash → sh < length v.tree → floor_of v.cut ≤ v.clock

@@ -1,5 +1,5 @@
--- The windows of a stream's shards stay right if unused windows are added for new shards, and if the clock moves on.
--- The puts of the shards are given by a function `f` from the number of a shard to its puts.
+-- The windows of a stream's shards still fit the puts of the shards after unused windows are added for new shards, and
+-- after the clock moves on. The puts of the shards are given by a function `f` from the number of a shard to its puts.
 use Rattle.std.proofs.Common.{◌≡◌, ℕ, ◌+◌, ◌≤◌, List, [], ◌∷◌, ◌++◌, length, sym, ap, subst, ◌∙◌, arith, length-append}
 use Rattle.std.specs.List.{AllByRecursion}
 use Rattle.std.proofs.lemmas.List.{append_assoc}
@@ -20,15 +20,15 @@ stand_unused f n (w ∷ ws) unused none = (
   stand_unused f (n + 1) ws unused.1 (λ sh beyond. none sh (omega arith)),
 )
 
--- If windows stand for the puts of the shards from `n` on, and the shards after them have no puts, these windows and
--- further unused ones stand for the puts.
+-- Let the windows `ws` stand for the puts of the first shards from `n` on, and let the shards after these have no puts.
+-- Then `ws` followed by unused windows stands for the puts of the shards from `n` on.
 pub stand_more : (f : ℕ → List SizedPut) (n : ℕ) (ws new : List WindowValue) → AllByRecursion IsUnused new
     → ((sh : ℕ) → n + length ws ≤ sh → f sh ≡ []) → StandFor f n ws → StandFor f n (ws ++ new)
 stand_more f n [] new unused none h = stand_unused f n new unused (λ sh beyond. none sh (omega arith))
 stand_more f n (w ∷ ws) new unused none h =
     (h.0, stand_more f (n + 1) ws new unused (λ sh beyond. none sh (omega arith)) h.1)
 
--- The latest put that an unused window counted isn't later than any time `moment`.
+-- An unused window has counted no put later than `moment`, whatever time this is.
 pub counted_unused : (moment : ℕ) (ws : List WindowValue) → AllByRecursion IsUnused ws
     → AllByRecursion (IsCounted moment) ws
 counted_unused moment ws h = all_weaker IsUnused (IsCounted moment) (λ w u. omega (arith, u.never)) ws h
@@ -54,15 +54,15 @@ pub counted_later : (moment later : ℕ) (ws : List WindowValue) → moment ≤ 
     → AllByRecursion (IsCounted later) ws
 counted_later moment later ws le h = all_weaker (IsCounted moment) (IsCounted later) (λ w c. omega arith) ws h
 
--- If there are `count` windows whose latest puts aren't later than `moment` (`AreRated`), the latest puts aren't later
--- than a later time `later` either.
+-- If there are `count` windows that have counted no put later than `moment` (`AreRated`), the same is true with a later
+-- time `later` instead of `moment`.
 pub rated_later : (moment later count : ℕ) (ws : List WindowValue) → moment ≤ later → AreRated moment count ws
     → AreRated later count ws
 rated_later moment later count ws le h =
     record { as_many = h.as_many; counted = counted_later moment later ws le h.counted }
 
--- If unused windows are added for new shards, there is a window for each of the now `more` shards, and no latest put is
--- later than `later` (`AreRated`).
+-- If `AreRated` holds of `count` windows at the time `moment`, and unused windows are added, then it holds of all these
+-- windows at a later time `later`. There are `more` windows in all.
 pub rated_more : (moment later count more : ℕ) (ws new : List WindowValue) → moment ≤ later → more ≡ count + length new
     → AllByRecursion IsUnused new → AreRated moment count ws → AreRated later more (ws ++ new)
 rated_more moment later count more ws new le grown unused h =

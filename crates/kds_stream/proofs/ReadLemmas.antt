@@ -28,7 +28,7 @@ below_last v i l is below at = by l.last (all_at (IsBelow v.next) v.logs i l bel
 
 -- ---- What is left of a shard's records
 
--- A list of records is empty if and only if no first record gives a time of arrival (`first_arrival`).
+-- A list of records is empty if and only if `first_arrival` gives no time of arrival for it.
 pub are_none_by : (rs : List Logged) → are_none rs ≡ is_none (first_arrival rs)
 are_none_by [] = refl
 are_none_by (r ∷ rs) = refl

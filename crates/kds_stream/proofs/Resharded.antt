@@ -86,9 +86,9 @@ all_empty P new p h = all_weaker (λ l. l ≡ empty_log) P (λ l is. subst P (sy
 
 -- ---- The stream after a split or a merge
 
--- A stream keeps its invariant (`IsStream`) if it gets the shards `tree`, and an empty log and an unused window for
--- each new one of them. At most `OPEN_SHARDS` of the shards are open, and all their ending sequence numbers are below
--- the new next number.
+-- Let at most `OPEN_SHARDS` of the shards `tree` be open, and let all their ending sequence numbers be below `next`. If
+-- a stream gets these shards, the next sequence number `next`, and an empty log and an unused window for each new
+-- shard, it keeps its invariant (`IsStream`).
 pub stream_grown : (v : StreamValue) (tree : List ShardState) (new : List LogValue) (ws : List WindowValue) (next : ℕ)
     → v.next ≤ next → next < 2 ^ 64
     → AllByRecursion (λ l. l ≡ empty_log) new → AllByRecursion IsUnused ws → length ws ≡ length new
@@ -121,8 +121,8 @@ stream_grown v tree new ws next more within empty unused beside grown few ends i
 }
 
 -- Suppose that a line at the stream's clock changes only what the journal says of the stream's shards and next sequence
--- number. Then the stream with these, and with an empty log and an unused window for each new shard, shows the journal
--- with the line.
+-- number. Let the stream get these new values, and an empty log and an unused window for each new shard. Then the
+-- stream shows the journal with the line.
 shows_grown : (v : StreamValue) (log : Journal) (line : Line) (tree : List ShardState) (new : List LogValue)
     (ws : List WindowValue) (next : ℕ) → line.clock ≡ v.clock → is_live (line ∷ log) v.no ≡ is_live log v.no
     → was_made (line ∷ log) v.no ≡ was_made log v.no → name_of (line ∷ log) v.no ≡ name_of log v.no
@@ -218,8 +218,8 @@ module _ (v : StreamValue) (log : Journal) (by : ℕ) (show : Shows v log) (as_m
       (ap length tree_is ∙ length_split sh at (v.next + 1) (record { number = v.next; clock = v.clock }) v.tree)
       as_many as_wide show))
 
-  -- Let the stream get the shards and the next sequence number after a merge, and an empty log and an unused window for
-  -- the child. Then it shows the journal with the merge's line.
+  -- Let the stream get the shards and the next sequence number after a merge, an empty log, and the unused windows
+  -- `ws`, and let it remember its present clock and cut. Then it shows the journal with the merge's line.
   pub shows_merged : (sh other next : ℕ) (tree : List ShardState) (logs : List LogValue) (windows ws : List WindowValue)
       → next ≡ v.next + 1 → tree ≡ merged_shards sh other (record { number = v.next; clock = v.clock }) (v.next + 1)
       v.tree → logs ≡ v.logs ++ (empty_log ∷ []) → windows ≡ v.windows ++ ws → AllByRecursion IsUnused ws

@@ -26,7 +26,7 @@ use Rattle.kds_tree.specs.Tree.{merge_refusal, split_refusal}
 -- ---- The tests of the shard tree and those of the decision
 
 -- If the shard exists (`s`) and the shard tree refuses its split with `r`, the decision refuses the split with `r` too.
--- `a` says that the shard is open, and `b` that the key lies inside its range.
+-- `a` says whether the shard is open, and `b` whether the key lies inside the shard's range.
 split_tests : (s a b : Bool) (r : Refusal) (rest : Decision) → s ≡ true
     → Some r ≡ (if not s then Some refusal.NoShard else if not a then Some refusal.ShardClosed else if not b then Some
     refusal.BadSplit else None)
@@ -38,7 +38,7 @@ split_tests true true false r rest made h = ap Refused (sym (same_some r refusal
 split_tests true true true r rest made h = absurd cc
 
 -- If the shard tree doesn't refuse the split of a shard, the decision's tests don't either, and the decision is `rest`.
--- `s` says that the shard exists, `a` that it is open, and `b` that the key lies inside its range.
+-- `s` says whether the shard exists, `a` whether it is open, and `b` whether the key lies inside its range.
 split_passes : (s a b : Bool) (rest : Decision)
     → None ≡ (if not s then Some refusal.NoShard else if not a then Some refusal.ShardClosed else if not b then Some
     refusal.BadSplit else None)
@@ -50,7 +50,7 @@ split_passes true true false rest h = absurd cc
 split_passes true true true rest h = refl
 
 -- If the two shards exist (`s`) and the shard tree refuses their merge with `r`, the decision refuses the merge with
--- `r` too. `a` says that the two shards are open, and `b` that they are adjacent.
+-- `r` too. `a` says whether the two shards are open, and `b` whether they are adjacent.
 merge_tests : (s a b : Bool) (r : Refusal) (rest : Decision) → s ≡ true
     → Some r ≡ (if not s then Some refusal.NoShard else if not a then Some refusal.ShardClosed else if not b then Some
     refusal.NotAdjacent else None)
@@ -62,7 +62,7 @@ merge_tests true true false r rest made h = ap Refused (sym (same_some r refusal
 merge_tests true true true r rest made h = absurd cc
 
 -- If the shard tree doesn't refuse the merge of two shards, the decision's tests don't either, and the decision is
--- `rest`. `s` says that the two shards exist, `a` that they are open, and `b` that they are adjacent.
+-- `rest`. `s` says whether the two shards exist, `a` whether they are open, and `b` whether they are adjacent.
 merge_passes : (s a b : Bool) (rest : Decision)
     → None ≡ (if not s then Some refusal.NoShard else if not a then Some refusal.ShardClosed else if not b then Some
     refusal.NotAdjacent else None)
@@ -100,8 +100,8 @@ module _ (v : StreamValue) (log : Journal) (by : ℕ) (show : Shows v log) where
   few_shards h = subst (λ (xs : List ShardState). length xs < 2 ^ 63) (sym show.stored.shards_are) h
 
   module _ (full : Bool) (sh at : ℕ) where
-    -- What the decision on SplitShard still tests after the tests of the shard tree: the limit on open shards (`full`),
-    -- and whether numbers are left.
+    -- The rest of the decision on SplitShard after the tests of the shard tree. It tests the limit on open shards
+    -- (`full`), and whether sequence numbers and shard numbers are left, and accepts if neither test fails.
     split_rest : Decision
     split_rest =
         refuse refusal.Full if full else
@@ -149,8 +149,8 @@ module _ (v : StreamValue) (log : Journal) (by : ℕ) (show : Shows v log) where
         ∙ passed_if _ _ _ room
         ∙ refused_if _ _ _ (spent_next (nat_lt last_number (length (shards log v.no) + 1)) spent)
 
-    -- If the shard is listed, the shard tree doesn't refuse its split, a further shard may be open, a sequence number
-    -- is left, and there are fewer than 2^63 shards, SplitShard is accepted.
+    -- Let the shard be listed, let the shard tree not refuse its split, and let a further shard be allowed to be open.
+    -- If a sequence number is left and there are fewer than 2^63 shards, SplitShard is accepted.
     pub split_accepted : is_listed_at (floor_of v.cut) (slice_get v.tree sh) ≡ true → None ≡ split_refusal v.tree sh at
         → full ≡ false → v.next ≢ last_number → length v.tree < 2 ^ 63
         → split_where full log v.clock by v.no sh at ≡ Accepted (split_line log v.clock by v.no sh at ∷ []) reply.Done

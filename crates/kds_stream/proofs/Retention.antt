@@ -80,8 +80,9 @@ module _ (v : StreamValue) (log : Journal) (by wanted : ℕ) (raise : Bool) (sho
         };
       }
 
-  -- If the retention may be changed, the decision answers `Done`. With the new retention, and with the later one of its
-  -- cut and the cut by the new retention, the stream shows the journal with the decision's line.
+  -- If the retention may be changed, the decision answers `Done`. Let the stream get the new retention and the cut
+  -- `cut`, which is the later one of its old cut and the cut by the new retention. Then it shows the journal with the
+  -- decision's line.
   pub keep_done : (cut : Option ℕ) → cut ≡ later_cut v.cut (cut_at v.clock wanted)
       → false ≡ (if raise then nat_lt wanted v.hours else nat_lt v.hours wanted)
       → (Ok reply.Done ≡ answer_of (keep log v.clock by v.no wanted raise))
@@ -92,8 +93,8 @@ module _ (v : StreamValue) (log : Journal) (by wanted : ℕ) (raise : Bool) (sho
       (λ l. Shows (record v { hours = wanted; cut = cut; clock_before = v.clock; cut_before = cut }) l)
       (passed_if _ _ _ (tested false is)) (shows_kept cut later)
 
--- A stream keeps its invariant (`IsStream`) after its retention is changed to `wanted` hours, with the later one of its
--- cut and the cut by the new retention.
+-- A stream keeps its invariant (`IsStream`) after its retention becomes `wanted` hours. Its cut becomes `cut`, the
+-- later one of its old cut and the cut by the new retention.
 pub stream_kept : (v : StreamValue) (wanted : ℕ) (cut : Option ℕ) → cut ≡ later_cut v.cut (cut_at v.clock wanted)
     → IsRetention wanted → IsStream v
     → IsStream (record v { hours = wanted; cut = cut; clock_before = v.clock; cut_before = cut })

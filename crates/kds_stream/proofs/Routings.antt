@@ -46,8 +46,8 @@ use Rattle.kds_stream_logs.proofs.Routings.{IsFrom, all_from, apart, turns}
 
 -- ---- The records of the items that are taken
 
--- Which items are taken of a list whose first item is `item`. `b` says whether this item is held back. The other items
--- are judged after it.
+-- The items that are taken from `item ∷ items`: the item `item`, unless it is held back (`b` is true), and the items
+-- that are taken from `items` after it.
 taken_at : (xs : List ShardState) (c : ℕ) (on : Bool) (f : ℕ → List SizedPut) (item : NewItem) (items : List NewItem)
     (b : Bool) → is_throttled_item xs c on f item ≡ b
     → taken xs c on f (item ∷ items)
@@ -69,8 +69,8 @@ outcomes_at : (xs : List ShardState) (c : ℕ) (on : Bool) (f : ℕ → List Siz
 outcomes_at xs c on f n item items b is =
     ap (λ d. outcome_of xs n item d ∷ outcomes xs c on (after_item xs c f item d) (after_number n d) items) is
 
--- The logs of a stream can take the records of items that are routed to the stream's shards: their sequence numbers and
--- times of arrival aren't lower than those in the logs (`CanTake`).
+-- The logs of a stream can take the records of items that are routed to the stream's shards: the sequence numbers and
+-- times of arrival of these records aren't below those in the logs (`CanTake`).
 pub can_take : (v : StreamValue) (items : List NewItem) (rs : List Routed) → IsStream v
     → rs ≡ routed_items v.tree v.clock v.next items → AllByRecursion (IsWithin (length v.tree)) rs
     → AllByRecursion (CanTake v.logs) rs
@@ -112,8 +112,8 @@ after_one v item = record v {
   cut_before = v.cut;
 }
 
--- The lines of a PutRecords for a list whose first item is `item`. `b` says whether this item is held back, so that it
--- has no line.
+-- The lines of a PutRecords for `item ∷ items`: the line of `item`, unless it is held back (`b` is true), and the lines
+-- of `items` after it.
 lines_at : (log : Journal) (c by s : ℕ) (item : NewItem) (items : List NewItem) (b : Bool)
     → is_held_back log c s item ≡ b
     → put_lines log c by s (item ∷ items)
@@ -134,8 +134,8 @@ told_at log c by s item items b is =
     ∷ put_outcomes log c by s items else outcome.Stored (put_place log s (next_number log s) item)
     ∷ put_outcomes (put_line log c by s (next_number log s) item ∷ log) c by s items) is
 
--- If `f` gives the puts of the shards by the journal `log`, then `after_item` gives the puts by the journal with the
--- line of `item`. The item isn't held back.
+-- Let `f` give the puts of the shards by the journal `log`. If `item` isn't held back, `after_item` gives the puts by
+-- the journal with the line of `item`.
 puts_stay : (v : StreamValue) (log : Journal) (by : ℕ) (item : NewItem) (f : ℕ → List SizedPut)
     → shards log v.no ≡ v.tree → ((n : ℕ) → f n ≡ puts log v.no n)
     → (n : ℕ) → after_item v.tree v.clock f item false n
@@ -159,8 +159,8 @@ pub record Told (v : StreamValue) (log : Journal) (by n : ℕ) (f : ℕ → List
   pub many : length (put_lines log v.clock by v.no items) ≡ length (taken v.tree v.clock v.enforced f items)
   pub so : put_outcomes log v.clock by v.no items ≡ outcomes v.tree v.clock v.enforced f n items
 
--- If the stream's shards and limits, the number `n` and the puts `f` are those of the journal, a PutRecords for `items`
--- adds the right number of lines and has the computed outcomes (`Told`).
+-- Let the stream's shards and limits, the number `n` and the puts `f` be those of the journal. Then a PutRecords for
+-- `items` adds a line for each item that is taken, and has the computed outcomes (`Told`).
 pub puts_told : (items : List NewItem) (v : StreamValue) (log : Journal) (by n : ℕ) (f : ℕ → List SizedPut)
     → shards log v.no ≡ v.tree → is_enforced log v.no ≡ v.enforced → next_number log v.no ≡ n
     → ((m : ℕ) → f m ≡ puts log v.no m) → Told v log by n f items
@@ -206,9 +206,9 @@ puts_told (item ∷ items) v log by n f shards_are enforces number same =
               ∙ sym (outcomes_at v.tree v.clock v.enforced f n item items false is);
         }
 
--- What the stream shows after a PutRecords for `items`, if the puts before them are `f`. With the taken records in the
--- logs, it shows the journal with the lines of the items, without regard to throughput (`ShowsStored`). Windows that
--- stand for the puts after the items fit this journal (`ShowsRates`).
+-- What the stream shows after a PutRecords for `items`, if the puts before these items are `f`. With the taken records
+-- in its logs, the stream shows the journal with the lines of the items, without regard to throughput (`ShowsStored`).
+-- Windows that stand for the puts after the items fit this journal (`ShowsRates`).
 pub record Stores (v : StreamValue) (log : Journal) (by : ℕ) (f : ℕ → List SizedPut) (items : List NewItem) :
     Type 0 where
   pub stored : (next : ℕ) → next ≡ v.next + length (taken v.tree v.clock v.enforced f items)
@@ -357,8 +357,8 @@ stream_same v windows next same rated is = record {
 number_free : (n m k : ℕ) → m ≡ n + suc k → m < 2 ^ 64 → n ≢ last_number
 number_free n m k is fits e = absurd (omega arith)
 
--- A stream keeps its invariant (`IsStream`) if the records of `items` are added to the logs of their homes and the next
--- sequence number rises by the number of the items.
+-- Let the records of `items` be added to the logs of their homes, and let the next sequence number rise by the number
+-- of the items and stay below 2^64. Then a stream keeps its invariant (`IsStream`).
 pub stream_puts : (items : List NewItem) (v : StreamValue) (next : ℕ) → next ≡ v.next + length items → next < 2 ^ 64
     → IsStream v
     → IsStream (record v {
@@ -390,7 +390,7 @@ module _ (v : StreamValue) (log : Journal) (by : ℕ) (items : List NewItem) (sh
   told = puts_told items v log by v.next (puts log v.no) shown.stored.shards_are shown.rates.enforced_is
       shown.stored.next_is (λ m. refl)
 
-  -- If there aren't enough sequence numbers for the items that are taken, PutRecords is refused with `Spent`, and the
+  -- If there aren't enough sequence numbers for the items that are taken, PutRecords is refused with `Spent`. The
   -- stream shows the journal with the decision's lines, of which there are none.
   pub puts_spent : 2 ^ 64 ≤ v.next + length (taken v.tree v.clock v.enforced (puts log v.no) items)
       → (Err refusal.Spent ≡ answer_of (put_many log v.clock by v.no items))

@@ -305,8 +305,8 @@ scales_so (Cut b ∷ steps) v log by (w ∷ u ∷ ws) unused many as_many as_wid
 -- ---- The decision
 
 module _ (v : StreamValue) (log : Journal) (by target : ℕ) (show : Shows v log) where
-  -- If more shards would be open than may be (`full`), UpdateShardCount is refused with `Full`, and the stream shows
-  -- the journal with the decision's lines, of which there are none.
+  -- If more shards would be open than may be (`full`), UpdateShardCount is refused with `Full`. The stream shows the
+  -- journal with the decision's lines, of which there are none.
   pub scale_full : (full : Bool) → full ≡ true
       → (Err refusal.Full ≡ answer_of (scale_where full log v.clock by v.name v.no target))
       × Shows v (with_lines (lines_of (scale_where full log v.clock by v.name v.no target)) log)
@@ -323,8 +323,8 @@ module _ (v : StreamValue) (log : Journal) (by target : ℕ) (show : Shows v log
       ∙ ap (λ (xs : List ShardState). are_spent v.next (length xs) (steps_to log v.no target)) show.stored.shards_are
       ∙ ap (λ ts. are_spent v.next (length v.tree) ts) (steps_are ∙ sym are)
 
-  -- If the sequence numbers or the shard numbers don't suffice for the steps, UpdateShardCount is refused with `Spent`,
-  -- and the stream shows the journal with the decision's lines, of which there are none.
+  -- If the sequence numbers or the shard numbers don't suffice for the steps, UpdateShardCount is refused with `Spent`.
+  -- The stream shows the journal with the decision's lines, of which there are none.
   pub scale_spent : (full : Bool) (steps : List ScaleStep) → full ≡ false → steps ≡ scale (starts_in v.tree) target
       → are_spent v.next (length v.tree) steps ≡ true
       → (Err refusal.Spent ≡ answer_of (scale_where full log v.clock by v.name v.no target))
@@ -420,8 +420,8 @@ is_less a b h = grind (arith, nat_tests)
 pub is_not_less : (a b : ℕ) → b ≤ a → nat_lt a b ≡ false
 is_not_less a b h = grind (arith, nat_tests)
 
--- After a start is inserted in front of `x`, or behind it, the list has one more element. `lt` says whether it is
--- inserted in front.
+-- After the start `b` is inserted in front of `x`, or somewhere behind `x`, the list has one more element. `lt` says
+-- whether `b` is inserted in front of `x`.
 more_starts : (lt : Bool) (b x : ℕ) (xs ys : List ℕ) → length ys ≡ suc (length xs)
     → length (if lt then b ∷ x ∷ xs else x ∷ ys) ≡ suc (suc (length xs))
 more_starts true b x xs ys h = refl

@@ -21,8 +21,9 @@ use Rattle.kds_stream.specs.Value.{StreamValue}
 
 -- ---- A command that may change the stream
 
--- Let `d` be the machine's decision on the command `what`. If a call that changed the stream `v` to `w` answered as `d`
--- does (`Decides`), or ran out of memory, it served the command (`Serves`). The command `what'` is equal to `what`.
+-- Let `d` be the machine's decision on the command `what'`, which is equal to `what`. If a call changed the stream `v`
+-- to `w` and answered as `d` does (`Decides`), it served the command `what` (`Serves`). If the call ran out of memory,
+-- nothing is claimed.
 pub serves : {E : Type 0} (r : Result (Result Reply Refusal) E) (v w : StreamValue) (open_limit : ℕ)
     (what what' : Command)
     (d : Journal → ℕ → Decision)
@@ -37,9 +38,9 @@ serves (Ok gives) v w open_limit what what' d is same led =
 
 -- ---- A command that only reads, and adds no line
 
--- Let the command `what` only read, and let `d` be the machine's decision on it. If a call that left the stream `v`
--- unchanged answered as `d` does, or ran out of memory, it served the command (`Serves`). The command `what'` is equal
--- to `what`.
+-- Let the command `what'`, which is equal to `what`, only read, and let `d` be the machine's decision on it. If a call
+-- left the stream `v` unchanged and answered as `d` does, it served the command `what` (`Serves`). If the call ran out
+-- of memory, nothing is claimed.
 pub tells : {E : Type 0} (r : Result (Result Reply Refusal) E) (v : StreamValue) (open_limit : ℕ) (what what' : Command)
     (d : Journal → Decision)
     → what ≡ what' → is_query what' ≡ true

@@ -18,15 +18,15 @@ use Rattle.kds_log.specs.Log.{LogValue}
 use Rattle.kds_stream.specs.Rating.{ShowsRates}
 use Rattle.kds_stream.specs.Value.{StreamValue}
 
--- The records `kept` are the records `rs` without those that arrived below `from`, where `from` is some time at or
--- below `floor`. So only records that arrived below `floor` are missing.
+-- The records `kept` are the records `rs` without those that arrived before the time `from`, which is at most `floor`.
+-- So only records that arrived before the time `floor` are missing.
 pub record IsKept (floor : ℕ) (rs kept : List Logged) : Type 0 where
   pub from : ℕ
   pub early : from ≤ floor
   pub rest : kept ≡ left_among from 0 rs
 
--- Each log of a list keeps the records of one shard of stream `s`, except for some that arrived below `floor`
--- (`IsKept`). The first log keeps those of shard `n`, the second those of shard `n + 1`, and so on.
+-- Each log of a list keeps the records of one shard of stream `s`, except for some that arrived before the time `floor`
+-- (`IsKept`). The first log keeps the records of shard `n`, the second those of shard `n + 1`, and so on.
 abbrev pub AreKept : ℕ → Journal → ℕ → ℕ → List LogValue → Type 0
 AreKept floor log s n [] = Unit {0}
 AreKept floor log s n (l ∷ ls) = IsKept floor (records log s n) l.kept × AreKept floor log s (n + 1) ls
@@ -36,9 +36,9 @@ AreKept floor log s n (l ∷ ls) = IsKept floor (records log s n) l.kept × AreK
 abbrev pub bare : StreamValue → StreamValue
 bare v = record v { windows = []; enforced = false; clock_before = 0; cut_before = None; next_to_settle = 0 }
 
--- The journal `log` says of the stream `v` what its fields hold: that it is live, its name, its time of making, its
--- retention, its shards, its next sequence number, and its trim floor. Each log keeps the records of its shard, except
--- for some that are trimmed, and no record is in a shard that `v` doesn't have. Throughput isn't compared.
+-- By the journal `log`, the stream `v` is live. Its name, its time of making, its retention, its shards, its next
+-- sequence number and its trim floor are those by the journal. Each log keeps the records of its shard, except for some
+-- that are trimmed, and no record is in a shard that `v` doesn't have. Throughput isn't compared.
 pub record ShowsFields (v : StreamValue) (log : Journal) : Type 0 where
   pub live : is_live log v.no ≡ true
   pub was : was_made log v.no ≡ true
@@ -56,8 +56,8 @@ pub record ShowsFields (v : StreamValue) (log : Journal) : Type 0 where
 abbrev pub ShowsStored : StreamValue → Journal → Type 0
 ShowsStored v log = ShowsFields (bare v) log
 
--- The stream `v` shows the journal `log`: the journal says of it what its fields hold, and its windows and its limits
--- fit the puts and the settings in the journal.
+-- The stream `v` shows the journal `log`: the fields of `v` hold what the journal says of this stream, and the windows
+-- and limits of `v` fit the puts and settings in the journal.
 pub record Shows (v : StreamValue) (log : Journal) : Type 0 where
   pub stored : ShowsStored v log
   pub rates : ShowsRates log v.no v.enforced (length v.tree) v.windows

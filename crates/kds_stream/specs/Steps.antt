@@ -23,15 +23,16 @@ is_over target open_limit = nat_lt open_limit target
 abbrev pub are_spent : ℕ → ℕ → List ScaleStep → Bool
 are_spent next count steps = nat_lt last_number (next + length steps) || nat_lt last_number (count + made_by steps)
 
--- The steps `steps` are those of a scaling of the stream `v` to `target` shards. They lead from the ranges of its open
--- shards to uniform ranges, and the sequence numbers and shard numbers suffice for them.
+-- The steps `steps` are those of a scaling of the stream `v` to `target` shards. They lead from the ranges of the
+-- stream's open shards to uniform ranges, and the sequence numbers and shard numbers suffice for the steps.
 pub record IsPlan (v : StreamValue) (target : ℕ) (steps : List ScaleStep) : Type 0 where
   pub are : steps ≡ scale (starts_in v.tree) target
   pub leads : LeadTo steps (starts_in v.tree) (uniform_starts target)
   pub unspent : are_spent v.next (length v.tree) steps ≡ false
 
--- The decision on UpdateShardCount, which scales the live stream `s` with the name `name` to `target` shards. If `full`
--- is true, more shards would be open than may be, and the command is refused with `Full`.
+-- The decision on UpdateShardCount, which scales the live stream `s` with the name `name` to `target` shards. It is a
+-- refusal if more shards would be open than may be (`full`), or if the sequence numbers or shard numbers don't suffice
+-- for the steps.
 abbrev pub scale_where : Bool → Journal → ℕ → ℕ → List ℕ → ℕ → ℕ → Decision
 scale_where full log c by name s target =
     refuse refusal.Full if full else

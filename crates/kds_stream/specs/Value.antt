@@ -14,9 +14,9 @@ use Rattle.kds_stream.specs.Rating.{AreRated}
 use Rattle.kds_stream_logs.specs.Logs.{HasArrived, IsBelow, settled_at}
 
 -- A stream: its number, its name, its time of making, its retention in hours, its shards, and for each shard a log of
--- records and a window of throughput. Then come whether the limits on throughput are on, the next sequence number, the
--- clock, and the cut (the trim horizon as a time). The last fields are the clock and the cut to which a retreat goes
--- back, and the index of the log that loses its trimmed records next.
+-- records and a window of throughput. Next are `enforced` (whether the limits on throughput are on), the next sequence
+-- number, the clock, and the cut (the trim horizon as a time). The last fields are the clock and the cut to which a
+-- retreat goes back, and the index of the log that loses its trimmed records next.
 pub record StreamValue : Type 0 where
   pub no : ℕ
   pub name : List ℕ
@@ -42,10 +42,10 @@ IsClosedUnder next (Some closing) = closing.number < next
 abbrev pub EndsUnder : ℕ → ShardState → Type 0
 EndsUnder next x = IsClosedUnder next x.closing
 
--- The invariant of a stream. It has a log and a window for each shard, at most `OPEN_SHARDS` open shards, and an
--- allowed retention. Its next sequence number is at least 1, fits in a `u64`, and is above all numbers in its logs and
--- all ending sequence numbers. No record or put is later than `clock_before`, which isn't later than the clock, and
--- each of the two cuts is below its clock.
+-- The invariant of a stream. The stream has a log and a window for each shard, at most `OPEN_SHARDS` open shards, and
+-- an allowed retention. Its next sequence number is at least 1, fits in a `u64`, and is above all numbers in its logs
+-- and all ending sequence numbers. No record or put is later than `clock_before`, and `clock_before` isn't later than
+-- the clock. Each of the two cuts is below its clock.
 pub record IsStream (v : StreamValue) : Type 0 where
   pub as_many : length v.logs ≡ length v.tree
   pub few : length (filter is_open v.tree) ≤ OPEN_SHARDS
@@ -121,7 +121,7 @@ abbrev pub is_listed_at : ℕ → Option ShardState → Bool
 is_listed_at floor None = false
 is_listed_at floor (Some x) = not (is_closed_below floor x)
 
--- The shard, if there is one and it wasn't closed at a time below `floor`.
+-- The shard, if there is one and it wasn't closed at a time below `floor`, and otherwise `None`.
 abbrev pub listed_at : ℕ → Option ShardState → Option ShardState
 listed_at floor None = None
 listed_at floor (Some x) = if is_closed_below floor x then None else Some x

@@ -1,5 +1,5 @@
--- If one log of a stream has a record appended or its trimmed records removed, the logs are those that the definitions
--- give.
+-- If one log of a stream gets a record or loses its trimmed records, the logs are those of the definition
+-- `with_appended` or `settled_at`.
 use Rattle.std.proofs.Common.{◌≡◌, ℕ, zero, suc, ◌<◌, ◌≤◌, Bool, true, false, List, [], ◌∷◌, ◌++◌, length, get_or, map}
 use Rattle.std.proofs.Common.{Option, Some, None, refl, sym, ap, subst, ◌∙◌, arith}
 use Rattle.std.specs.Prelude.{cond, not, nat_le, nat_lt, ◌&&◌, slice_set, IfSome}
@@ -30,8 +30,8 @@ appended_at (x ∷ ls) zero d l r below is = ap (λ (y : LogValue). y ∷ map lo
 appended_at (x ∷ ls) (suc i) d l r below is =
     ap (λ (ys : List LogValue). log_of x ∷ ys) (appended_at ls i d l r (omega arith) is)
 
--- If `l`, which has the records of the log at the index `i`, takes the place of this log, no log's records change. The
--- reserved memory may differ.
+-- Let `l` have the records of the log at the index `i`. If `l` takes the place of this log, the records of no log
+-- change. The reserved memory may differ.
 pub same_at : (ls : List LogWithReserve) (i : ℕ) (d l : LogWithReserve) → i < length ls
     → log_of l ≡ log_of (get_or ls i d)
     → map log_of (slice_set ls i l) ≡ map log_of ls

@@ -27,7 +27,7 @@ pub stand_here : (f : ℕ → List SizedPut) (i : ℕ) (ws : List WindowValue) (
 stand_here f i ws d below h = let e : 0 + i ≡ i = omega arith in
     subst (λ k. StandsFor (get_or ws i d) (f k)) e (stand_at f 0 i ws d below h)
 
--- If no window counts a put that is later than `moment`, the window at the index `i` counts none.
+-- If no window counts a put that is later than `moment`, the window at the index `i` counts no such put.
 pub counted_at : (moment i : ℕ) (ws : List WindowValue) (d : WindowValue) → i < length ws
     → AllByRecursion (IsCounted moment) ws → IsCounted moment (get_or ws i d)
 counted_at moment i [] d below h = absurd (omega arith)
@@ -62,8 +62,9 @@ put_elsewhere sh n p f is = ap (λ b. if b then p ∷ f n else f n) (sym is)
 higher_number : (n m : ℕ) → m < n → (n == m) ≡ false
 higher_number n m h = grind (arith, nat_tests, h)
 
--- Let the windows stand for the puts `f` of the shards from `n` on. If a window that also counts the put `p` takes the
--- place of the window at the index `i`, the windows stand for `f` with `p` added in this window's shard, `at`.
+-- Let the windows stand for the puts `f` of the shards from `n` on. Let a window that also counts the put `p` take the
+-- place of the window at the index `i`. Then the windows stand for `f` with `p` added in `at`, the shard of this
+-- window.
 pub stand_set : (f : ℕ → List SizedPut) (n i at : ℕ) (ws : List WindowValue) (w : WindowValue) (p : SizedPut)
     → at ≡ n + i → i < length ws → StandsFor w (p ∷ f at) → StandFor f n ws
     → StandFor (with_put at p f) n (slice_set ws i w)

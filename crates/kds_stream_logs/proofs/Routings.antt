@@ -89,7 +89,7 @@ module _ (ls : List LogWithReserve) (i : ℕ) (d l : LogWithReserve) (ps : List 
   pub reserved_more : count_by (is_place_of sh) (take (k + 1) ps) ≤ reserved_at (slice_set ls i l) sh
   reserved_more = reserved_by (p.shard == sh) refl
 
--- As many of the records' places are in shard `sh` as records go to it.
+-- As many places of the records `rs` are in shard `sh` as records of `rs` go to this shard.
 count_routed : (rs : List Routed) (sh : ℕ) → count_by (is_place_of sh) (map place_of rs) ≡ count_by (is_routed_to sh) rs
 count_routed [] sh = refl
 count_routed (r ∷ rs) sh =
@@ -124,7 +124,7 @@ reserved_left ls i r rs at can =
     omega arith
 
 -- In this module, the record `r`, the first of those that the logs can take, is appended to the log at the index `i` of
--- its shard. It uses memory that was reserved.
+-- its shard. This uses memory that was reserved.
 module _ (ls : List LogWithReserve) (i : ℕ) (d l : LogWithReserve) (r : Routed) (rs : List Routed) (at : i ≡ r.shard)
     (below : i < length ls) (used : l.reserved + 1 ≡ (get_or ls i d).reserved)
     (is : log_of l ≡ record { kept = (get_or ls i d).kept ++ logged r.item ∷ []; last = Some r.item.seq })
@@ -182,8 +182,8 @@ module _ (ls : List LogWithReserve) (i : ℕ) (d l : LogWithReserve) (r : Routed
 
 -- ---- The items are routed one after another
 
--- In this module, the item `item`, the first of `items`, is routed: `r` are the routes before it, and `q` those after
--- it. The windows are `us` before it, and `ws` after it.
+-- In this module, the item `item`, the first of `items`, is routed. Before this, the routes are `r` and the windows are
+-- `us`. After this, the routes are `q` and the windows are `ws`.
 module _ (xs : List ShardState) (c : ℕ) (on : Bool) (f : ℕ → List SizedPut) (n : ℕ) (whole items rest : List NewItem)
     (item : NewItem) (r q : Routes) (us ws : List WindowValue) (are : items ≡ item ∷ rest)
     (h : GoesOn xs c on f n whole items r us) (one : IsRouted xs c on h.present item r q ws) where
@@ -216,7 +216,7 @@ module _ (xs : List ShardState) (c : ℕ) (on : Bool) (f : ℕ → List SizedPut
   number_by false is = let number : q.next ≡ r.next + 1 = one.next_is ∙ ap (after_number r.next) is in
       omega (arith, number)
 
-  -- If `GoesOn` holds before the item is routed, it holds after it, with `rest` as the items that are left.
+  -- If `GoesOn` holds before the item is routed, it still holds afterwards, with `rest` as the items that are left.
   pub goes_on : GoesOn xs c on f n whole rest q ws
   goes_on = record {
     present = after_item xs c h.present item (is_throttled_item xs c on h.present item);
@@ -265,7 +265,8 @@ routed-append xs c n (x ∷ items) item =
     ap (λ (rs : List Routed). routed_item xs c n x ∷ rs) (routed-append xs c (n + 1) items item
     ∙ ap (λ k. routed_items xs c (n + 1) items ++ routed_item xs c k item ∷ []) e)
 
--- Routes without records and places are those of no items: `AreOfRecords` holds, and their next sequence number is `n`.
+-- If routes have no records and no places, and their next sequence number is `n`, then `AreOfRecords` holds of them
+-- with no items.
 pub placed_none : (xs : List ShardState) (c n : ℕ) (r : Routes) → r.routed.items ≡ [] → r.places ≡ [] → r.next ≡ n
     → n < 2 ^ 64 → AreOfRecords xs c n r
 placed_none xs c n r none no_place number below = record {
@@ -277,8 +278,8 @@ placed_none xs c n r none no_place number below = record {
   places_are = no_place ∙ ap (map place_of) (sym none);
 }
 
--- If `AreOfRecords` holds of the routes `r`, it holds of the routes `q`, which have the same records, places and next
--- sequence number.
+-- Let the routes `q` have the same records, places and next sequence number as the routes `r`. If `AreOfRecords` holds
+-- of `r`, it holds of `q`.
 pub placed_same : (xs : List ShardState) (c n : ℕ) (r q : Routes) → q.routed.items ≡ r.routed.items
     → q.places ≡ r.places → q.next ≡ r.next → AreOfRecords xs c n r → AreOfRecords xs c n q
 placed_same xs c n r q same there number placed = record {
@@ -315,7 +316,7 @@ placed_more xs c n sh r q item at more there number fits inside placed =
           ∙ ap (map place_of) (sym more);
     }
 
--- Before any item is routed, the routes have no records and no outcomes, all items are left, and `GoesOn` holds.
+-- If the routes have no records and no outcomes, and all items are left to be routed, `GoesOn` holds.
 pub routed_none : (xs : List ShardState) (c : ℕ) (on : Bool) (f : ℕ → List SizedPut) (n : ℕ) (whole : List NewItem)
     (r : Routes) (ws : List WindowValue) → r.routed.items ≡ [] → r.outcomes ≡ [] → r.next ≡ n → StandFor f 0 ws
     → GoesOn xs c on f n whole whole r ws
@@ -354,7 +355,7 @@ turns xs clock n (item ∷ items) = (
   turns xs clock (n + 1) items,
 )
 
--- If each record goes to one of `count` shards, its place is in one of them.
+-- If each record goes to one of the shards 0 to `count - 1`, the place of each record is in one of these shards.
 pub all_places : (count : ℕ) (rs : List Routed) → AllByRecursion (IsWithin count) rs
     → AllByRecursion (λ (p : Place). p.shard < count) (map place_of rs)
 all_places count [] h = tt
@@ -369,8 +370,8 @@ places_within ls rs ps placed can =
     (all_weaker (CanTake (map log_of ls)) (IsWithin (length ls))
     (λ r take. omega (arith, take.within, as_many_logs ls)) rs can))
 
--- If each record may be appended to the logs, the records are in order, and memory is reserved for the places of all of
--- them, the logs can take all of them (`CanTakeAll`).
+-- If each record may be appended to the logs, the records are in order, and memory is reserved for all their places,
+-- the logs can take all records (`CanTakeAll`).
 pub can_take_all : (before : List LogValue) (ls : List LogWithReserve) (rs : List Routed) (ps : List Place)
     → ps ≡ map place_of rs → map log_of ls ≡ before → AllByRecursion (CanTake before) rs → AreRoutedInOrder rs
     → ((sh : ℕ) → count_by (is_place_of sh) ps ≤ reserved_at ls sh) → CanTakeAll ls rs
@@ -383,6 +384,6 @@ can_take_all before ls rs ps placed same can turns reserved = record {
 
 -- ---- Shards that exist and others
 
--- The number of a shard that exists isn't that of one which doesn't: the first is below `len`, the second isn't.
+-- If `n` is below `len`, the number of shards, and `sh` isn't below it, then `n` isn't `sh`.
 pub apart : (n sh len : ℕ) → n < len → len ≤ sh → n ≡ sh → ⊥
 apart n sh len within beyond e = omega arith

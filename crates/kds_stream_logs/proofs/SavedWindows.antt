@@ -11,7 +11,7 @@ set_back [] i u w is = refl
 set_back (v ∷ ws) zero u w is = ap (λ (x : WindowValue). x ∷ ws) is
 set_back (v ∷ ws) (suc i) u w is = ap (λ (us : List WindowValue). v ∷ us) (set_back ws i u w is)
 
--- If there is no window at the index `i`, putting one there changes nothing.
+-- If there is no window at the index `i`, putting a window at this index changes nothing.
 pub set_outside : (ws : List WindowValue) (i : ℕ) (w : WindowValue) → length ws ≤ i → slice_set ws i w ≡ ws
 set_outside [] i w h = refl
 set_outside (v ∷ ws) zero w h = absurd (omega arith)

@@ -12,7 +12,7 @@ use Rattle.kds_scale.proofs.Partitions.{Cuts, IsScalable, Joins, joins_touch, st
 use Rattle.kds_stream_logs.specs.Steps.{home_in, starts_in}
 use Rattle.kds_tree.specs.Tree.{after_merge, after_split, merge_refusal, split_refusal, value_by}
 
--- If the result `r` isn't an error, and `P` holds whenever it isn't one, `P` holds.
+-- If `P` holds when the result `r` isn't an error, and `r` isn't an error, then `P` holds.
 pub ok_value : {A E : Type 0} (r : Result A E) (P : Type 0) → IsOk r → OnOk r P → P
 ok_value (Ok a) P ok p = p
 ok_value (Err e) P ok p = absurd cc
@@ -45,7 +45,7 @@ module _ (xs : List ShardState) (b n c sh other : ℕ) (j : Joins xs b) (at : sh
       (ap (λ o. are_adjacent (range_of o) (range_of (slice_get xs other))) low_at
       ∙ ap (λ o. are_adjacent j.low.range (range_of o)) high_at ∙ joins_touch xs b j)
 
-  -- Their merge isn't refused, and the shards after it are those that `merged_shards` gives.
+  -- The merge of these two shards isn't refused, and the shards after it are those that `merged_shards` gives.
   pub join_value : (zs : List ShardState) → zs ≡ after_merge xs sh other n c
       → zs ≡ merged_shards (home_in xs (b - 1)) (home_in xs b) (record { number = n; clock = c }) (n + 1) xs
   join_value zs is =
@@ -61,7 +61,7 @@ module _ (xs : List ShardState) (b n c sh other : ℕ) (j : Joins xs b) (at : sh
   join_starts zs ok some is =
       ap starts_in (join_value zs is) ∙ starts_joined xs b (record { number = n; clock = c }) (n + 1) ok some j
 
--- In this module, the shard `sh` is the open shard whose range contains the hash key `b`, and it may be split there.
+-- In this module, the shard `sh` is the open shard whose range contains the hash key `b`, and it may be split at `b`.
 module _ (xs : List ShardState) (b n c sh : ℕ) (k : Cuts xs b) (at : sh ≡ home_in xs b) where
   shard_at : slice_get xs sh ≡ Some k.shard
   shard_at = ap (slice_get xs) at ∙ k.is_home.stands
@@ -73,7 +73,7 @@ module _ (xs : List ShardState) (b n c sh : ℕ) (k : Cuts xs b) (at : sh ≡ ho
       (ap is_some shard_at) (ap is_open_at shard_at ∙ k.is_home.is_open_now)
       (ap (λ o. is_inside (range_of o) b) shard_at ∙ k.inside)
 
-  -- Its split at `b` isn't refused, and the shards after it are those that `split_shards` gives.
+  -- The split of this shard at `b` isn't refused, and the shards after it are those that `split_shards` gives.
   pub cut_value : (zs : List ShardState) → zs ≡ after_split xs sh b n c
       → zs ≡ split_shards (home_in xs b) b (record { number = n; clock = c }) (n + 1) xs
   cut_value zs is =

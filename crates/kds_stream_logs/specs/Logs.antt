@@ -10,8 +10,8 @@ abbrev pub IsUnder : ℕ → Option ℕ → Type 0
 IsUnder next None = Unit {0}
 IsUnder next (Some n) = n < next
 
--- The last sequence number that was appended to the log `l`, which is also the greatest, is below `next`. This also
--- holds if none was appended.
+-- If a record was ever appended to the log `l`, the sequence number of the last such record is below `next`. Since the
+-- numbers of a log rise, all its other numbers are below `next` too.
 abbrev pub IsBelow : ℕ → LogValue → Type 0
 IsBelow next l = IsUnder next l.last
 

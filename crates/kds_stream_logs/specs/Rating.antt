@@ -4,7 +4,7 @@ use Rattle.std.specs.Prelude.{ℕ, ◌≡◌, ◌+◌, ◌≤◌, ◌==◌, if�
 use Rattle.kds_defs.specs.Rates.{SizedPut}
 use Rattle.kds_rate.specs.Windows.{StandsFor, WindowValue}
 
--- The window `w` counts no put that is later than `moment`.
+-- The time of the latest put that the window `w` counted isn't after `moment`.
 abbrev pub IsCounted : ℕ → WindowValue → Type 0
 IsCounted moment w = w.latest ≤ moment
 
@@ -19,12 +19,12 @@ abbrev pub StandFor : (ℕ → List SizedPut) → ℕ → List WindowValue → T
 StandFor f n [] = Unit {0}
 StandFor f n (w ∷ ws) = StandsFor w (f n) × StandFor f (n + 1) ws
 
--- The statement `holds` is true of all puts, given for each shard number, for which the windows `ws` stand. The first
--- window belongs to shard 0.
+-- The statement `holds` is true of each function that gives the puts of the shards, if the windows `ws` stand for these
+-- puts. The first window belongs to shard 0.
 abbrev pub ForPutsOf : List WindowValue → ((ℕ → List SizedPut) → Type 0) → Type 0
 ForPutsOf ws holds = (f : ℕ → List SizedPut) → StandFor f 0 ws → holds f
 
--- The puts of each shard after the put `p` in shard `sh`, if they were `f` before it. The newest put of a shard comes
--- first.
+-- The puts of each shard after the put `p` in shard `sh`, if `f` gives the puts before it. The newest put of a shard
+-- comes first.
 abbrev pub with_put : ℕ → SizedPut → (ℕ → List SizedPut) → ℕ → List SizedPut
 with_put sh p f n = if sh == n then p ∷ f n else f n

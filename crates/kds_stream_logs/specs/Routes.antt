@@ -35,27 +35,28 @@ routed_items xs clock n (item ∷ items) = routed_item xs clock n item ∷ route
 
 -- ---- What the throughput limits hold back
 
--- Whether the limits are on (`on`), and the home of `item` doesn't accept it any more at the time `clock`, because it
--- has already accepted too much within a second. The puts of each shard so far are `f`.
+-- Whether the limits are on (`on`), and the home of `item` has no room for the item in the second of the time `clock`.
+-- The puts of each shard so far are given by `f`.
 abbrev pub is_throttled_item : List ShardState → ℕ → Bool → (ℕ → List SizedPut) → NewItem → Bool
 is_throttled_item xs clock on f item =
     on && is_throttled (f (home_among (filter is_open xs) item.hash)) clock (item_bytes item)
 
--- The puts of each shard after `item`, if they were `f` before it. If the Boolean is true, the item is held back, and
--- no put is added. Otherwise its put is added in its home.
+-- The puts of each shard after `item`, if `f` gives the puts before it. If the Boolean is true, the item is held back
+-- and adds no put. Otherwise the item adds a put in its home.
 abbrev pub after_item : List ShardState → ℕ → (ℕ → List SizedPut) → NewItem → Bool → ℕ → List SizedPut
 after_item xs clock f item true = f
 after_item xs clock f item false =
     with_put (home_among (filter is_open xs) item.hash) (record { clock = clock; bytes = item_bytes item }) f
 
--- The puts of each shard after a list of items, if they were `f` before them. The items that are held back add no put.
+-- The puts of each shard after a list of items, if `f` gives the puts before them. The items that are held back add no
+-- put.
 abbrev pub after_items : List ShardState → ℕ → Bool → (ℕ → List SizedPut) → List NewItem → ℕ → List SizedPut
 after_items xs clock on f [] = f
 after_items xs clock on f (item ∷ items) =
     after_items xs clock on (after_item xs clock f item (is_throttled_item xs clock on f item)) items
 
--- The items of a list that aren't held back by the limits, in order. Each item is judged by the puts of those before
--- it, and before all of them the puts of each shard are `f`.
+-- The items of a list that aren't held back by the limits, in order. Each item is judged by the puts of the items
+-- before it, and `f` gives the puts before all items.
 abbrev pub taken : List ShardState → ℕ → Bool → (ℕ → List SizedPut) → List NewItem → List NewItem
 taken xs clock on f [] = []
 taken xs clock on f (item ∷ items) =
@@ -63,8 +64,8 @@ taken xs clock on f (item ∷ items) =
     taken xs clock on (after_item xs clock f item (is_throttled_item xs clock on f item)) items in
     if is_throttled_item xs clock on f item then rest else item ∷ rest
 
--- The stream's next sequence number after an item, if it was `n` before it. If the Boolean is true, the item is held
--- back and draws no number.
+-- The stream's next sequence number after an item, if `n` was the next one before the item. If the Boolean is true,
+-- the item is held back and draws no number.
 abbrev pub after_number : ℕ → Bool → ℕ
 after_number n true = n
 after_number n false = n + 1
@@ -96,8 +97,8 @@ abbrev pub with_each : List Routed → List LogValue → List LogValue
 with_each [] ls = ls
 with_each (r ∷ rs) ls = with_each rs (with_appended r.shard (logged r.item) ls)
 
--- The logs `ls` after, for each of the given places, the log of the place's shard has lost the records that arrived
--- before the time `floor`.
+-- The logs `ls` after the records that arrived before the time `floor` were removed from the log of each shard that has
+-- one of the given places.
 abbrev pub settled_each : ℕ → List Place → List LogValue → List LogValue
 settled_each floor [] ls = ls
 settled_each floor (p ∷ ps) ls = settled_each floor ps (settled_at floor p.shard ls)
@@ -117,8 +118,8 @@ abbrev pub AreRoutedInOrder : List Routed → Type 0
 AreRoutedInOrder [] = Unit {0}
 AreRoutedInOrder (r ∷ rs) = AllByRecursion (IsSooner r) rs × AreRoutedInOrder rs
 
--- The record `r` may be appended to the logs `ls`: its shard has a log, its sequence number is above all that were ever
--- appended to any log, and it arrived no earlier than the records in them.
+-- The record `r` may be appended to the logs `ls`. Its shard has a log, its sequence number is above all numbers that
+-- were ever appended to any log, and `r` arrived no earlier than the records in the logs.
 pub record CanTake (ls : List LogValue) (r : Routed) : Type 0 where
   pub within : r.shard < length ls
   pub number : AllByRecursion (IsBelow r.item.seq) ls
@@ -133,7 +134,7 @@ abbrev pub is_place_of : ℕ → Place → Bool
 is_place_of sh p = p.shard == sh
 
 -- Each of the records `rs` may be appended to the logs `ls` (`CanTake`). The records are in the order of their numbers
--- and times, and each log has memory reserved for all of those that go to it.
+-- and times, and each log has memory reserved for all records that go to it.
 pub record CanTakeAll (ls : List LogWithReserve) (rs : List Routed) : Type 0 where
   pub each : AllByRecursion (CanTake (map log_of ls)) rs
   pub reserved : (sh : ℕ) → count_by (is_routed_to sh) rs ≤ reserved_at ls sh
@@ -141,9 +142,9 @@ pub record CanTakeAll (ls : List LogWithReserve) (rs : List Routed) : Type 0 whe
 
 -- ---- What routing makes of items
 
--- After `item` is routed, the routes `after` are `before` with the item's outcome added and, unless it is held back,
--- its record with the next sequence number. The puts of each shard before the item are `f`, and the windows `ws` stand
--- for those after it.
+-- After `item` is routed, the routes `after` are `before` with the item's outcome added. Unless the item is held back,
+-- its record is added too, and takes the next sequence number. The puts of each shard before the item are `f`, and the
+-- windows `ws` stand for the puts after the item.
 pub record IsRouted (xs : List ShardState) (clock : ℕ) (on : Bool) (f : ℕ → List SizedPut) (item : NewItem)
     (before after : Routes)
     (ws : List WindowValue) : Type 0 where
@@ -155,8 +156,9 @@ pub record IsRouted (xs : List ShardState) (clock : ℕ) (on : Bool) (f : ℕ �
       ∷ []
   pub next_is : after.next ≡ after_number before.next (is_throttled_item xs clock on f item)
 
--- The routes `r` have the outcomes of `items`, and the records of those that aren't held back, with sequence numbers
--- from `n` on. The puts of each shard before the items are `f`, and the windows `ws` stand for those after them.
+-- The routes `r` have the outcomes of `items`, and the records of the items that aren't held back, with sequence
+-- numbers from `n` on. The puts of each shard before the items are `f`, and the windows `ws` stand for the puts after
+-- the items.
 pub record AreRouted (xs : List ShardState) (clock : ℕ) (on : Bool) (f : ℕ
     → List SizedPut) (n : ℕ) (items : List NewItem) (r : Routes)
     (ws : List WindowValue) : Type 0 where
@@ -165,9 +167,9 @@ pub record AreRouted (xs : List ShardState) (clock : ℕ) (on : Bool) (f : ℕ
   pub outcomes_are : r.outcomes ≡ outcomes xs clock on f n items
   pub next_is : r.next ≡ n + length (taken xs clock on f items)
 
--- Of all items, `all`, those before `items` are routed. This has led to the routes `r` and to the puts `present`, for
--- which the windows `ws` stand. What `items` add to these gives the records, outcomes, next number and puts of `all`,
--- begun with the number `n` and the puts `f`.
+-- Routing some of the items `all` has led to the routes `r` and to the puts `present`, for which the windows `ws`
+-- stand. If `items` are then routed too, the records, outcomes, next number and puts are those of routing `all` from
+-- the number `n` and the puts `f` on.
 pub record GoesOn (xs : List ShardState) (clock : ℕ) (on : Bool) (f : ℕ
     → List SizedPut) (n : ℕ) (all items : List NewItem) (r : Routes)
     (ws : List WindowValue) : Type 0 where
@@ -179,9 +181,9 @@ pub record GoesOn (xs : List ShardState) (clock : ℕ) (on : Bool) (f : ℕ
   pub outcomes_are : r.outcomes ++ outcomes xs clock on present r.next items ≡ outcomes xs clock on f n all
   pub next_is : r.next + length (taken xs clock on present items) ≡ n + length (taken xs clock on f all)
 
--- The records of the routes `r` are those of some items, with sequence numbers from `first` up to the one before
--- `r.next`, which is below 2^64. Each record goes to a shard of `xs`, and `r.places` has the shard and the number of
--- each record.
+-- The records of the routes `r` are those of some items, with the sequence numbers from `first` up to the one before
+-- `r.next`. The number `r.next` is below 2^64. Each record goes to a shard of `xs`, and `r.places` has the shard and
+-- the sequence number of each record.
 pub record AreOfRecords (xs : List ShardState) (clock first : ℕ) (r : Routes) : Type 0 where
   pub items : List NewItem
   pub are : r.routed.items ≡ routed_items xs clock first items

@@ -3,8 +3,8 @@ use Rattle.std.specs.Prelude.{ℕ, ◌≡◌, List, [], ◌∷◌, slice_index_o
 use Rattle.kds_rate.specs.Windows.{WindowValue}
 use Rattle.kds_stream_logs.specs.declared.windows.SavedWindow.{SavedWindow}
 
--- The windows `ws` with each saved window put back at its shard. The last of the list, which was saved last, is put
--- back first, so that the first one counts if a shard has several.
+-- The windows `ws` with each saved window put back in the place of its shard. The last window of the list is put back
+-- first, so that the first one counts if a shard has several.
 abbrev pub restored : List SavedWindow → List WindowValue → List WindowValue
 restored [] ws = ws
 restored (s ∷ saved) ws = slice_set (restored saved ws) s.shard s.window

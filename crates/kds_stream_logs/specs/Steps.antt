@@ -45,8 +45,8 @@ abbrev pub entries_in : ℕ → List ScaleStep → ℕ → ℕ → List ShardSta
 entries_in s [] n c xs = []
 entries_in s (step ∷ steps) n c xs = entry_in s step n xs ∷ entries_in s steps (n + 1) c (stepped step n c xs)
 
--- Each of the steps is possible after those before it, beginning with the open shards among `xs`: a merge at a hash
--- key, other than 0, at which a range starts, or a split at a key at which none does.
+-- Each of the steps is possible after the steps before it, beginning with the open shards among `xs`. A merge is
+-- possible at a hash key other than 0 at which a range starts, and a split at a key at which no range starts.
 abbrev pub MayScale : List ScaleStep → List ShardState → Type 0
 MayScale steps xs = (wanted : List ℕ) × LeadTo steps (starts_in xs) wanted
 

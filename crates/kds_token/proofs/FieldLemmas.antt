@@ -12,7 +12,7 @@ use Rattle.kds_base.proofs.NumberLemmas.{own}
 use Rattle.memchr.specs.Find.{NoneBefore, Passes, is_byte}
 use Rattle.kds_token.specs.Fields.{◌>>=◌, field, HasNoColon}
 
--- If `a` has no colon, the first field of `a`, a colon and `b` is `a`, and the part after it is `b`.
+-- If `a` has no colon, the first field of `a`, a colon and `b` is `a`, and the rest is `b`.
 pub field_at : (a b : List ℕ) → HasNoColon a → field (a ++ 58 ∷ b) ≡ Some (a, b)
 field_at [] b n = refl
 field_at (x ∷ a) b n = rw (n.0, field_at a b n.1) refl
@@ -36,7 +36,7 @@ found_at (b ∷ bs) (suc at) within before here =
     ) refl
 
 -- If the first colon of a text is at the index `at`, the first field is the part before this index, and the rest is the
--- part after it.
+-- part after this index.
 pub field_found : (text : List ℕ) (at : ℕ) → NoneBefore (Passes (is_byte 58) text) 0 (length text) at
     × Passes (is_byte 58) text at → field text ≡ Some (take at text, drop (at + 1) text)
 field_found text at found =
@@ -102,7 +102,7 @@ digits_no_colon [] h = tt
 digits_no_colon (d ∷ ds) h = let p = and_parts (is_ascii_digit d) (list_all is_ascii_digit ds) h in
     (digit_no_colon d p.0, digits_no_colon ds p.1)
 
--- The decimal text of a number has no colon.
+-- The decimal text of a number below 2^64 has no colon.
 pub decimal_no_colon : (n : ℕ) → n < 2 ^ 64 → HasNoColon (decimal n)
 decimal_no_colon n small = digits_no_colon (decimal n) (digits_decimal own n small)
 
@@ -116,7 +116,7 @@ digits_small [] h = tt
 digits_small (d ∷ ds) h = let p = and_parts (is_ascii_digit d) (list_all is_ascii_digit ds) h in
     (digit_small d p.0, digits_small ds p.1)
 
--- The decimal text of a number consists of bytes.
+-- The decimal text of a number below 2^64 consists of bytes.
 pub decimal_small : (n : ℕ) → n < 2 ^ 64 → AreSmall (decimal n)
 decimal_small n small = digits_small (decimal n) (digits_decimal own n small)
 

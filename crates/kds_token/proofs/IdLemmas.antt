@@ -27,15 +27,15 @@ zeros_some : (k : ℕ) (ds : List ℕ) → 0 < length ds → 0 < length (replica
 zeros_some zero ds some = some
 zeros_some (suc k) ds some = omega arith
 
--- The text `twelve_digits n` consists of decimal digits.
+-- If `n` is below 2^64, the text `twelve_digits n` consists of decimal digits.
 pub id_digits : (n : ℕ) → n < 2 ^ 64 → AllDigits 10 (twelve_digits n)
 id_digits n small = zeros_digits (12 - length (decimal n)) (decimal n) (decimal_is_IsNumeral n small).0.1
 
--- The text `twelve_digits n` isn't empty.
+-- If `n` is below 2^64, the text `twelve_digits n` isn't empty.
 pub id_some : (n : ℕ) → n < 2 ^ 64 → 0 < length (twelve_digits n)
 id_some n small = zeros_some (12 - length (decimal n)) (decimal n) (decimal_is_IsNumeral n small).0.0
 
--- The value of the digits `twelve_digits n` is `n`.
+-- If `n` is below 2^64, the value of the digits `twelve_digits n` is `n`.
 pub id_value : (n : ℕ) → n < 2 ^ 64 → digits_value 10 (twelve_digits n) ≡ n
 id_value n small = zeros_value (12 - length (decimal n)) (decimal n) ∙ (decimal_is_IsNumeral n small).1
 
@@ -47,7 +47,7 @@ if_id_again n small =
     let fits : nat_lt n (2 ^ 64) ≡ true = grind (arith, nat_tests) in
     rw (fits, same) refl
 
--- The id of shard `n` is read as the number `n`.
+-- If `n` is below 2^64, the id of shard `n` is read as the number `n`.
 pub id_reads : (n : ℕ) → n < 2 ^ 64 → id_of (shard_id n) ≡ Some n
 unfolding id_of
 id_reads n small = ap (if_id (shard_id n)) (id_value n small) ∙ if_id_again n small
@@ -92,7 +92,8 @@ twelve_read n small =
     let fits : nat_lt n (2 ^ 64) ≡ true = grind (arith, nat_tests) in
     rw (tested, id_value n small, fits) refl
 
--- If `text` is the id of shard `n`, the part after its first eight bytes is read as the number `n`.
+-- If `text` is the id of shard `n`, and `n` is below 2^64, the part of `text` after its first eight bytes is read as
+-- the number `n`.
 pub tail_read : (text tail : List ℕ) (n : ℕ) → tail ≡ drop 8 text → text ≡ shard_id n → n < 2 ^ 64
     → digits_of 64 tail ≡ Some n
 tail_read text tail n cut e small = ap (digits_of 64) (cut ∙ ap (drop 8) e) ∙ twelve_read n small

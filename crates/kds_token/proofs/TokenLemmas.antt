@@ -61,7 +61,7 @@ kind_is : {A : Type 0} (b : Bool) (x y : List ℕ) (o : Option A) (z : A) → by
 kind_is true x y o z e h = ((bytes_eq-Decides x y).0 e, h)
 kind_is false x y o z e h = absurd (cc)
 
--- The text that the token of a shard iterator encodes consists of bytes.
+-- If the numbers of a shard iterator are in range, the text that its token encodes consists of bytes.
 pub iter_small : (i : Iter) → IsIter i → AreSmall (iter_text i)
 iter_small i is =
     let issued = decimal_small i.issued (omega (arith, is.issued)) in
@@ -153,7 +153,7 @@ iter_reads_as text (Some i) bytes e =
 pub iter_exact : (text : List ℕ) → IsBytes text → ReadsAsIter text (iter_of text)
 iter_exact text bytes = iter_reads_as text (iter_of text) bytes refl
 
--- Two shard iterators with the same token are equal.
+-- Two shard iterators with the same token are equal, if their numbers are in range.
 pub one_iter : (i j : Iter) → IsIter i → IsIter j → iter_token i ≡ iter_token j → i ≡ j
 one_iter i j is js e = same_some i j (sym (iter_reads (iter_token i) i is refl) ∙ iter_reads (iter_token i) j js e)
 
@@ -236,7 +236,7 @@ page_reads_as text (Some p) bytes e =
 pub page_exact : (text : List ℕ) → IsBytes text → ReadsAsPage text (page_of text)
 page_exact text bytes = page_reads_as text (page_of text) bytes refl
 
--- Two places in a listing with the same token are equal.
+-- Two places in a listing with the same token are equal, if their numbers are in range.
 pub one_page : (p q : Page) → IsPage p → IsPage q → page_token p ≡ page_token q → p ≡ q
 one_page p q is js e = same_some p q (sym (page_reads (page_token p) p is refl) ∙ page_reads (page_token p) q js e)
 
@@ -245,7 +245,7 @@ one_page p q is js e = same_some p q (sym (page_reads (page_token p) p is refl) 
 texts_apart : (a b : List ℕ) → codes "KI1:" ++ a ≡ codes "KT1:" ++ b → ⊥
 texts_apart a b h = let e : ◌≡◌ {A = ℕ} 73 84 = ap (λ (l : List ℕ). slice_index l 1) h in absurd (omega arith)
 
--- No shard iterator has the same token as a place in a listing.
+-- A shard iterator and a place in a listing never have the same token, if their numbers are in range.
 pub tokens_apart : (i : Iter) (p : Page) → IsIter i → IsPage p → iter_token i ≢ page_token p
 tokens_apart i p is js e =
     texts_apart _ _ (same_some (iter_text i) (page_text p) (sym (decoded_again (iter_text i) (iter_small i is))

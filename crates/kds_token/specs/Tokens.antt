@@ -19,8 +19,8 @@ abbrev pub iter_text : Iter → List ℕ
 iter_text i = codes "KI1:"
     ++ (decimal i.stream ++ 58 ∷ (decimal i.shard ++ 58 ∷ (decimal i.position ++ 58 ∷ decimal i.issued)))
 
--- The token of the shard iterator `i`, which is its text in base64 (Kinesis API Reference, GetShardIterator,
--- ShardIterator).
+-- The token of the shard iterator `i`, which is the text `iter_text i` in base64 (Kinesis API Reference,
+-- GetShardIterator, ShardIterator).
 abbrev pub iter_token : Iter → List ℕ
 iter_token i = encode_of standard (iter_text i)
 
@@ -44,7 +44,8 @@ ReadsAsIter text (Some i) = IsIter i × (text ≡ iter_token i)
 abbrev pub page_text : Page → List ℕ
 page_text p = codes "KT1:" ++ (decimal p.stream ++ 58 ∷ (decimal p.after ++ 58 ∷ decimal p.issued))
 
--- The token of the place `p` in a listing, which is its text in base64 (Kinesis API Reference, ListShards, NextToken).
+-- The token of the place `p` in a listing, which is the text `page_text p` in base64 (Kinesis API Reference,
+-- ListShards, NextToken).
 abbrev pub page_token : Page → List ℕ
 page_token p = encode_of standard (page_text p)
 
@@ -63,8 +64,8 @@ ReadsAsPage text (Some p) = IsPage p × (text ≡ page_token p)
 
 -- ---- What a text is read as
 
--- The shard iterator whose numbers have the decimal texts `stream`, `shard`, `position` and `issued`, if these texts
--- are such numbers.
+-- The shard iterator whose numbers have the decimal texts `stream`, `shard`, `position` and `issued`, or `None` if one
+-- of these texts isn't the decimal text of a number in range.
 unfoldable pub iter_from : List ℕ → List ℕ → List ℕ → List ℕ → Option Iter
 iter_from stream shard position issued = do
   a ← number_of 64 stream
@@ -86,8 +87,8 @@ iter_in text = do
 abbrev pub iter_of : List ℕ → Option Iter
 iter_of text = decoded_of standard text >>= iter_in
 
--- The place in a listing whose numbers have the decimal texts `stream`, `after` and `issued`, if these texts are such
--- numbers.
+-- The place in a listing whose numbers have the decimal texts `stream`, `after` and `issued`, or `None` if one of these
+-- texts isn't the decimal text of a number in range.
 unfoldable pub page_from : List ℕ → List ℕ → List ℕ → Option Page
 page_from stream after issued = do
   a ← number_of 64 stream

@@ -40,8 +40,8 @@ near p (suc first) (x ∷ xs) only =
     ∙ sym (ap (λ (b : Bool). cond b (x ∷ filter p xs) (filter p xs))
     (false_from_ne_true (p x) (λ t. absurd (omega (arith, (only 0 x refl t).0)))))
 
--- If the index gives `first` as the first child of the shard `parent`, all children of this shard are among the two
--- shards from the index `first` on.
+-- If the index gives `first` as the first child of the shard `parent`, this shard's children are among the two shards
+-- from the number `first` on.
 pub all_near : (firsts : List (Option ℕ)) (xs pair : List ShardState) (parent first : ℕ) → AreFamilies firsts xs
     → Some first ≡ flat (slice_get firsts parent) → pair ≡ take 2 (drop first xs)
     → children_among parent pair ≡ children_among parent xs
@@ -127,12 +127,13 @@ families_made count n start ranges long = record {
 
 -- ---- Shards are closed, and others are added at the end
 
--- Each child in the list `closed` is, at the same index in the list `xs`, a child of the same shard.
+-- If the shard at an index of `closed` is a child of some shard, the shard at this index of `xs` is a child of that
+-- shard too.
 abbrev pub Kin : List ShardState → List ShardState → Type 0
 Kin xs closed = (parent index : ℕ) (y : ShardState) → slice_get closed index ≡ Some y → is_child parent y ≡ true
     → (x : ShardState) × ((slice_get xs index ≡ Some x) × (is_child parent x ≡ true))
 
--- After a shard is closed, each shard is a child of the same shards as before (`Kin`).
+-- After a shard is closed, no shard has a parent that it didn't have before (`Kin`).
 pub kin_closed : (xs : List ShardState) (sh : ℕ) (closing : Closing) → Kin xs (with_closed sh closing xs)
 kin_closed [] sh closing parent index y is child = absurd cc
 kin_closed (x ∷ xs) zero closing parent zero y is child =
@@ -143,7 +144,7 @@ kin_closed (x ∷ xs) zero closing parent (suc index) y is child = (y, (is, chil
 kin_closed (x ∷ xs) (suc sh) closing parent zero y is child = (y, (is, child))
 kin_closed (x ∷ xs) (suc sh) closing parent (suc index) y is child = kin_closed xs sh closing parent index y is child
 
--- After two shards are closed, each shard is a child of the same shards as before (`Kin`).
+-- After two shards are closed, no shard has a parent that it didn't have before (`Kin`).
 pub kin_twice : (xs : List ShardState) (sh other : ℕ) (closing : Closing)
     → Kin xs (with_closed other closing (with_closed sh closing xs))
 kin_twice xs sh other closing parent index y is child =
@@ -223,8 +224,9 @@ module _ (firsts more : List (Option ℕ)) (xs closed born : List ShardState) (s
       let e : index ≡ length sets + h.index = omega (arith, h.is, long_sets) in
       ap (slice_get (sets ++ more)) e ∙ get_back sets more h.index ∙ none h.index (omega arith)
 
-  -- Let the shards `sh` and `other`, which have no children, be closed, and let the shards `born`, at most two, be
-  -- added at the end, with no other parents than these. Then the changed index (`after_birth`) fits the shards.
+  -- Let the shards `sh` and `other`, for which the index gives no child, be closed. Let at most two shards `born`,
+  -- which have no parents other than `sh` and `other`, be added at the end. Then the changed index (`after_birth`) fits
+  -- the shards.
   pub born_families : AreFamilies (after_birth firsts sh other child more) (closed ++ born)
   born_families = record {
     long =
@@ -275,8 +277,8 @@ none_in_two zero below = refl
 none_in_two (suc zero) below = refl
 none_in_two (suc (suc i)) below = absurd (omega arith)
 
--- After an open shard is split, the index with this shard's first child set to the first new shard, and with two empty
--- entries added, fits the shards.
+-- Let an open shard be split. Then the index fits the shards again after the first child of the split shard is set to
+-- the first new shard, and two empty entries are added.
 pub split_families : (firsts : List (Option ℕ)) (xs : List ShardState) (sh a b start : ℕ) (r q : Span)
     (closing : Closing) (x : ShardState)
     → slice_get xs sh ≡ Some x → is_open x ≡ true → AreFamilies firsts xs
@@ -289,8 +291,8 @@ split_families firsts xs sh a b start r q closing x made open_now families =
     families (closes_one xs sh closing) (kin_closed xs sh closing) (omega arith) refl none_in_two refl young young
     (of_split sh a b start r q)
 
--- After two open shards are merged, the index with the first child of each set to the new shard, and with one empty
--- entry added, fits the shards.
+-- Let two open shards be merged. Then the index fits the shards again after the first child of each of the two is set
+-- to the new shard, and one empty entry is added.
 pub merge_families : (firsts : List (Option ℕ)) (xs : List ShardState) (sh other a start : ℕ) (r : Span)
     (closing : Closing) (x y : ShardState)
     → slice_get xs sh ≡ Some x → is_open x ≡ true → slice_get xs other ≡ Some y → is_open y ≡ true

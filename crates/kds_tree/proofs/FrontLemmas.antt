@@ -213,8 +213,8 @@ nothing_before f n c t (suc at) (i ∷ names) xs is before left =
       least f n c (i ∷ names) xs left 0 i (omega arith),
     ))
 
--- The names that aren't below the number `t` are the names for the front of the shards from the number `t` on, which
--- begin at the index `m`. The first such name is at the index `at` of the names.
+-- Let the names below the number `t` be those before the index `at`. Then the names from `at` on are the names for the
+-- front of the shards from the number `t` on, which begin at the index `m`.
 pub names_behind : (f n c m t k at : ℕ) (names : List ℕ) (xs : List ShardState) → t ≡ n + m → k ≡ c - m
     → ((j d : ℕ) → j < at → j < length names → get_or names j d < t)
     → ((j d : ℕ) → at ≤ j → j < length names → t ≤ get_or names j d)
@@ -293,8 +293,8 @@ listing_left cut after xs names c start m left is behind =
     left)
     ∙ listing_behind cut after xs (drop start xs) behind
 
--- The keys of the listed shards among the named ones, followed by the keys of the listed shards after the front, are
--- the keys of all listed shards. The lemma says so of these keys after `keys`.
+-- Let the keys of the listed shards among the named ones be added to `keys`, and then the keys of the listed shards
+-- after the front. The result is `keys` followed by the keys of all listed shards.
 pub keys_left : (s f c : ℕ) (names : List ℕ) (xs : List ShardState) (keys now new : List ShardRef)
     → AreLeft f 0 c names xs
     → now ≡ keys ++ refs_of s (listed_among f (picked names xs))
@@ -319,7 +319,7 @@ left_within f n (suc c) [] (x ∷ xs) left = omega (arith, left_within f (suc n)
 left_within f n (suc c) (i ∷ names) (x ∷ xs) (inl a) = omega (arith, left_within f (suc n) c names xs a.1)
 left_within f n (suc c) (i ∷ names) (x ∷ xs) (inr a) = omega (arith, left_within f (suc n) c (i ∷ names) xs a.1)
 
--- If the test that a shard isn't expired fails for the option `o`, which has the shard `x`, then `x` is expired.
+-- Let the option `o` have the shard `x`. If the test that `o` isn't expired fails, `x` is expired.
 was_true : (f j : ℕ) (o : Option ShardState) (x : ShardState) → o ≡ Some x → not (is_expired_at f o) ≡ false
     → is_closed_below f x ≡ true
 was_true f j None x is e = absurd cc

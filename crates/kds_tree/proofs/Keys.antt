@@ -69,8 +69,8 @@ times_by : (lt : Bool) (k b x : ℕ) (xs more : List ℕ) → times k more ≡ c
 times_by true k b x xs more h = refl
 times_by false k b x xs more h = omega arith
 
--- If the key `b` is inserted into a list of first keys, `b` is in the list once more than before, and all other keys
--- are as often as before.
+-- Let the key `b` be inserted into a list of first keys. Then `b` is in the list once more than before, and each other
+-- key is in it as often as before.
 times_with : (k b : ℕ) (xs : List ℕ) → times k (with_start b xs) ≡ cond (b == k) 1 0 + times k xs
 times_with k b [] = refl
 times_with k b (x ∷ xs) = times_by (nat_lt b x) k b x xs (with_start b xs) (times_with k b xs)

@@ -48,8 +48,9 @@ all_behind (x ∷ xs) n after numbers h =
     (above x.no n after numbers.0 h)
     ∙ ap (λ ys. x ∷ ys) (all_behind xs (n + 1) after numbers.1 (omega arith))
 
--- Let the shards of a list be numbered from `n` on. Those with a number greater than `after` are those from the index
--- `from` on, if the shard at this index has the next number after `after`, or if the list ends before the index.
+-- Let the shards of a list be numbered from `n` on, and let the next number after `after` be at the index `from`, or
+-- let the list end before this index. Then the shards with a number greater than `after` are those from the index
+-- `from` on.
 point : (xs : List ShardState) (n after from : ℕ) → AreNumbered n xs → n + from ≤ after + 1 → (n + from ≡ after + 1)
     ⊎ (length xs ≤ from)
     → drop from xs ≡ filter (is_after_shard (Some after)) xs
@@ -78,12 +79,12 @@ pub at_end : (xs : List ShardState) (after i from : ℕ) → AreNumbered 0 xs �
 at_end xs after i from numbers same far is =
     point xs 0 after from numbers (omega arith) (inr (omega arith))
 
--- If no number is given, all shards are listed.
+-- If no number is given, no shard is left out.
 pub behind_none : (xs : List ShardState) → xs ≡ filter (is_after_shard None) xs
 behind_none [] = refl
 behind_none (x ∷ xs) = ap (λ ys. x ∷ ys) (behind_none xs)
 
--- A listing of the shards after a given number has those listed shards of all that have a greater number.
+-- A listing of the shards after a given number has all listed shards with a greater number.
 pub listing_behind : (cut after : Option ℕ) (xs behind : List ShardState) → behind ≡ filter (is_after_shard after) xs
     → listing cut behind ≡ map shown (filter (is_after_shard after) (listed_among (floor_of cut) xs))
 listing_behind cut after xs behind is = ap (listing cut) is ∙ ap (map shown) (filter_swap _ _ xs)

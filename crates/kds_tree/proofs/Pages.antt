@@ -31,13 +31,13 @@ beyond (x ∷ xs) (suc i) le = beyond xs i (omega arith)
 lt_false : (n m : ℕ) → false ≡ nat_lt n m → m ≤ n
 lt_false n m e = grind (arith, nat_tests)
 
--- If the number isn't below the number of shards, there is no shard at this index.
+-- If `number` isn't below the number of shards, no shard is at this index.
 pub none_there : (xs : List ShardState) (i number : ℕ) → i ≡ number → false ≡ nat_lt i (length xs)
     → slice_get xs number ≡ None
 none_there xs i number is e = beyond xs number (omega (arith, is, lt_false i (length xs) e))
 
--- If the page `listed` has at most `limit` shards and `o` is None, then `listed` is also the page of the list with `o`
--- added, and no shards remain after this page (`Lists` with `more` false).
+-- Let the page `listed` have at most `limit` shards, and let `o` be None. Then `listed` is also the page of the list
+-- with `o` added, and no shards remain after this page (`Lists` with `more` false).
 pub none_more : (limit : ℕ) (cut : Option ℕ) (listed : List Shard) (o : Option ShardState) → o ≡ None
     → length listed ≤ limit
     → Lists limit (listed ++ listing cut (picked_before o [])) listed false

@@ -119,8 +119,8 @@ chosen_within false x y h g = g
 lower_within : (r : Span) (at : ℕ) → is_inside r at ≡ true → r.end < 2 ^ 128 → at - 1 < 2 ^ 128
 lower_within r at inside h = grind (arith, nat_tests)
 
--- If `n` ranges of the width `width` from `start` on fit below 2^128, the last `n` ranges of a new stream end below
--- 2^128.
+-- If `n` ranges of the width `width` from the key `start` on fit below 2^128, the shards with the `n` uniform ranges
+-- from `start` on end below 2^128.
 within_last : (width start n : ℕ) → start + n * width ≤ 2 ^ 128 → (i s : ℕ)
     → AllByRecursion IsWithinKeys (first_shards i s (uniform_from width start n))
 within_last width start zero fits i s = tt
@@ -224,17 +224,17 @@ closed_at (z ∷ zs) ys (suc i) x y closing at is = ap (λ ss. z ∷ ss) (closed
 
 -- ---- What the code does
 
--- The list of starts stays right when the shards `xs`, which meet the invariant `IsTree`, become `zs`. If `ss` is right
--- for `xs` (`AreStarts`), then `ss` without the starts of `sh` and `other`, with the starts of `born` added, and put in
--- the order of the keys, is right for `zs`.
+-- The list of starts stays right when the shards `xs`, which meet the invariant `IsTree`, become `zs`. Let `ss` be
+-- right for `xs` (`AreStarts`). Then `ss` without the starts of `sh` and `other`, with the starts of `born` added, and
+-- in the order of the keys, is right for `zs`.
 abbrev pub StartsGo : List ShardState → ℕ → ℕ → List ShardState → List ShardState → Type 0
 StartsGo xs sh other born zs = IsTree xs → (ss more ts : List OpenStart) → AreStarts ss xs
     → more ≡ filter (stays sh other) ss ++ map own_start born → IsPermutation more ts
     → IsNonDecreasingBy (λ (s : OpenStart). s.key) ts → AreStarts ts zs
 
--- The index of first children still fits when the shards `xs` become `zs`. If `firsts` fits `xs` (`AreFamilies`), then
--- `firsts`, with the first child of `sh` and `other` set to the number after those of `xs`, and with the entries `more`
--- added, fits `zs`.
+-- The index of first children still fits when the shards `xs` become `zs`. Let `firsts` fit `xs` (`AreFamilies`). Then
+-- `firsts` fits `zs` after the first child of `sh` and of `other` is set to the number after those of `xs`, and the
+-- entries `more` are added.
 abbrev pub FamiliesGo : List ShardState → ℕ → ℕ → List (Option ℕ) → List ShardState → Type 0
 FamiliesGo xs sh other more zs = (firsts : List (Option ℕ)) → AreFamilies firsts xs
     → AreFamilies (after_birth firsts sh other (length xs) more) zs
@@ -254,7 +254,7 @@ same_refusal : {A : Type 0} (r q : Refusal)
     → (let a : Result A Refusal = Err r in let b : Result A Refusal = Err q in a ≡ b) → r ≡ q
 same_refusal r q h = cc
 
--- If a split or a merge is refused with `r`, its answer is `r` whatever it would be otherwise.
+-- If a split or a merge is refused with `r`, the answer is `r`, whatever the answer would be without the refusal.
 pub refused_answer : {A B : Type 0} (o : Option Refusal) (r : Refusal) (x : A) (y : B) → Err r ≡ answer_by o x
     → Err r ≡ answer_by o y
 refused_answer None r x y h = absurd cc
@@ -303,8 +303,8 @@ still_there (x ∷ xs) (suc sh) (suc other) closing y is = still_there xs sh oth
 abbrev pub halves : Span → ℕ → Span × Span
 halves r at = (lower_part r at, upper_part r at)
 
--- If a split isn't refused, and the code adds the two new shards at the end and then closes the shard that is split,
--- the result is the one that `Splits` states.
+-- Let a split not be refused, and let the code add the two new shards at the end and then close the shard that is
+-- split. Then the result is the one that `Splits` states.
 pub splits : (xs zs : List ShardState) (sh i at start a b s : ℕ) (closing : Closing) (ranges : Span
     × Span) (low high old new : ShardState)
     → Ok ranges ≡ answer_by (split_refusal xs sh at) (halves (range_of (slice_get xs sh)) at)
@@ -423,7 +423,7 @@ front_merge xs zs sh other i j f n names range joint child y z answer is_i is_j 
     (left_sets f 0 n sh other names more can.state can.beside y z made can.is_open_now made' can.other_open
     (left_append f 0 n names xs (child ∷ []) front))))
 
--- If a split or a merge isn't refused, the shards after it are those that it makes.
+-- After a split or a merge that isn't refused, the shards are those that it makes.
 by_none : (o : Option Refusal) (before after zs : List ShardState) → o ≡ None → zs ≡ after
     → zs ≡ value_by o before after
 by_none None before after zs none is = is
@@ -453,8 +453,8 @@ pub merge_value : (xs : List ShardState) (sh other start : ℕ) (closing : Closi
 merge_value xs sh other start closing child zs s =
     by_none (merge_refusal xs sh other) xs (merged_shards sh other closing start xs) zs s.allowed s.value
 
--- If a merge isn't refused, and the code adds the new shard at the end and then closes the two shards, the result is
--- the one that `Merges` states.
+-- Let a merge not be refused, and let the code add the new shard at the end and then close the two shards. Then the
+-- result is the one that `Merges` states.
 pub merges : (xs zs : List ShardState) (sh other i j start a s : ℕ) (closing : Closing) (range : Span)
     (child old new old' new' : ShardState)
     → Ok range ≡ answer_by (merge_refusal xs sh other)

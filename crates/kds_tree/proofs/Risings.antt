@@ -22,8 +22,8 @@ use Rattle.kds_tree.specs.Tree.{IsTree, IsWithinKeys}
 abbrev pub begins_at : List ShardState → ℕ → Bool
 begins_at xs k = is_start (starts_among (filter is_open xs)) k
 
--- With the shard `x` in front of `xs`, an open shard starts at the key `k` if and only if `x` is open (`b`) and starts
--- at `k`, or an open shard of `xs` starts at `k`.
+-- In the list with the shard `x` in front of `xs`, an open shard starts at the key `k` in exactly two cases: `x` is
+-- open (`b`) and starts at `k`, or an open shard of `xs` starts at `k`.
 begins_with : (b : Bool) (x : ShardState) (xs : List ShardState) (k : ℕ)
     → is_start (starts_among (cond b (x ∷ filter is_open xs) (filter is_open xs))) k
     ≡ ((b && (x.range.start == k)) || begins_at xs k)
@@ -42,8 +42,8 @@ begins_more x xs k = begins_with (is_open x) x xs k
 pub one_here : (r : Span) → r.start ≤ r.end → one r r.start ≡ 1
 one_here r h = grind (arith, nat_tests)
 
--- If the shard `x` is open (`b`) and its range, which isn't empty, starts at the key `k` (`c`), `x` counts among the
--- open shards that contain `k`.
+-- Let the shard `x` be open (`b`), and let its range not be empty and start at the key `k` (`c`). Then `x` counts among
+-- the open shards that contain `k`.
 counted_by : (b c : Bool) (x : ShardState) (k n : ℕ) → is_open x ≡ b → (x.range.start == k) ≡ c
     → x.range.start ≤ x.range.end → (b && c) ≡ true → 1 ≤ count_if b (one x.range k) + n
 counted_by true true x k n isb isc o h = let e : x.range.start ≡ k = equal_so x.range.start k isc in

@@ -3,7 +3,8 @@ use Rattle.kds_defs.specs.Records.{first_at, left_among}
 use Rattle.kcl_audit_streams.specs.Standing.{records_in}
 use Rattle.kcl_audit_streams.proofs.records.first_since.Given as goal
 
--- The first record since the moment is the same among the records that remain as among all. None of those so far is it.
+-- For the records that remain, `first_at` gives the same as for all records, because none of the records so far is the
+-- one that it finds.
 abbrev pub invariant-loop-item : goal.invariant-loop-item
 invariant-loop-item l =
     first_at (left_among l.floor 0 (records_in (drop l.item-index l.records) l.shard)) l.moment l.otherwise

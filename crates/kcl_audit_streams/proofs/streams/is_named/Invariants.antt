@@ -2,7 +2,8 @@ use Rattle.std.proofs.Common.{◌≡◌, drop}
 use Rattle.kcl_audit_streams.specs.Living.{is_named_among}
 use Rattle.kcl_audit_streams.proofs.streams.is_named.Given as goal
 
--- One of the streams that remain has the name exactly if one of all has it. None of the streams so far has it.
+-- One of the streams that remain has the name exactly if one of all streams has it. None of the streams so far has the
+-- name.
 abbrev pub invariant-loop-no : goal.invariant-loop-no
 invariant-loop-no l =
     is_named_among l.streams l.name (drop l.no-index l.numbers) ≡ is_named_among l.streams l.name l.numbers

@@ -6,8 +6,8 @@ use Rattle.kcl_drill_summary.specs.Summing.{CanTell, IsTold}
 use Rattle.kcl_drill_summary.specs.Reads.{HasRead}
 use Rattle.kcl_drill_summary.proofs.summing.sum_shards.Given as goal
 
--- The machine has still only read since any history for which this was true before. The entries so far and what the
--- summary says of the keys that remain make up all that the summary says.
+-- If the machine had only read since some history before the loop, this is still so. The entries so far and what the
+-- summary says of the remaining keys are the whole summary.
 abbrev pub invariant-loop-key : goal.invariant-loop-key
 invariant-loop-key g l =
     ((h : List Asked) → HasRead (g.M.Machine.stands_for l.fn.machine) l.by l.at h

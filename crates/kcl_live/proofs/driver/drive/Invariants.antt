@@ -4,8 +4,8 @@ use Rattle.kcl_live.specs.Records.{AreOnLeasesAt}
 use Rattle.kcl_live.specs.Steps.{IsGoing}
 use Rattle.kcl_live.proofs.driver.drive.Given as goal
 
--- In the `k` rounds so far, the worker made `k` turns, each at its moment, and took each answer. It wasn't stopped
--- (`IsGoing`).
+-- In the `k` rounds so far, the worker made `k` turns, each at its moment, and took each answer. The worker wasn't
+-- stopped (`IsGoing`).
 abbrev pub invariant-loop-k : goal.invariant-loop-k
 invariant-loop-k g l = record {
   kept : (l.pass.hall ≡ l.fn.pass.hall) × (l.pass.by ≡ l.fn.pass.by) × (l.pass.joined ≡ l.fn.pass.joined);

@@ -5,8 +5,8 @@ use Rattle.kcl_live.specs.Records.{AreOnLeasesAt}
 use Rattle.kcl_live.specs.Steps.{IsFinishing}
 use Rattle.kcl_live.proofs.driver.finish.Given as goal
 
--- The stopped worker made its turns so far at their moments, at least `turns` of them, and makes at most 3 * `turns` in
--- all (`IsFinishing`). No call is due.
+-- The stopped worker made each turn so far at its moment. It has made at least `turns` turns, and makes at most 3 *
+-- `turns` in all (`IsFinishing`). No processor call is due.
 abbrev pub invariant-loop-at : goal.invariant-loop-at
 invariant-loop-at g l = record {
   kept : (l.pass.hall ≡ l.fn.pass.hall) × (l.pass.by ≡ l.fn.pass.by) × (l.pass.joined ≡ l.fn.pass.joined);

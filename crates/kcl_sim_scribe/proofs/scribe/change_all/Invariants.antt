@@ -3,7 +3,8 @@ use Rattle.kcl_journal.specs.declared.line.EntryLine.{EntryLine}
 use Rattle.kcl_sim_scribe.specs.Known.{changed_by}
 use Rattle.kcl_sim_scribe.proofs.scribe.change_all.Given as goal
 
--- Changing the streams so far by the lines that remain gives what changing the first streams by all lines gives.
+-- Changing the streams so far by the remaining lines gives the same as changing the streams from before the loop by all
+-- lines.
 abbrev pub invariant-loop-line : goal.invariant-loop-line
 invariant-loop-line l = changed_by (map (λ (x : EntryLine). x.what) (drop l.line-index l.lines)) l.streams.items
     ≡ changed_by (map (λ (x : EntryLine). x.what) l.lines) l.initial.streams.items

@@ -3,7 +3,8 @@ use Rattle.std.specs.List.{filter}
 use Rattle.kcl_defs.specs.Plans.{is_available}
 use Rattle.kcl_take.proofs.taking.available.Given as goal
 
--- The available rows so far, followed by those among the rows that the loop hasn't come to, are all available rows.
+-- The available rows so far, followed by the available rows among those that the loop hasn't come to, are all available
+-- rows.
 abbrev pub invariant-loop-r : goal.invariant-loop-r
 invariant-loop-r l =
     let test = is_available l.fn.me l.fn.held in

@@ -2,8 +2,8 @@ use Rattle.std.proofs.Common.{◌≡◌, ◌-◌, ◌++◌, drop, take, vec_len}
 use Rattle.kcl_defs.specs.Workers.{without_held}
 use Rattle.kcl_worker_lists.proofs.leases.drop_held.Given as goal
 
--- The leases before the index `i` aren't the lease `id` and stay in the list. Those from `i` on are still to be looked
--- at.
+-- The leases before the index `i`, followed by those from `i` on without the lease `id`, are all leases of the initial
+-- list without the lease `id`.
 abbrev pub invariant-loop-i : goal.invariant-loop-i
 invariant-loop-i l =
     take l.i l.held.items ++ without_held l.fn.id (drop l.i l.held.items) ≡ without_held l.fn.id l.fn.held.items

@@ -2,7 +2,7 @@ use Rattle.std.proofs.Common.{◌≡◌, ◌++◌, drop}
 use Rattle.kcl_worker_lists.specs.Planning.{lost_of}
 use Rattle.kcl_worker_lists.proofs.planning.lost_of.Given as goal
 
--- The lost leases that were found so far, followed by those among the leases that weren't looked at yet, are all lost
--- leases: those whose row doesn't exist or names another tenure.
+-- The lost leases that were found so far, followed by the lost ones among the leases that weren't looked at yet, are
+-- all lost leases (`lost_of`).
 abbrev pub invariant-loop-h : goal.invariant-loop-h
 invariant-loop-h l = l.lost.items ++ lost_of l.fn.rows (drop l.h-index l.held) ≡ lost_of l.fn.rows l.held

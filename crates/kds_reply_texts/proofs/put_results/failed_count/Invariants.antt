@@ -3,7 +3,8 @@ use Rattle.std.specs.Prelude.{count_by}
 use Rattle.kds_reply_texts.specs.Bodies.{has_failed}
 use Rattle.kds_reply_texts.proofs.put_results.failed_count.Given as goal
 
--- The count is that of the outcomes so far whose records weren't stored, and so it is at most their number.
+-- The count is the number of outcomes so far whose records weren't stored. So it is at most the number of outcomes so
+-- far.
 abbrev pub invariant-loop-outcome : goal.invariant-loop-outcome
 invariant-loop-outcome l = record {
   counted : l.count ≡ count_by has_failed (take l.outcome-index l.outcomes);

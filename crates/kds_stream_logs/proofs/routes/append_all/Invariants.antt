@@ -3,8 +3,8 @@ use Rattle.kds_log.specs.Log.{log_of}
 use Rattle.kds_stream_logs.specs.Routes.{CanTakeAll, with_each}
 use Rattle.kds_stream_logs.proofs.routes.append_all.Given as goal
 
--- The logs can take the records that are left. With these records appended, they are the first logs with all records
--- appended.
+-- The logs can take the records that are left. Once these records are appended, the logs are those from before the loop
+-- with all records appended.
 abbrev pub invariant-loop-next : goal.invariant-loop-next
 invariant-loop-next l =
     record {

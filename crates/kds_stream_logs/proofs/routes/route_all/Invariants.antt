@@ -6,9 +6,9 @@ use Rattle.kds_stream_logs.specs.Routes.{AreOfRecords, GoesOn}
 use Rattle.kds_stream_logs.specs.Saved.{restored}
 use Rattle.kds_stream_logs.proofs.routes.route_all.Given as goal
 
--- The routes so far, with what the items that are left add, are the routes of all items (`GoesOn`). They have the
--- records of the items so far (`AreOfRecords`). Each shard has a window, no window counts a put after the clock, and
--- putting back the saved windows gives those from before the loop.
+-- The routes so far have the records of the items so far (`AreOfRecords`). With what the items that are left add, they
+-- are the routes of all items (`GoesOn`). Each shard has a window, and no window counts a put after the clock. If the
+-- saved windows are put back, the windows are those from before the loop.
 abbrev pub invariant-loop-item : goal.invariant-loop-item
 invariant-loop-item l =
     record {

@@ -5,8 +5,8 @@ use Rattle.kds_token.proofs.ids.before.Given as goal
 abbrev pub decreases-loop-known : goal.decreases-loop-known
 decreases-loop-known l = 12 - l.known
 
--- The id so far is `shardId-`, followed by the zeros that were added so far. There aren't more of them than are needed
--- to make twelve digits.
+-- The id so far is `shardId-`, followed by the zeros that were added so far. These are at most as many zeros as are
+-- needed to make twelve digits.
 abbrev pub invariant-loop-known : goal.invariant-loop-known
 invariant-loop-known l = record {
   zeros : l.id.bytes ≡ codes "shardId-" ++ replicate (l.known - l.digits) 48;

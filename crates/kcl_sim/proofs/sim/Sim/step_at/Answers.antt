@@ -6,8 +6,8 @@ use Rattle.kcl_sim.proofs.Employing.{set_again}
 use Rattle.kcl_sim.proofs.Running.{Asked, asked_at, err_so, idle_steps, on_ok_all, on_ok_so, turn_may, turn_steps}
 use Rattle.kcl_sim.proofs.sim.Sim.step_at.Goals as goal
 
--- The worker at the index has made its due calls and was then asked for a command, which is the result of
--- `next_command` (`Asked`).
+-- The worker at the index has made its due calls and was then asked for a command. The result of `next_command` is this
+-- command, or None if the worker is idle (`Asked`).
 asked_turn : (g : _) (c : goal.After-make_turn g)
     → Asked c.args.at c.args.index c.args.self.now c.next_command.result c.next_command.new.worker
 asked_turn g c =
