@@ -134,7 +134,8 @@ all_counted count bytes rest all none counts = (
 
 -- ---- One read
 
--- The lemma `read_on` for a read after which the shard ends: there is no iterator from which reading goes on.
+-- The case of `read_on` (below) in which the read reached the end of the shard. No iterator is left to read on from, so
+-- the counts must be those of all records.
 ended : (log : Journal) (c s sh p reach count bytes count' bytes' : ℕ) (next' : Option Iter) → CanCount log c s sh
     → ends_at log c s sh reach ≡ true → CountsTo count' bytes' (from reach (records log s sh)) (records log s sh)
     → next' ≡ next_above p None → GoesOn log c s sh count' bytes' next'

@@ -54,8 +54,9 @@ pub record CanCount (log : Journal) (c s sh : ℕ) : Type 0 where
   pub sized : AllByRecursion IsSized (records log s sh)
 
 -- Reading the shard `sh` of the stream `s` goes on at the iterator `next`, which was made at the clock `c`, after
--- `count` records with `bytes` payload bytes. These records and those left from `next` on are all records of the shard
--- (`CountsTo`). Without an iterator (None), the counts are those of all records of the shard.
+-- `count` records with `bytes` payload bytes. Together with the records left from `next` on, these counts make up the
+-- number and the payload bytes of all records of the shard (`CountsTo`). Without an iterator (None), the counts are
+-- those of all records of the shard.
 abbrev pub GoesOn : Journal → ℕ → ℕ → ℕ → ℕ → ℕ → Option Iter → Type 0
 GoesOn log c s sh count bytes None = (count ≡ length (records log s sh)) × (bytes ≡ bytes_of (records log s sh))
 GoesOn log c s sh count bytes (Some next) =

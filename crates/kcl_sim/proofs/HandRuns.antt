@@ -161,7 +161,7 @@ pub record UnderWay (wanted : Bool) (at by : ℕ) (old now : SimValue) (v w : Ha
   pub wrote : text ≡ if_wanted wanted (deals_text deals)
   pub unfinished : now.unfinished ≡ old.unfinished
   pub workers : now.workers ≡ old.workers
-  pub since : now.since ≡ old.since
+  pub cleared_at : now.cleared_at ≡ old.cleared_at
   pub none_due : due_call w.consumer.stage ≡ None
   pub rest : (x : HandOff) → IsHandOf v x → (y : HandOff) × IsHandOf w y
       × IsRest at by old.history x ran_of_it deals now.history y
@@ -184,7 +184,7 @@ way_begins wanted at by old now v w text same empty few fewer none called = reco
   wrote = empty ∙ none_wanted wanted;
   unfinished = ap (λ (z : SimValue). z.unfinished) same;
   workers = ap (λ (z : SimValue). z.workers) same;
-  since = ap (λ (z : SimValue). z.since) same;
+  cleared_at = ap (λ (z : SimValue). z.cleared_at) same;
   none_due = none;
   rest = λ x s.
       let here = called x s in (
@@ -200,9 +200,9 @@ way_begins wanted at by old now v w text same empty few fewer none called = reco
 pub way_goes : (wanted : Bool) (at by : ℕ) (old now new : SimValue) (v w u : Handing) (text more : List ℕ)
     → UnderWay wanted at by old now v w text
     → MadeRound wanted at by now new w u text more → new.unfinished ≡ now.unfinished → new.workers ≡ now.workers
-    → new.since ≡ now.since
+    → new.cleared_at ≡ now.cleared_at
     → turns_left_in u < turns_left_in w → due_call u.consumer.stage ≡ None → UnderWay wanted at by old new v u more
-way_goes wanted at by old now new v w u text more way r unfinished workers since fewer none = record {
+way_goes wanted at by old now new v w u text more way r unfinished workers cleared_at fewer none = record {
   ran_of_it = way.ran_of_it + 1;
   deals = way.deals ++ deal_at at by now.history r.what ∷ [];
   few = omega (arith, way.few, fewer);
@@ -211,7 +211,7 @@ way_goes wanted at by old now new v w u text more way r unfinished workers since
       ∙ ap (if_wanted wanted) (sym (deals_more way.deals (deal_at at by now.history r.what)));
   unfinished = unfinished ∙ way.unfinished;
   workers = workers ∙ way.workers;
-  since = since ∙ way.since;
+  cleared_at = cleared_at ∙ way.cleared_at;
   none_due = none;
   rest = λ x s.
       let y = way.rest x s in

@@ -6,6 +6,6 @@ abbrev pub if_wanted : Bool → List ℕ → List ℕ
 if_wanted true text = text
 if_wanted false text = []
 
--- The text `now` is `since` with some text added, and `after` is `before` with this same text added.
+-- The text `now` is `cleared_at` with some text added, and `after` is `before` with this same text added.
 abbrev pub AddsText : List ℕ → List ℕ → List ℕ → List ℕ → Type 0
-AddsText since now before after = (added : List ℕ) × (now ≡ since ++ added) × (after ≡ before ++ added)
+AddsText cleared_at now before after = (added : List ℕ) × (now ≡ cleared_at ++ added) × (after ≡ before ++ added)

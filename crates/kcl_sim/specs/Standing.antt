@@ -21,12 +21,12 @@ use Rattle.kcl_sim.specs.Workers.{Employed, all_called, answered, command_at, in
 abbrev pub Stepped : Type 0
 Stepped = WorkerStanding Stock Kind
 
--- A run as callers see it: all its turns, the newest first, and its workers. `since` has the turns that were made
+-- A run as callers see it: all its turns, the newest first, and its workers. `cleared_at` has the turns that were made
 -- before the text gathered from the turns was last emptied. `unfinished` says whether a worker's step or a hand-off has
 -- begun but not finished. It stays true if memory runs out in the step or hand-off.
 pub record SimValue : Type 0 where
   pub history : List Turn
-  pub since : List Turn
+  pub cleared_at : List Turn
   pub workers : List Stepped
   pub unfinished : Bool
 

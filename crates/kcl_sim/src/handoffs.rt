@@ -78,7 +78,7 @@ impl<M: Machine, K: Keep> Sim<M, K> {
         requires going { left_at hand.old.stand ≡ None }
         ensures unfinished { self.new.unfinished ≡ self.old.unfinished }
         ensures workers { self.new.workers ≡ self.old.workers }
-        ensures since { self.new.since ≡ self.old.since }
+        ensures cleared_at { self.new.cleared_at ≡ self.old.cleared_at }
         ensures fewer { OnOk result (turns_left_in hand.new < turns_left_in hand.old) }
         ensures none_due { OnOk result (due_call hand.new.consumer.stage ≡ None) }
         ensures made { OnOk result (MadeRound K.wanted at by self.old self.new hand.old hand.new text.old text.new) }
@@ -105,7 +105,7 @@ impl<M: Machine, K: Keep> Sim<M, K> {
         requires few { turns_left_in hand ≤ 3 }
         ensures unfinished { self.new.unfinished ≡ self.old.unfinished }
         ensures workers { self.new.workers ≡ self.old.workers }
-        ensures since { self.new.since ≡ self.old.since }
+        ensures cleared_at { self.new.cleared_at ≡ self.old.cleared_at }
         ensures ran { OnOk result (RanToEnd K.wanted at by self.old self.new hand to.old to.new) }
         ensures breaks { OnErr result (RanFirst at by self.old self.new hand) }
         ensures same { OnErr result (to.new ≡ to.old) }
@@ -136,7 +136,7 @@ impl<M: Machine, K: Keep> Sim<M, K> {
         requires going { self.old.unfinished ≡ false }
         ensures goes { OnOk result ((ran : Ran) → RunsSo self.old ran
             → GoesOn K.wanted self.new ran (line.Hand at by key) to.old to.new) }
-        ensures since { OnOk result (self.new.since ≡ self.old.since) }
+        ensures cleared_at { OnOk result (self.new.cleared_at ≡ self.old.cleared_at) }
         ensures breaks { OnErr result ((ran : Ran) → RunsSo self.old ran
             → MayHaveBroken self.new ran (line.Hand at by key)) }
         ensures same { OnErr result (to.new ≡ to.old) }

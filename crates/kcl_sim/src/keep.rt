@@ -16,8 +16,8 @@ use std::alloc::Global;
 /// Decides what the run of a schedule keeps of its turns. An implementation may gather a text from the turns, such as a
 /// journal. A run outputs either this text, or the texts of the answers to its turns.
 pub trait Keep {
-    /// `keeps k since h` means that `k` holds what is to be kept of the turns of the history `h` (newest turn first),
-    /// and that the gathered text was last emptied when the history was `since`.
+    /// `keeps k cleared_at h` means that `k` holds what is to be kept of the turns of the history `h` (newest turn
+    /// first), and that the gathered text was last emptied when the history was `cleared_at`.
     ghost keeps: { Self → List Turn → List Turn → Type 0 };
 
     /// Whether the run outputs the texts of answers.
@@ -47,26 +47,27 @@ pub trait Keep {
         turn: Turn,
     ) -> Result<Answer, Memory>
         requires lawful { IsLawful turn }
-        requires stands { (since : List Turn)
-            × ((h : List Turn) × (M.stands_for machine.old h × keeps self.old since h)) }
+        requires stands { (cleared_at : List Turn)
+            × ((h : List Turn) × (M.stands_for machine.old h × keeps self.old cleared_at h)) }
         ensures answered { (h : List Turn) → M.stands_for machine.old h
             → IfOk result (λ a. (a ≡ answer h turn) × M.stands_for machine.new (turn ∷ h)) }
-        ensures added { (since h : List Turn) → M.stands_for machine.old h → keeps self.old since h
-            → OnOk result (keeps self.new since (turn ∷ h)) }
+        ensures added { (cleared_at h : List Turn) → M.stands_for machine.old h → keeps self.old cleared_at h
+            → OnOk result (keeps self.new cleared_at (turn ∷ h)) }
         ensures err { (h : List Turn) → M.stands_for machine.old h → OnErr result (M.stands_for machine.new h) }
-        ensures kept { (since h : List Turn) → keeps self.old since h → OnErr result (keeps self.new since h) }
+        ensures kept { (cleared_at h : List Turn) → keeps self.old cleared_at h
+            → OnErr result (keeps self.new cleared_at h) }
         ensures own { is_service turn.what ≡ true → IfOk result (λ a. is_service_answer a ≡ true) }
         ensures leased { is_service turn.what ≡ false → IfOk result (λ a. is_lease_answer a ≡ true) };
 
     /// Empties the text that was gathered from the turns.
     fn clear_text(&mut self)
-        ensures { (since h : List Turn) → keeps self.old since h → keeps self.new h h };
+        ensures { (cleared_at h : List Turn) → keeps self.old cleared_at h → keeps self.new h h };
 
     /// Appends to `to` the text that was gathered from the turns since the text was last emptied. If memory runs out,
     /// nothing is appended. The error is also returned if memory for this text ran out in an earlier turn.
     fn append_text(&self, to: &mut Octets) -> Result<(), Memory>
-        ensures ok { (since h : List Turn) → keeps self.now since h
-            → OnOk result (AddsText (text since) (text h) to.old to.new) }
+        ensures ok { (cleared_at h : List Turn) → keeps self.now cleared_at h
+            → OnOk result (AddsText (text cleared_at) (text h) to.old to.new) }
         ensures err { OnErr result (to.new ≡ to.old) };
 }
 
@@ -93,7 +94,7 @@ impl AllTurns {
 }
 
 impl Keep for AllTurns {
-    ghost keeps = { λ k since h. k.turns.items ≡ reverse h };
+    ghost keeps = { λ k cleared_at h. k.turns.items ≡ reverse h };
 
     ghost wanted = { true };
 
@@ -133,7 +134,7 @@ impl Keep for AllTurns {
 pub struct NoTurns;
 
 impl Keep for NoTurns {
-    ghost keeps = { λ k since h. Unit {0} };
+    ghost keeps = { λ k cleared_at h. Unit {0} };
 
     ghost wanted = { true };
 

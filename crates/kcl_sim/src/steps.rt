@@ -52,7 +52,7 @@ impl<M: Machine, K: Keep> Sim<M, K> {
         requires going { self.old.unfinished ≡ false }
         ensures goes { OnOk result ((ran : Ran) → RunsSo self.old ran
             → GoesOn K.wanted self.new ran (line.Worker at name kind from) to.old to.new) }
-        ensures since { OnOk result (self.new.since ≡ self.old.since) }
+        ensures cleared_at { OnOk result (self.new.cleared_at ≡ self.old.cleared_at) }
         ensures kept { OnErr result (self.new ≡ self.old) }
         ensures same { OnErr result (to.new ≡ to.old) }
     {
@@ -88,7 +88,7 @@ impl<M: Machine, K: Keep> Sim<M, K> {
         requires { self.old.unfinished ≡ false }
         ensures goes { OnOk result ((ran : Ran) → RunsSo self.old ran
             → GoesOn K.wanted self.new ran (line.Stop at by) to.old to.new) }
-        ensures since { OnOk result (self.new.since ≡ self.old.since) }
+        ensures cleared_at { OnOk result (self.new.cleared_at ≡ self.old.cleared_at) }
         ensures kept { OnErr result (self.new ≡ self.old) }
         ensures same { OnErr result (to.new ≡ to.old) }
     {
@@ -121,7 +121,7 @@ impl<M: Machine, K: Keep> Sim<M, K> {
         requires asked { IfSome (slice_get self.old.workers index) (λ w. IsSome w.waiting) }
         requires there { index < length self.old.workers }
         ensures unfinished { self.new.unfinished ≡ true }
-        ensures since { OnOk result (self.new.since ≡ self.old.since) }
+        ensures cleared_at { OnOk result (self.new.cleared_at ≡ self.old.cleared_at) }
         ensures history { OnOk result (self.new.history ≡ raw_turn at by what ∷ self.old.history) }
         ensures worker { OnOk result
             (ChangedAt index (TookAnswer at by what self.old.history) self.old.workers self.new.workers) }
@@ -155,7 +155,7 @@ impl<M: Machine, K: Keep> Sim<M, K> {
         requires there { index < length self.old.workers }
         requires free { IfSome (slice_get self.old.workers index) IsFree }
         ensures unfinished { self.new.unfinished ≡ true }
-        ensures since { OnOk result (self.new.since ≡ self.old.since) }
+        ensures cleared_at { OnOk result (self.new.cleared_at ≡ self.old.cleared_at) }
         ensures steps { OnOk result (StepsAt K.wanted at by index self.old self.new to.old to.new) }
         ensures breaks { OnErr result ((self.new.history ≡ self.old.history) ⊎ TurnRan at by index self.old self.new) }
         ensures same { OnErr result (to.new ≡ to.old) }
@@ -181,7 +181,7 @@ impl<M: Machine, K: Keep> Sim<M, K> {
         requires going { self.old.unfinished ≡ false }
         ensures goes { OnOk result ((ran : Ran) → RunsSo self.old ran
             → GoesOn K.wanted self.new ran (line.Step at by) to.old to.new) }
-        ensures since { OnOk result (self.new.since ≡ self.old.since) }
+        ensures cleared_at { OnOk result (self.new.cleared_at ≡ self.old.cleared_at) }
         ensures breaks { OnErr result ((ran : Ran) → RunsSo self.old ran → MayHaveRun self.new ran (line.Step at by)) }
         ensures same { OnErr result (to.new ≡ to.old) }
     {

@@ -306,8 +306,9 @@ ran_ended_all st None a b c d s last at h r e = tt
 ran_ended_all st (Some bytes) a b c d s last at h r e =
     ran_ended st bytes a b c d s h r (subst (λ (n : ℕ). EndTells st n c d) (at ∙ ap clock r.made.history) e)
 
--- Assume that the first line and all entries were written. If the last line was then written as `EndTells` states for
--- the status `st`, `RanBy` holds with `st` for the output that has the first and the last line too.
+-- Assume that the first line and all entries were written, and that then the last line was written whole, in part or
+-- not at all, as the status `st` says (`EndTells`). Then `RanBy` holds with `st` for the whole output: the first line,
+-- the entries, and what was written of the last line.
 pub ran_ends_with : (entered st : Status) (all a b c d : Option (List ℕ)) (s : SimValue) (last : ℕ) → entered ≡ Done
     → last ≡ clock s.history → Appends a b first_line
     → IfSome all (λ bytes. RanBy lines_journal entered bytes b c s) → EndTells st last c d

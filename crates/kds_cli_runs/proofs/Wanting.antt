@@ -21,7 +21,7 @@ use Rattle.kds_cli_runs.proofs.Journaling.{nothing_recorded, nothing_written}
 
 -- A run in which no turn was made.
 still : SimValue
-still = record { history = []; since = []; workers = []; unfinished = false }
+still = record { history = []; cleared_at = []; workers = []; unfinished = false }
 
 none_ran : (output : List Line → List ℕ) (bytes : List ℕ) (held : Option (List ℕ))
     → RanBy output Memory bytes held held still

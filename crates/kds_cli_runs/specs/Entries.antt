@@ -14,8 +14,8 @@ entries_text_of h = entries_text (history_entries h)
 abbrev pub lines_journal : List Line → List ℕ
 lines_journal lines = entries_text_of (with_schedule fresh lines).history
 
--- The scribe has noted the turns of the history `h`. The entries of `h` are those of the earlier history `since`,
+-- The scribe has noted the turns of the history `h`. The entries of `h` are those of the earlier history `cleared_at`,
 -- followed by those in `text`. If memory for the text ran out, there is no text (None), and nothing is claimed.
 abbrev pub IsNoted : ScribeValue → Option (List ℕ) → List Turn → List Turn → Type 0
-IsNoted scribe None since h = Unit {0}
-IsNoted scribe (Some text) since h = StandsFor scribe h × (entries_text_of h ≡ entries_text_of since ++ text)
+IsNoted scribe None cleared_at h = Unit {0}
+IsNoted scribe (Some text) cleared_at h = StandsFor scribe h × (entries_text_of h ≡ entries_text_of cleared_at ++ text)

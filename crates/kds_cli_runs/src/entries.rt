@@ -67,9 +67,10 @@ fn note_turn(
 ) -> Option<Octets>
     requires lawful { IsLawful turn.now }
     requires answered { (h : List Turn) × (StandsFor scribe.old h × (answer.now ≡ answer_after h turn.now)) }
-    ensures { (since h : List Turn) → StandsFor scribe.old h → entries_text_of h ≡ entries_text_of since ++ text
+    ensures { (cleared_at h : List Turn) → StandsFor scribe.old h → entries_text_of h ≡ entries_text_of cleared_at
+        ++ text
         → answer.now ≡ answer_after h turn.now
-        → IsNoted scribe.new result since (turn.now ∷ h) }
+        → IsNoted scribe.new result cleared_at (turn.now ∷ h) }
 {
     turn_by_turn();
     match scribe.note(alloc, turn, answer) {
@@ -91,10 +92,10 @@ fn note(
     answer: &Answer,
 ) -> Option<Octets>
     requires lawful { IsLawful turn.now }
-    requires answered { (since : List Turn)
-        × ((h : List Turn) × (IsNoted scribe.old text since h × (answer.now ≡ answer_after h turn.now))) }
-    ensures { (since h : List Turn) → IsNoted scribe.old text since h → answer.now ≡ answer_after h turn.now
-        → IsNoted scribe.new result since (turn.now ∷ h) }
+    requires answered { (cleared_at : List Turn)
+        × ((h : List Turn) × (IsNoted scribe.old text cleared_at h × (answer.now ≡ answer_after h turn.now))) }
+    ensures { (cleared_at h : List Turn) → IsNoted scribe.old text cleared_at h → answer.now ≡ answer_after h turn.now
+        → IsNoted scribe.new result cleared_at (turn.now ∷ h) }
 {
     match text {
         Some(text) => note_turn(alloc, scribe, text, turn, answer),
@@ -103,7 +104,7 @@ fn note(
 }
 
 impl Keep for Journal {
-    ghost keeps = { λ j since h. HaveBits h × IsNoted j.scribe j.text since h };
+    ghost keeps = { λ j cleared_at h. HaveBits h × IsNoted j.scribe j.text cleared_at h };
 
     ghost wanted = { false };
 

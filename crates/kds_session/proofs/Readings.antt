@@ -63,7 +63,8 @@ unfinished_begins laws bytes m (inr short) b =
     let s : size short.0 ≡ size m.head = ap size h in
     absurd (omega (arith, s, short.1.short, b.0.whole))
 
--- Bytes that have an ending (`Ends`) begin with no whole message.
+-- Bytes that can come after the last whole message of a connection (`Ends`: none, a beginning of a message, or refused
+-- bytes) don't begin with a whole message.
 pub ends_begins : HeadLaws → (bytes : List ℕ) (e : Ending) (m : Message) → Ends bytes e → Begins bytes m → ⊥
 ends_begins laws bytes boundary m e b = let some = some_size laws bytes m b in
     absurd (omega (arith, some, b.0.whole, ap length e))

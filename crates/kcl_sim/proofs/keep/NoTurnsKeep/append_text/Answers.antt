@@ -3,4 +3,4 @@ use Rattle.std.proofs.lemmas.List.{append-nil}
 use Rattle.kcl_sim.proofs.keep.NoTurnsKeep.append_text.Goals as goal
 
 pub returns-clause-ok : goal.returns-clause-ok
-returns-clause-ok c = λ since h kept. ([], refl, sym (append-nil c.args.to.now))
+returns-clause-ok c = λ cleared_at h kept. ([], refl, sym (append-nil c.args.to.now))

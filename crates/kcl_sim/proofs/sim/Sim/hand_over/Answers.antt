@@ -26,7 +26,7 @@ loop-alloc-preserved g c =
     c.loop-alloc.hand c.hand_round.new.hand
     c.loop-alloc.text c.hand_round.new.text c.loop-alloc.invariant
     c.in_ok-hand_round.ensures.made c.in_ok-hand_round.ensures.unfinished c.in_ok-hand_round.ensures.workers
-    c.in_ok-hand_round.ensures.since
+    c.in_ok-hand_round.ensures.cleared_at
     c.in_ok-hand_round.ensures.fewer
     c.in_ok-hand_round.ensures.none_due
 
@@ -37,8 +37,9 @@ returns-in_err-hand_round-clause-unfinished g c =
 pub returns-in_err-hand_round-clause-workers : goal.returns-in_err-hand_round-clause-workers
 returns-in_err-hand_round-clause-workers g c = c.in_err-hand_round.ensures.workers ∙ c.loop-alloc.invariant.workers
 
-pub returns-in_err-hand_round-clause-since : goal.returns-in_err-hand_round-clause-since
-returns-in_err-hand_round-clause-since g c = c.in_err-hand_round.ensures.since ∙ c.loop-alloc.invariant.since
+pub returns-in_err-hand_round-clause-cleared_at : goal.returns-in_err-hand_round-clause-cleared_at
+returns-in_err-hand_round-clause-cleared_at g c =
+    c.in_err-hand_round.ensures.cleared_at ∙ c.loop-alloc.invariant.cleared_at
 
 pub returns-in_err-hand_round-clause-breaks : goal.returns-in_err-hand_round-clause-breaks
 returns-in_err-hand_round-clause-breaks g c =
@@ -54,8 +55,8 @@ returns-in_err-say_left-clause-unfinished g c = c.loop-alloc.invariant.unfinishe
 pub returns-in_err-say_left-clause-workers : goal.returns-in_err-say_left-clause-workers
 returns-in_err-say_left-clause-workers g c = c.loop-alloc.invariant.workers
 
-pub returns-in_err-say_left-clause-since : goal.returns-in_err-say_left-clause-since
-returns-in_err-say_left-clause-since g c = c.loop-alloc.invariant.since
+pub returns-in_err-say_left-clause-cleared_at : goal.returns-in_err-say_left-clause-cleared_at
+returns-in_err-say_left-clause-cleared_at g c = c.loop-alloc.invariant.cleared_at
 
 pub returns-in_err-say_left-clause-breaks : goal.returns-in_err-say_left-clause-breaks
 returns-in_err-say_left-clause-breaks g c =
@@ -70,8 +71,8 @@ returns-clause-unfinished g c = c.loop-alloc.invariant.unfinished
 pub returns-clause-workers : goal.returns-clause-workers
 returns-clause-workers g c = c.loop-alloc.invariant.workers
 
-pub returns-clause-since : goal.returns-clause-since
-returns-clause-since g c = c.loop-alloc.invariant.since
+pub returns-clause-cleared_at : goal.returns-clause-cleared_at
+returns-clause-cleared_at g c = c.loop-alloc.invariant.cleared_at
 
 pub returns-clause-ran : goal.returns-clause-ran
 returns-clause-ran g c =

@@ -13,7 +13,7 @@ note-requires-clause-answered g c =
     (s.0, (s.1.0, (rw c.take-text.ensures.value s.1.1.1.1, rw c.in_ok-copy.ensures a.0)))
 
 pub returns-clause-added : goal.returns-clause-added
-returns-clause-added g c = λ since h stood kept.
+returns-clause-added g c = λ cleared_at h stood kept.
     let a = c.in_ok-answer.ensures.answered h stood in
-    let noted = c.note.ensures since h (rw c.take-text.ensures.value kept.1) (rw c.in_ok-copy.ensures a.0) in
+    let noted = c.note.ensures cleared_at h (rw c.take-text.ensures.value kept.1) (rw c.in_ok-copy.ensures a.0) in
     ((c.fits_types.ensures, kept.0), rw (sym c.in_ok-copy.ensures) noted)
