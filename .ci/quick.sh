@@ -37,14 +37,45 @@ mapfile -t -O "${#steps[@]}" steps < <(grep -v '^#' .ci/steps)
 [ -r .ci/steps ] || exit 1
 
 work=$(mktemp -d) || exit 1
-trap 'rm -rf "$work"' EXIT
+behind=
+trap '[ -z "$behind" ] || kill -- -"$behind" 2> /dev/null; rm -rf "$work"' EXIT
+
+# The clients wait for most of their time. So they run behind the other steps from the beginning, one after another, and
+# what each says is shown where it stands among the steps.
+is_behind() { [[ $1 = clients/* ]]; }
+run_behind() {
+    local at status
+    for at in "${!steps[@]}"; do
+        is_behind "${steps[at]}" || continue
+        (${steps[at]}) < /dev/null > "$work/$at.said" 2>&1
+        status=$?
+        echo "$status" > "$work/$at.status"
+    done
+}
+# In a process group of their own, which ends with this script.
+set -m
+run_behind &
+behind=$!
+set +m
+
+# The step's status, once it has ended. What it says goes to the output.
+ended_behind() { # AT
+    while [ ! -s "$work/$1.status" ] && kill -0 "$behind" 2> /dev/null; do sleep 1; done
+    cat "$work/$1.said"
+    [ -s "$work/$1.status" ] && return "$(cat "$work/$1.status")"
+}
+
 passed=0
 failed=0
 told=()
 for at in "${!steps[@]}"; do
     printf '== step %d of %d, %d left: %s\n' $((at + 1)) "${#steps[@]}" $((${#steps[@]} - at - 1)) "${steps[at]}"
-    # a command and its words
-    (${steps[at]}) < /dev/null 2>&1 | tee "$work/said"
+    if is_behind "${steps[at]}"; then
+        ended_behind "$at" | tee "$work/said"
+    else
+        # a command and its words
+        (${steps[at]}) < /dev/null 2>&1 | tee "$work/said"
+    fi
     status=${PIPESTATUS[0]}
     # A step counts its checks in its last such line. One that has none, or that fails with none that failed, is one check.
     good=0
