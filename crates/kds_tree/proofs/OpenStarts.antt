@@ -6,7 +6,7 @@ use Rattle.std.specs.Prelude.{◌≢◌, ◌⊎◌, ◌==◌, ◌&&◌, not, sli
 use Rattle.std.specs.List.{All, AllByRecursion, Contains, filter}
 use Rattle.std.specs.List.Sorted.{IsNonDecreasingBy, IsPermutation}
 use Rattle.std.proofs.lemmas.Bool.Decides.{nat_tests}
-use Rattle.std.proofs.lemmas.List.{append_assoc, length-append}
+use Rattle.std.proofs.lemmas.List.{length-append}
 use Rattle.std.proofs.lemmas.List.Elements.{All-append, All-filter, All-from_recursion, Contains-append_left}
 use Rattle.std.proofs.lemmas.List.Elements.{Contains-append_right, filter-append, filter_passes}
 use Rattle.std.proofs.lemmas.List.Sorted.{All-permutation, Contains-permutation, sum_by-IsPermutation}
@@ -281,26 +281,6 @@ reshaped xs closed born sh other closes numbers own ss more ts starts is same or
     (subst (λ (us : List OpenStart). AreOf us (closed ++ born)) (sym is)
     (changed xs closed born sh other closes numbers ss starts.of))
     (λ p. ap (λ us. length (filter p us)) is ∙ many_changed xs closed born sh other closes own ss starts p) same order
-
--- ---- How the code adds starts
-
--- If the code leaves the starts `front` as they are and adds a start that is equal to `b`, the starts are `front`
--- followed by `b`.
-pub one_more : (front mid more : List OpenStart) (a b : OpenStart) → mid ≡ front → more ≡ mid ++ a ∷ [] → a ≡ b
-    → more ≡ front ++ b ∷ []
-one_more front mid more a b is_mid is_more is =
-    is_more ∙ ap (λ us. us ++ a ∷ []) is_mid ∙ ap (λ (s : OpenStart). front ++ s ∷ []) is
-
--- If the code leaves the starts `front` as they are and adds two starts that are equal to `c` and `d`, the starts are
--- `front` followed by `c` and `d`.
-pub two_more : (front mid next more : List OpenStart) (a b c d : OpenStart) → mid ≡ front → next ≡ mid ++ a ∷ []
-    → more ≡ next ++ b ∷ [] → a ≡ c → b ≡ d → more ≡ front ++ c ∷ d ∷ []
-two_more front mid next more a b c d is_mid is_next is_more is_c is_d =
-    is_more
-    ∙ ap (λ us. us ++ b ∷ []) (is_next ∙ ap (λ us. us ++ a ∷ []) is_mid)
-    ∙ append_assoc front (a ∷ []) (b ∷ [])
-    ∙ ap (λ (s : OpenStart). front ++ s ∷ b ∷ []) is_c
-    ∙ ap (λ (s : OpenStart). front ++ c ∷ s ∷ []) is_d
 
 -- ---- Shards that are closed
 

@@ -21,7 +21,7 @@ use crate::family::{children_in, family_of, no_children, set_first_child};
 use crate::front::{ExpiredFront, is_expired_at, move_on, no_front, numbers_from, skipped_at};
 use crate::kept::KeptShard;
 use crate::listed_keys::{add_numbers, add_rest};
-use crate::start::{OpenStart, home_of, remove_starts, sort_starts};
+use crate::start::{OpenStart, home_of, join_starts, sort_starts, split_start};
 use kds_base::{Items, Memory, Moment, Range, Seq, ShardNo, ShardRef, StreamNo};
 use kds_defs::{Refusal, Shard};
 use std::alloc::Global;
@@ -266,10 +266,12 @@ impl ShardTree {
         self.first_children.reserve(2)?;
         self.shards.extend_from_slice(&[lower_child, upper_child])?;
         self.shards[shard.0 as usize].close(seq, clock);
-        remove_starts(&mut self.starts, shard, shard);
-        self.starts.push_reserved(lower_child.open_start());
-        self.starts.push_reserved(upper_child.open_start());
-        sort_starts(&mut self.starts);
+        split_start(
+            &mut self.starts,
+            shard,
+            lower_child.open_start(),
+            upper_child.open_start(),
+        );
         set_first_child(&mut self.first_children, shard, shard, low);
         self.first_children.push_reserved(None);
         self.first_children.push_reserved(None);
@@ -341,9 +343,7 @@ impl ShardTree {
         self.shards.push(born)?;
         self.shards[shard.0 as usize].close(seq, clock);
         self.shards[other.0 as usize].close(seq, clock);
-        remove_starts(&mut self.starts, shard, other);
-        self.starts.push_reserved(born.open_start());
-        sort_starts(&mut self.starts);
+        join_starts(&mut self.starts, shard, other, born.open_start());
         set_first_child(&mut self.first_children, shard, other, child);
         self.first_children.push_reserved(None);
         Ok(Ok(child))

@@ -1,5 +1,6 @@
 use Rattle.std.proofs.Common.{◌≡◌, ◌+◌, ◌++◌, ◌∷◌, [], List, Option, ℕ, length, refl, rules, subst, sym, ◌∙◌, ap}
 use Rattle.std.specs.List.{filter}
+use Rattle.std.specs.List.Sorted.{IsNonDecreasingBy}
 use Rattle.std.specs.Vec.{vec_len}
 use Rattle.kds_defs.specs.Shards.{ShardState, Closing}
 use Rattle.std.specs.Prelude.{slice_set}
@@ -7,9 +8,9 @@ use Rattle.kds_defs.specs.Streams.{floor_of}
 use Rattle.kds_tree.specs.Families.{AreFamilies}
 use Rattle.kds_tree.specs.Front.{AreLeft}
 use Rattle.kds_tree.specs.Starts.{AreStarts, own_start, stays}
+use Rattle.kds_tree.specs.declared.start.OpenStart.{OpenStart}
 use Rattle.kds_tree.specs.Tree.{IsTree, TreeValue}
 use Rattle.kds_tree.proofs.Families.{one_place}
-use Rattle.kds_tree.proofs.OpenStarts.{one_more}
 use Rattle.kds_tree.proofs.Reshards.{both_known, both_within, front_merge, merges, merge_value, refused_answer}
 use Rattle.kds_tree.proofs.Reshards.{refused_value}
 use Rattle.kds_tree.proofs.tree.ShardTree.merge.Goals as goal
@@ -30,10 +31,10 @@ invariant_of-self-2 c =
     let ss = c.self.inside.starts.items in
     let starts : AreStarts ss xs =
     subst (AreStarts ss) (ap (λ (t : TreeValue). t.shards) c.self.view_is) c.self.invariant.starts in
-    let away = one_more (filter (stays c.args.shard c.args.other) ss) c.remove_starts.new.starts.items
-    c.push_reserved.new.self.items c.open_start.result (own_start born)
-    (c.remove_starts.ensures.left ∙ ap (filter (stays c.args.shard c.args.other)) c.reserve.ensures.items)
-    c.push_reserved.ensures.items c.open_start.ensures in
+    let left = filter (stays c.args.shard c.args.other) in
+    let added = c.open_start.result ∷ [] in
+    let away : left c.reserve.new.self.items ++ added ≡ left ss ++ own_start born ∷ [] =
+    cc (ap left c.reserve.ensures.items, c.open_start.ensures) in
     let tree = subst IsTree (ap (λ (t : TreeValue). t.shards) c.self.view_is) c.self.invariant.tree in
     let firsts = c.self.inside.first_children.items in
     let families : AreFamilies firsts xs =
@@ -43,20 +44,28 @@ invariant_of-self-2 c =
     subst (AreLeft (floor_of c.self.inside.front.cut) 0 c.self.inside.front.count names)
     (ap (λ (t : TreeValue). t.shards) c.self.view_is) c.self.invariant.front in
     let places = one_place firsts c.reserve-2.new.self.items c.set_first_child.new.first_children.items
-    c.push_reserved-2.new.self.items c.args.shard c.args.other c.len.result _
-    c.reserve-2.ensures.items c.set_first_child.ensures.items c.len.ensures.value c.push_reserved-2.ensures.items in
+    c.push_reserved.new.self.items c.args.shard c.args.other c.len.result _
+    c.reserve-2.ensures.items c.set_first_child.ensures.items c.len.ensures.value c.push_reserved.ensures.items in
     let zs = slice_set (slice_set c.push.new.self.items c.shard.inside.0 c.close.new.self) c.other.inside.0
     c.close-2.new.self in
     record {
       tree = s.tree tree;
-      starts = s.starts tree ss c.push_reserved.new.self.items c.sort_starts.new.starts.items starts away
-          c.sort_starts.ensures.same c.sort_starts.ensures.order;
+      starts = s.starts tree ss (left c.reserve.new.self.items ++ added) c.join_starts.new.starts.items starts away
+          c.join_starts.ensures.same c.join_starts.ensures.order;
       families = subst (λ (fs : List (Option ℕ)). AreFamilies fs zs) (sym places) (s.families firsts families);
       front = front_merge xs c.push.new.self.items c.args.shard c.args.other c.shard.inside.0 c.other.inside.0
           (floor_of c.self.inside.front.cut) c.self.inside.front.count names c.in-Ok.range _ born c.close.new.self
           c.close-2.new.self
           c.in-Ok.ensures c.shard.view_is c.other.view_is pushed front;
     }
+
+pub join_starts-requires-clause-order : goal.join_starts-requires-clause-order
+join_starts-requires-clause-order c =
+    let starts : AreStarts c.self.inside.starts.items c.args.self.now.shards =
+    subst (AreStarts c.self.inside.starts.items) (ap (λ (t : TreeValue). t.shards) c.self.view_is)
+    c.self.invariant.starts in
+    subst (λ (ss : List OpenStart). IsNonDecreasingBy (λ (s : OpenStart). s.key) ss) (sym c.reserve.ensures.items)
+    starts.order
 
 pub set_first_child-requires-clause-shard : goal.set_first_child-requires-clause-shard
 set_first_child-requires-clause-shard c =

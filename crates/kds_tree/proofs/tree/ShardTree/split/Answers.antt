@@ -1,14 +1,15 @@
 use Rattle.std.proofs.Common.{◌≡◌, ◌+◌, ◌++◌, ◌∷◌, [], ◌<◌, List, Option, ℕ, length, subst, sym, ◌∙◌, ap, rules}
 use Rattle.std.specs.List.{filter}
+use Rattle.std.specs.List.Sorted.{IsNonDecreasingBy}
 use Rattle.kds_defs.specs.Shards.{ShardState, Closing}
 use Rattle.std.specs.Prelude.{slice_set}
 use Rattle.kds_defs.specs.Streams.{floor_of}
 use Rattle.kds_tree.specs.Families.{AreFamilies}
 use Rattle.kds_tree.specs.Front.{AreLeft}
 use Rattle.kds_tree.specs.Starts.{AreStarts, own_start, stays}
+use Rattle.kds_tree.specs.declared.start.OpenStart.{OpenStart}
 use Rattle.kds_tree.specs.Tree.{IsTree, TreeValue}
 use Rattle.kds_tree.proofs.Families.{two_places}
-use Rattle.kds_tree.proofs.OpenStarts.{two_more}
 use Rattle.kds_tree.proofs.Reshards.{front_split, refused_answer, refused_value, split_known, split_within, splits}
 use Rattle.kds_tree.proofs.Reshards.{split_value}
 use Rattle.kds_tree.proofs.tree.ShardTree.split.Goals as goal
@@ -29,12 +30,10 @@ invariant_of-self-2 c =
     let ss = c.self.inside.starts.items in
     let starts : AreStarts ss xs =
     subst (AreStarts ss) (ap (λ (t : TreeValue). t.shards) c.self.view_is) c.self.invariant.starts in
-    let away = two_more (filter (stays c.args.shard c.args.shard) ss) c.remove_starts.new.starts.items
-    c.push_reserved.new.self.items c.push_reserved-2.new.self.items c.open_start.result c.open_start-2.result
-    (own_start low)
-    (own_start high)
-    (c.remove_starts.ensures.left ∙ ap (filter (stays c.args.shard c.args.shard)) c.reserve.ensures.items)
-    c.push_reserved.ensures.items c.push_reserved-2.ensures.items c.open_start.ensures c.open_start-2.ensures in
+    let left = filter (stays c.args.shard c.args.shard) in
+    let added = c.open_start.result ∷ c.open_start-2.result ∷ [] in
+    let away : left c.reserve.new.self.items ++ added ≡ left ss ++ own_start low ∷ own_start high ∷ [] =
+    cc (ap left c.reserve.ensures.items, c.open_start.ensures, c.open_start-2.ensures) in
     let tree = subst IsTree (ap (λ (t : TreeValue). t.shards) c.self.view_is) c.self.invariant.tree in
     let firsts = c.self.inside.first_children.items in
     let families : AreFamilies firsts xs =
@@ -44,19 +43,27 @@ invariant_of-self-2 c =
     subst (AreLeft (floor_of c.self.inside.front.cut) 0 c.self.inside.front.count names)
     (ap (λ (t : TreeValue). t.shards) c.self.view_is) c.self.invariant.front in
     let places = two_places firsts c.reserve-2.new.self.items c.set_first_child.new.first_children.items
-    c.push_reserved-3.new.self.items c.push_reserved-4.new.self.items c.args.shard c.args.shard c.len.result _
-    c.reserve-2.ensures.items c.set_first_child.ensures.items c.len.ensures.value c.push_reserved-3.ensures.items
-    c.push_reserved-4.ensures.items in
+    c.push_reserved.new.self.items c.push_reserved-2.new.self.items c.args.shard c.args.shard c.len.result _
+    c.reserve-2.ensures.items c.set_first_child.ensures.items c.len.ensures.value c.push_reserved.ensures.items
+    c.push_reserved-2.ensures.items in
     let zs = slice_set c.extend_from_slice.new.self.items c.shard.inside.0 c.close.new.self in
     record {
       tree = s.tree tree;
-      starts = s.starts tree ss c.push_reserved-2.new.self.items c.sort_starts.new.starts.items starts away
-          c.sort_starts.ensures.same c.sort_starts.ensures.order;
+      starts = s.starts tree ss (left c.reserve.new.self.items ++ added) c.split_start.new.starts.items starts away
+          c.split_start.ensures.same c.split_start.ensures.order;
       families = subst (λ (fs : List (Option ℕ)). AreFamilies fs zs) (sym places) (s.families firsts families);
       front = front_split xs c.extend_from_slice.new.self.items c.args.shard c.shard.inside.0 c.args.at
           (floor_of c.self.inside.front.cut) c.self.inside.front.count names c.in-Ok.ranges low high c.close.new.self
           c.in-Ok.ensures c.shard.view_is pushed front;
     }
+
+pub split_start-requires-clause-order : goal.split_start-requires-clause-order
+split_start-requires-clause-order c =
+    let starts : AreStarts c.self.inside.starts.items c.args.self.now.shards =
+    subst (AreStarts c.self.inside.starts.items) (ap (λ (t : TreeValue). t.shards) c.self.view_is)
+    c.self.invariant.starts in
+    subst (λ (ss : List OpenStart). IsNonDecreasingBy (λ (s : OpenStart). s.key) ss) (sym c.reserve.ensures.items)
+    starts.order
 
 pub set_first_child-requires-clause-shard : goal.set_first_child-requires-clause-shard
 set_first_child-requires-clause-shard c =
