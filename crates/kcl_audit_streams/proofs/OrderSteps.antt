@@ -36,3 +36,31 @@ left_from sh floor position xs i point =
     let all : length (drop i xs) ≤ length xs - i = (let e = length-drop i xs in omega arith) in
     ap (left_in sh floor position) (take_all (length xs - i) (drop i xs) all)
     ∙ left_behind sh floor position xs i (λ k d low lt. ltb-true _ _ (point.0 k d (omega arith) low))
+
+-- ---- Arrivals
+
+-- A record that arrived before the floor isn't among those that are left. `b` says whether the record is one of `sh`.
+past_early : (sh floor position : ℕ) (x : Sized) (xs : List Sized) (b : Bool) → is_in sh x ≡ b → x.arrival < floor
+    → left_in sh floor position (x ∷ xs) ≡ left_in sh floor position xs
+past_early sh floor position x xs b e lt = grind (arith, nat_tests, e)
+
+-- If each of the first `i` records arrived before the floor, the records that are left are all among those from `i` on.
+early_behind : (sh floor position : ℕ) (xs : List Sized) (i : ℕ)
+    → ((k : ℕ) (d : Sized) → k < i → k < length xs → (get_or xs k d).arrival < floor)
+    → left_in sh floor position (drop i xs) ≡ left_in sh floor position xs
+early_behind sh floor position xs zero h = refl
+early_behind sh floor position [] (suc i) h = refl
+early_behind sh floor position (x ∷ xs) (suc i) h =
+    early_behind sh floor position xs i (λ k d low lt. h (suc k) d (omega arith) (omega arith))
+    ∙ sym (past_early sh floor position x xs (is_in sh x) refl (h 0 x (omega arith) (omega arith)))
+
+-- Let the records before the index `i`, and no others, have arrived before the floor. Then what is left of the records
+-- from `i` on is what is left of all records.
+pub left_since : (sh floor position : ℕ) (xs : List Sized) (i : ℕ)
+    → IsPartitionPoint (λ (y : Sized). nat_lt y.arrival floor ≡ true) (λ (y : Sized). nat_lt y.arrival floor ≡ false)
+    xs i
+    → left_in sh floor position (take (length xs - i) (drop i xs)) ≡ left_in sh floor position xs
+left_since sh floor position xs i point =
+    let all : length (drop i xs) ≤ length xs - i = (let e = length-drop i xs in omega arith) in
+    ap (left_in sh floor position) (take_all (length xs - i) (drop i xs) all)
+    ∙ early_behind sh floor position xs i (λ k d low lt. ltb-true _ _ (point.0 k d (omega arith) low))

@@ -42,6 +42,24 @@ pub fn from_position(records: &[Sized], position: u64) -> &[Sized]
     &records[start..]
 }
 
+/// Returns the tail of `records` that begins with the first record whose sequence number is at least `position` and
+/// that arrived at the moment `floor` or later. Precondition: `records` is sorted by sequence number and by arrival
+/// time.
+pub fn from_left(records: &[Sized], floor: u64, position: u64) -> &[Sized]
+    requires seqs { IsNonDecreasingBy (λ r. r.seq) records.now }
+    requires arrivals { IsNonDecreasingBy (λ r. r.arrival) records.now }
+    ensures { (shard : ℕ) → left_among floor position (records_in result.now shard)
+        ≡ left_among floor position (records_in records.now shard) }
+{
+    let below = records.partition_point(|item| item.seq.0 < position);
+    let before = records.partition_point(|item| item.arrival.ms() < floor);
+    if below < before {
+        &records[before..]
+    } else {
+        &records[below..]
+    }
+}
+
 /// Returns the tail of `records` that begins with the first record that arrived at the moment `least` or later.
 /// Precondition: `records` is sorted by arrival time.
 pub fn from_arrival(records: &[Sized], least: u64) -> &[Sized]

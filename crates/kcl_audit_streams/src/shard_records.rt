@@ -9,7 +9,7 @@ ghost use Rattle.kds_defs.specs.Records.{first_at, left_among};
 ghost use Rattle.kcl_audit_streams.specs.Standing.{puts_in, records_in};
 ghost use Rattle.kcl_audit_streams.specs.declared.records.Sized.{Sized};
 
-use crate::records::{Sized, from_arrival, is_throttled_by};
+use crate::records::{Sized, from_arrival, from_left, from_position, is_throttled_by};
 use kds_base::{Memory, Moment, ShardNo};
 use kds_defs::limits::SECOND;
 use std::alloc::Global;
@@ -89,6 +89,20 @@ impl ShardRecords {
             self.start = count;
         }
         Ok(())
+    }
+
+    /// Returns a tail of the records that has all of them whose sequence number is at least `position` and that arrived
+    /// at the moment `floor` or later. Precondition: the records are sorted by sequence number.
+    pub fn ahead(&self, floor: u64, position: u64) -> &[Sized]
+        requires { IsNonDecreasingBy (λ r. r.seq) self.now }
+        ensures { (shard : ℕ) → left_among floor position (records_in result.now shard)
+            ≡ left_among floor position (records_in self.now shard) }
+    {
+        if self.rising {
+            from_left(&self.items, floor, position)
+        } else {
+            from_position(&self.items, position)
+        }
     }
 
     /// Returns the records, or a tail of them, in which the shard's first record that arrived at or after both `floor`

@@ -281,14 +281,14 @@ impl ToldStream {
         ensures end { IfOk result (λ r. r.1 ≡ is_end_in self.now clock shard position r.0) }
     {
         let floor = self.floor(clock);
-        let ahead = self.records.ahead(shard, position);
+        let ahead = self.records.ahead(shard, floor, position);
         let numbers = batch(alloc, ahead, shard, floor, position, limit)?;
         let reach = position_after_numbers(position, numbers.as_slice());
         let closed = match self.tree.shard(shard) {
             Some(shown) => shown.end.is_some(),
             None => false,
         };
-        let end = closed && none_left(self.records.ahead(shard, reach), shard, floor, reach);
+        let end = closed && none_left(self.records.ahead(shard, floor, reach), shard, floor, reach);
         Ok((numbers, end))
     }
 

@@ -10,7 +10,7 @@ ghost use Rattle.kcl_audit_streams.specs.Apart.{records_at};
 ghost use Rattle.kcl_audit_streams.specs.Standing.{is_in, puts_in, records_in};
 
 use crate::puts::Puts;
-use crate::records::{Sized, from_position};
+use crate::records::Sized;
 use crate::shard_records::ShardRecords;
 use kds_base::{Memory, Moment, ShardNo};
 use std::alloc::Global;
@@ -67,16 +67,6 @@ impl Records {
         }
     }
 
-    /// Returns the records of `shard` in order.
-    fn of_shard(&self, shard: ShardNo) -> &[Sized]
-        ensures { result.now ≡ filter (is_in shard) self.now }
-    {
-        match records_of(&self.shards, shard) {
-            Some(records) => records.as_slice(),
-            None => &[],
-        }
-    }
-
     /// Adds `item` at the end. If memory runs out, the records are unchanged.
     pub fn push(&mut self, item: Sized) -> Result<(), Memory>
         ensures ok { OnOk result (self.new ≡ self.old ++ item ∷ []) }
@@ -88,14 +78,17 @@ impl Records {
         Ok(())
     }
 
-    /// Returns a tail of the records of `shard` that has all of them whose sequence number is at least `position`.
-    /// Precondition: the stream's records are sorted by sequence number.
-    pub fn ahead(&self, shard: ShardNo, position: u64) -> &[Sized]
+    /// Returns a tail of the records of `shard` that has all of them whose sequence number is at least `position` and
+    /// that arrived at the moment `floor` or later. Precondition: the stream's records are sorted by sequence number.
+    pub fn ahead(&self, shard: ShardNo, floor: u64, position: u64) -> &[Sized]
         requires { IsNonDecreasingBy (λ r. r.seq) self.now }
-        ensures { (floor : ℕ) → left_among floor position (records_in result.now shard)
+        ensures { left_among floor position (records_in result.now shard)
             ≡ left_among floor position (records_in self.now shard) }
     {
-        from_position(self.of_shard(shard), position)
+        match records_of(&self.shards, shard) {
+            Some(records) => records.ahead(floor, position),
+            None => &[],
+        }
     }
 
     /// Returns records of `shard` in which the first one that arrived at or after both `floor` and `moment` is the

@@ -9,7 +9,7 @@ position_after_numbers-reach-requires c =
     rw (
       c.as_slice.ensures,
       c.in_ok-numbers.ensures,
-      c.ahead-ahead.ensures c.floor-floor.result,
+      c.ahead-ahead.ensures,
     ) (batch_below (2 ^ 64 - 1) a.shard c.floor-floor.result a.position a.limit BATCH_BYTES
     c.self.inside.records c.self.invariant.1.0)
 
@@ -18,6 +18,6 @@ returns-clause-small c =
     let a = c.args in
     rw (
       c.in_ok-numbers.ensures,
-      c.ahead-ahead.ensures c.floor-floor.result,
+      c.ahead-ahead.ensures,
     ) (batch_below (2 ^ 64 - 1) a.shard c.floor-floor.result a.position a.limit BATCH_BYTES
     c.self.inside.records c.self.invariant.1.0)
