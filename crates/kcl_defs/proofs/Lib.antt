@@ -11,3 +11,4 @@ pub mod GiveLemmas
 pub mod RetiredLemmas
 pub mod GivenLemmas
 pub mod TenancyLemmas
+pub mod PlaceLemmas

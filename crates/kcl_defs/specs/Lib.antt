@@ -3,3 +3,4 @@ pub mod Consumers
 pub mod Lives
 pub mod Workers
 pub mod WorkerLives
+pub mod Places
