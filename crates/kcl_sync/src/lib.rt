@@ -2,52 +2,31 @@
 //! shards. A row is the item of a lease in the lease table. A shard is listed if ListShards returns it.
 #![tactic(auto)]
 
-ghost use Rattle.std.specs.Prelude.{◌≡◌, ◌++◌, ◌∷◌, [], is_some, IfOk, OnOk, OnErr};
-ghost use Rattle.std.specs.List.{position};
-ghost use Rattle.kds_defs.specs.Keys.{same_key};
-ghost use Rattle.kcl_defs.specs.Plans.{has_row, has_key, makes, cuts, sync_plan};
+ghost use Rattle.std.specs.Prelude.{◌≡◌, ◌++◌, ◌∷◌, [], is_some, map, true, IfOk, OnOk, OnErr};
+ghost use Rattle.kcl_defs.specs.Plans.{AreRising, cuts, has_key, has_row, keys_of, makes, sync_plan};
 
 pub use kcl_defs::SyncStep;
+use kcl_defs::{are_rising, index_of};
 use kds_base::{Items, Memory, ShardRef};
 use kds_defs::{Origin, Row};
 use std::alloc::Global;
 
-/// Returns the index of the first row in `rows` with the key `key`, or `None` if there is no such row.
-fn first_row(rows: &[Row], key: ShardRef) -> Option<usize>
-    ensures { result ≡ position (λ r. same_key r.key key) rows.now }
-{
-    rows.iter().position(|r| r.key == key)
-}
-
 /// Returns the index of a row in `rows` with the key `key`, or `None` if there is no such row. The row at the index
-/// `hint` is looked at first.
-#[tactic(auto, using(crate::proofs::Places::row_at))]
-fn row_index(rows: &[Row], key: ShardRef, hint: usize) -> Option<usize>
+/// `hint` is looked at first. If the keys rise, `rising` may say so.
+fn row_index(rows: &[Row], key: ShardRef, hint: usize, rising: bool) -> Option<usize>
+    requires { rising ≡ true → AreRising (keys_of rows.now) }
     ensures { is_some result ≡ has_row rows.now key }
 {
-    match rows.get(hint) {
-        Some(r) if r.key == key => Some(hint),
-        _ => first_row(rows, key),
-    }
-}
-
-/// Returns the index at which `key` first stands in the listed shards, or `None` if it isn't there.
-fn first_shard(shards: &[ShardRef], key: ShardRef) -> Option<usize>
-    ensures { result ≡ position (λ k. same_key k key) shards.now }
-{
-    shards.iter().position(|k| *k == key)
+    index_of(rows, &key, hint, rising)
 }
 
 /// Returns an index at which `key` stands in the listed shards, or `None` if it isn't there. The shard at the index
-/// `hint` is looked at first.
-#[tactic(auto, using(crate::proofs::Places::shard_at))]
-fn shard_index(shards: &[ShardRef], key: ShardRef, hint: usize) -> Option<usize>
+/// `hint` is looked at first. If the keys rise, `rising` may say so.
+fn shard_index(shards: &[ShardRef], key: ShardRef, hint: usize, rising: bool) -> Option<usize>
+    requires { rising ≡ true → AreRising (map (λ k. k) shards.now) }
     ensures { is_some result ≡ has_key shards.now key }
 {
-    match shards.get(hint) {
-        Some(k) if *k == key => Some(hint),
-        _ => first_shard(shards, key),
-    }
+    index_of(shards, &key, hint, rising)
 }
 
 /// The steps of the plan so far, and the origin at which the new rows begin.
@@ -79,9 +58,10 @@ impl Steps {
 fn add_makes(steps: &mut Steps, shards: &[ShardRef], rows: &[Row]) -> Result<(), Memory>
     ensures { OnOk result (steps.new.all ≡ steps.old.all ++ makes steps.old.from rows.now shards.now) }
 {
+    let rising = are_rising(rows);
     let mut next = 0;
     for key in shards {
-        match row_index(rows, *key, next) {
+        match row_index(rows, *key, next, rising) {
             Some(index) => next = index.wrapping_add(1),
             None => steps.add_make(*key)?,
         }
@@ -94,9 +74,10 @@ fn add_makes(steps: &mut Steps, shards: &[ShardRef], rows: &[Row]) -> Result<(),
 fn add_cuts(steps: &mut Steps, shards: &[ShardRef], rows: &[Row]) -> Result<(), Memory>
     ensures { OnOk result (steps.new.all ≡ steps.old.all ++ cuts shards.now rows.now) }
 {
+    let rising = are_rising(shards);
     let mut next = 0;
     for r in rows {
-        match shard_index(shards, r.key, next) {
+        match shard_index(shards, r.key, next, rising) {
             Some(index) => next = index.wrapping_add(1),
             None => steps.add_cut(r)?,
         }

@@ -1,6 +1,0 @@
-use Rattle.std.proofs.Common.{is_some, ap, ◌∙◌}
-use Rattle.kcl_sync.proofs.Places.{shard_anywhere}
-use Rattle.kcl_sync.proofs.shard_index.Goals as goal
-
-pub returns-in_default : goal.returns-in_default
-returns-in_default c = ap is_some c.first_shard.ensures ∙ shard_anywhere c.args.key c.args.shards.now
