@@ -1,19 +1,22 @@
 //! Chooses the leases that a worker takes. A row is the item of a lease in the lease table, and names the lease's
 //! owner, if any. A tenure is one worker's hold on a lease; each tenure has a number. A take plan is a list of steps.
 //! Each step takes one lease.
-ghost use Rattle.std.specs.Prelude.{◌≡◌, ◌+◌, ◌/◌, ◌==◌, [], is_some, length, map, not, IfOk, OnOk};
+ghost use Rattle.std.specs.Prelude.{◌≡◌, ℕ, ◌+◌, ◌/◌, [], is_some, length, map, not, slice_get, true, IfOk, OnOk};
 ghost use Rattle.std.specs.List.{cons_option, count_by, filter, list_any, position};
 ghost use Rattle.kds_defs.specs.Leases.{is_end};
-ghost use Rattle.kcl_defs.specs.Plans.{busier, busiest, candidate, candidates, chosen, expiry, first_step};
+ghost use Rattle.kcl_defs.specs.Places.{passes};
+ghost use Rattle.kcl_defs.specs.Plans.{AreRising, busier, busiest, candidate, candidates, chosen, expiry, first_step};
 ghost use Rattle.kcl_defs.specs.Plans.{is_available, is_key_held, is_mine, is_owned_by, is_held_at, load_of, loads};
 ghost use Rattle.kcl_defs.specs.Plans.{others, seen_at, stolen, take_among, take_plan, take_step, target_of};
 ghost use Rattle.kcl_defs.specs.Plans.{with_owner, with_worker};
+ghost use Rattle.kcl_take.specs.Loads.{AreKnown, load_in};
 
 use crate::observed::Observed;
-use kcl_defs::{Held, TakeStep};
+use kcl_defs::{Held, TakeStep, are_rising, index_of, insertion_index};
 use kds_base::{Checkpoint, Items, Memory, Moment, WorkerNo};
 use kds_defs::Row;
 use std::alloc::Global;
+use std::collections::{BTreeMap, BTreeSet};
 
 /// Returns the row as the take plan uses it: a copy, without an owner if the row's lease has expired.
 fn candidate(r: &Row, observed: &Observed, now: Moment, failover: u64) -> Row
@@ -80,32 +83,64 @@ fn first_mine(held: &[Held], r: &Row) -> Option<usize>
     held.iter().position(|h| is_held_at(h, r))
 }
 
-/// Returns the index of one of the worker's leases `held` that has the key and the tenure number of the row, or `None`
-/// if there is no such lease. The lease at the index `hint` is looked at first.
-#[tactic(auto, using(crate::proofs::Places::mine_at, crate::proofs::Places::mine_anywhere))]
-fn mine_index(held: &[Held], r: &Row, hint: usize) -> Option<usize>
-    ensures { is_some result ≡ is_mine held.now r.now }
+/// Whether the lease at the index `index` of `held` has the key and the tenure number of the row.
+fn is_mine_at(held: &[Held], index: usize, r: &Row) -> bool
+    ensures { result ≡ passes (is_held_at r.now) (slice_get held.now index) }
 {
-    match held.get(hint) {
-        Some(h) if is_held_at(h, r) => Some(hint),
-        _ => first_mine(held, r),
+    match held.get(index) {
+        Some(h) => is_held_at(h, r),
+        None => false,
     }
 }
 
-/// Whether one of the worker's leases `held` has the key of the row. The tenure numbers may differ.
-fn is_key_held(held: &[Held], r: &Row) -> bool
+/// Returns the index of the lease in `held` that has the key and the tenure number of the row, by binary search, or
+/// `None` if there is no such lease. The keys of the leases must rise.
+fn search_mine(held: &[Held], r: &Row) -> Option<usize>
+    requires { AreRising (map (λ h. h.key) held.now) }
+    ensures { is_some result ≡ is_mine held.now r.now }
+{
+    let index = insertion_index(held, &r.key);
+    if is_mine_at(held, index, r) {
+        Some(index)
+    } else {
+        None
+    }
+}
+
+/// Returns the index of one of the worker's leases `held` that has the key and the tenure number of the row, or `None`
+/// if there is no such lease. The lease at the index `hint` is looked at first. If the keys of the leases rise,
+/// `rising` may say so; the lease is then found by binary search.
+fn mine_index(held: &[Held], r: &Row, hint: usize, rising: bool) -> Option<usize>
+    requires { rising ≡ true → AreRising (map (λ h. h.key) held.now) }
+    ensures { is_some result ≡ is_mine held.now r.now }
+{
+    if is_mine_at(held, hint, r) {
+        Some(hint)
+    } else if rising {
+        search_mine(held, r)
+    } else {
+        first_mine(held, r)
+    }
+}
+
+/// Whether one of the worker's leases `held` has the key of the row. The tenure numbers may differ. If the keys of the
+/// leases rise, `rising` may say so.
+fn is_key_held(held: &[Held], r: &Row, rising: bool) -> bool
+    requires { rising ≡ true → AreRising (map (λ h. h.key) held.now) }
     ensures { result ≡ list_any (is_key_held r.now) held.now }
 {
-    held.iter().any(|h| h.key == r.key)
+    index_of(held, &r.key, 0, rising).is_some()
 }
 
 /// Whether the worker `me` can take the lease of the row without stealing it. None of the worker's leases `held` may
-/// have the row's key, and the row must have no owner or the owner `me`.
+/// have the row's key, and the row must have no owner or the owner `me`. If the keys of the leases rise, `rising` may
+/// say so.
 #[tactic(auto, using(crate::proofs::Places::both_ways))]
-fn is_available(me: WorkerNo, held: &[Held], r: &Row) -> bool
+fn is_available(me: WorkerNo, held: &[Held], r: &Row, rising: bool) -> bool
+    requires { rising ≡ true → AreRising (map (λ h. h.key) held.now) }
     ensures { result ≡ is_available me held.now r.now }
 {
-    (r.owner.is_none() || is_owned_by(me, r)) && !is_key_held(held, r)
+    (r.owner.is_none() || is_owned_by(me, r)) && !is_key_held(held, r, rising)
 }
 
 /// Counts the rows that `worker` owns.
@@ -120,10 +155,11 @@ fn load_of(rows: &[Row], worker: WorkerNo) -> usize
 fn count_mine(rows: &[Row], held: &[Held]) -> usize
     ensures { result ≡ count_by (is_mine held.now) rows.now }
 {
+    let rising = are_rising(held);
     let mut next = 0;
     let mut count = 0;
     for r in rows {
-        if let Some(index) = mine_index(held, r, next) {
+        if let Some(index) = mine_index(held, r, next, rising) {
             next = index.wrapping_add(1);
             count += 1;
         }
@@ -131,29 +167,37 @@ fn count_mine(rows: &[Row], held: &[Held]) -> usize
     count
 }
 
-/// Whether `worker` is in the list `workers`.
-fn is_among(workers: &[WorkerNo], worker: WorkerNo) -> bool
-    ensures { result ≡ list_any (λ w. w == worker) workers.now }
+/// Adds `worker` to the list `workers`, unless the list has it already. The numbers of the workers in the list are
+/// those in `known`.
+fn add_worker(
+    workers: &mut Vec<WorkerNo>,
+    known: &mut BTreeSet<u32>,
+    worker: WorkerNo,
+) -> Result<(), Memory>
+    requires { AreKnown known.old workers.old.items }
+    ensures workers { OnOk result (workers.new.items ≡ with_worker worker workers.old.items) }
+    ensures known { OnOk result (AreKnown known.new workers.new.items) }
 {
-    workers.iter().any(|w| *w == worker)
-}
-
-/// Adds `worker` to the list `workers`, unless the list has it already.
-fn add_worker(workers: &mut Vec<WorkerNo>, worker: WorkerNo) -> Result<(), Memory>
-    ensures { OnOk result (workers.new.items ≡ with_worker worker workers.old.items) }
-{
-    if !is_among(workers.as_slice(), worker) {
+    if known.insert(worker.0)? {
         workers.push(worker)?;
     }
     Ok(())
 }
 
-/// Adds the row's owner, if any, to the list `workers`, unless the owner is `me` or is already in the list.
-fn add_owner(workers: &mut Vec<WorkerNo>, me: WorkerNo, r: &Row) -> Result<(), Memory>
-    ensures { OnOk result (workers.new.items ≡ with_owner me r.now.owner workers.old.items) }
+/// Adds the row's owner, if any, to the list `workers`, unless the owner is `me` or is already in the list. The numbers
+/// of the workers in the list are those in `known`.
+fn add_owner(
+    workers: &mut Vec<WorkerNo>,
+    known: &mut BTreeSet<u32>,
+    me: WorkerNo,
+    r: &Row,
+) -> Result<(), Memory>
+    requires { AreKnown known.old workers.old.items }
+    ensures workers { OnOk result (workers.new.items ≡ with_owner me r.now.owner workers.old.items) }
+    ensures known { OnOk result (AreKnown known.new workers.new.items) }
 {
     match r.owner {
-        Some(owner) if owner != me => add_worker(workers, owner),
+        Some(owner) if owner != me => add_worker(workers, known, owner),
         _ => Ok(()),
     }
 }
@@ -163,24 +207,52 @@ fn others(alloc: Global, me: WorkerNo, rows: &[Row]) -> Result<Vec<WorkerNo>, Me
     ensures { IfOk result (λ w. w.items ≡ others me rows.now) }
 {
     let mut workers = Vec::new(alloc);
+    let mut known = BTreeSet::new(alloc);
     let mut i = rows.len();
     while i > 0 {
         i -= 1;
-        add_owner(&mut workers, me, &rows[i])?;
+        add_owner(&mut workers, &mut known, me, &rows[i])?;
     }
     Ok(workers)
 }
 
-/// Returns whichever of `worker` and `other` owns more rows. If both own equally many, returns the worker with the
-/// lower worker number. If `other` is `None`, returns `worker`.
-fn busier(rows: &[Row], worker: WorkerNo, other: Option<WorkerNo>) -> WorkerNo
-    ensures { result ≡ busier (load_of rows.now) worker other }
+/// The number of rows that each worker owns. A worker that owns none may be left out.
+type Loads = BTreeMap<u32, usize>;
+
+/// Returns the number of rows that each worker owns.
+fn loads(alloc: Global, rows: &[Row]) -> Result<Loads, Memory>
+    ensures { IfOk result (λ loads. (worker : ℕ) → load_in loads worker ≡ load_of rows.now worker) }
+{
+    let mut loads = BTreeMap::new(alloc);
+    for r in rows {
+        if let Some(owner) = r.owner {
+            let load = load_in(&loads, owner);
+            loads.insert(owner.0, load + 1)?;
+        }
+    }
+    Ok(loads)
+}
+
+/// Returns the number of rows that `worker` owns according to `loads`.
+fn load_in(loads: &Loads, worker: WorkerNo) -> usize
+    ensures { result ≡ load_in loads.now worker }
+{
+    match loads.get(&worker.0) {
+        Some(load) => *load,
+        None => 0,
+    }
+}
+
+/// Returns whichever of `worker` and `other` owns more rows according to `loads`. If both own equally many, returns the
+/// worker with the lower worker number. If `other` is `None`, returns `worker`.
+fn busier(loads: &Loads, worker: WorkerNo, other: Option<WorkerNo>) -> WorkerNo
+    ensures { result ≡ busier (load_in loads.now) worker other }
 {
     match other {
         None => worker,
         Some(other) => {
-            let load = load_of(rows, worker);
-            let least = load_of(rows, other);
+            let load = load_in(loads, worker);
+            let least = load_in(loads, other);
             if least < load || (least == load && worker.0 < other.0) {
                 worker
             } else {
@@ -190,18 +262,27 @@ fn busier(rows: &[Row], worker: WorkerNo, other: Option<WorkerNo>) -> WorkerNo
     }
 }
 
-/// Returns the worker in `workers` that owns the most rows, or `None` if the list is empty. Among workers that own
-/// equally many rows, it is the worker with the lowest worker number.
-fn busiest(rows: &[Row], workers: &[WorkerNo]) -> Option<WorkerNo>
-    ensures { result ≡ busiest (load_of rows.now) workers.now }
+/// Returns the worker in `workers` that owns the most rows according to `loads`, or `None` if the list is empty. Among
+/// workers that own equally many rows, it is the worker with the lowest worker number.
+fn busiest(loads: &Loads, workers: &[WorkerNo]) -> Option<WorkerNo>
+    ensures { result ≡ busiest (load_in loads.now) workers.now }
 {
     let mut best = None;
     let mut i = workers.len();
     while i > 0 {
         i -= 1;
-        best = Some(busier(rows, workers[i], best));
+        best = Some(busier(loads, workers[i], best));
     }
     best
+}
+
+/// Returns the worker in `workers` that owns the most of `rows`, or `None` if the list is empty. Among workers that own
+/// equally many rows, it is the worker with the lowest worker number.
+fn busiest_of(alloc: Global, rows: &[Row], workers: &[WorkerNo]) -> Result<Option<WorkerNo>, Memory>
+    ensures { IfOk result (λ worker. worker ≡ busiest (load_of rows.now) workers.now) }
+{
+    let loads = loads(alloc, rows)?;
+    Ok(busiest(&loads, workers))
 }
 
 fn take_step(r: &Row) -> TakeStep
@@ -217,9 +298,10 @@ fn take_step(r: &Row) -> TakeStep
 fn available(alloc: Global, me: WorkerNo, held: &[Held], rows: &[Row]) -> Result<Vec<Row>, Memory>
     ensures { IfOk result (λ found. found.items ≡ filter (is_available me held.now) rows.now) }
 {
+    let rising = are_rising(held);
     let mut found = Vec::new(alloc);
     for r in rows {
-        if is_available(me, held, r) {
+        if is_available(me, held, r, rising) {
             found.push(*r)?;
         }
     }
@@ -297,10 +379,8 @@ fn chosen(
 {
     let mut free = available(alloc, me, held, rows)?;
     if free.is_empty() {
-        return step_if(
-            alloc,
-            stolen(rows, share(rows, workers), busiest(rows, workers)),
-        );
+        let worker = busiest_of(alloc, rows, workers)?;
+        return step_if(alloc, stolen(rows, share(rows, workers), worker));
     }
     free.truncate(room);
     steps_of(alloc, free.as_slice())
