@@ -8,8 +8,8 @@ ghost use Rattle.kcl_defs.specs.Workers.{still_stands};
 ghost use Rattle.kcl_worker_lists.specs.Planning.{IsPlanned, IsPlannedAfter, lost_of, is_among};
 
 use crate::leases::{id_of_held, same_id};
-use crate::search::{are_rising, row_of};
-use kcl_defs::{Held, SyncStep, TakeStep, TenancyId, WorkerMade};
+use crate::search::row_of;
+use kcl_defs::{Held, SyncStep, TakeStep, TenancyId, WorkerMade, are_rising};
 use kcl_take::Observed;
 use kds_base::{Items, Memory, Moment, ShardRef};
 use kds_defs::{Answer, Reply, Row};

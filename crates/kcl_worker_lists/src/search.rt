@@ -1,47 +1,12 @@
-//! Finds the row of a key among the rows of a survey. A survey lists the rows in the order of their keys. Whether it
-//! did is looked at once, so that no caller has to know it.
-ghost use Rattle.std.specs.Prelude.{◌≡◌, ◌≤◌, length, slice_get, true};
+//! Finds the row of a key among the rows of a survey. A survey lists the rows in the order of their keys.
+ghost use Rattle.std.specs.Prelude.{◌≡◌, slice_get, true};
 ghost use Rattle.std.specs.Option.{option_map};
 ghost use Rattle.kcl_defs.specs.Plans.{AreRising, keys_of, row_of};
-ghost use Rattle.kcl_worker_lists.specs.Indexes.{before_next, if_key, insertion_index};
+ghost use Rattle.kcl_worker_lists.specs.Indexes.{if_key};
 
+use kcl_defs::insertion_index;
 use kds_base::ShardRef;
-use kds_defs::{Row, is_before};
-
-/// Whether `key` comes before the key of the row at the index `next`, if there is one.
-fn before_next(key: &ShardRef, rows: &[Row], next: usize) -> bool
-    ensures { result ≡ before_next key.now (slice_get rows.now next) }
-{
-    match rows.get(next) {
-        Some(r) => is_before(key, &r.key),
-        None => true,
-    }
-}
-
-/// Whether each row's key comes before that of the next row.
-pub fn are_rising(rows: &[Row]) -> bool
-    ensures { result ≡ true → AreRising (keys_of rows.now) }
-{
-    let mut i = rows.len();
-    while i > 0 {
-        i -= 1;
-        let r = &rows[i];
-        if !before_next(&r.key, rows, i + 1) {
-            return false;
-        }
-    }
-    true
-}
-
-/// Returns the number of rows whose keys come before `key`. This is the index at which the row with the key `key`
-/// stands, if there is one.
-fn insertion_index(rows: &[Row], key: &ShardRef) -> usize
-    requires { AreRising (keys_of rows.now) }
-    ensures value { result ≡ insertion_index key.now rows.now }
-    ensures within { result ≤ length rows.now }
-{
-    rows.partition_point(|row| is_before(&row.key, key))
-}
+use kds_defs::Row;
 
 /// Returns the row at the index `index` if the row's key is `key`, and otherwise `None`.
 fn row_at<'a>(rows: &'a [Row], index: usize, key: &ShardRef) -> Option<&'a Row>
