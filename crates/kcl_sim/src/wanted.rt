@@ -18,10 +18,11 @@ use kcl_script_fields::print_command;
 use kds_base::{Memory, Octets};
 use kds_defs::{Answer, Command};
 use kds_json_members::Fault;
-use kds_reply::reply;
+use kds_reply::add_reply;
 use std::alloc::Global;
 
-/// Adds a line with the status and the body of the reply to a request. If memory runs out, nothing is added.
+/// Adds a line with the status and the body of the reply to a request. The body is made in the buffer `line`, which
+/// keeps its memory from reply to reply. If memory runs out, nothing is added.
 fn print_reply(
     alloc: Global,
     answer: &Answer,
@@ -31,8 +32,11 @@ fn print_reply(
     requires { is_service_answer answer.now ≡ true }
     ensures { AddsWhole result to.old to.new (printed (reply_of answer.now)) }
 {
-    let (status, body) = reply(alloc, answer)?;
-    print(alloc, status, body.as_slice(), line, to)
+    line.clear();
+    let mut body = line.take_vec()?;
+    let status = add_reply(alloc, answer, &mut body);
+    *line = Octets::unshared(body);
+    print(alloc, status?, line.as_slice(), &mut Octets::new(alloc), to)
 }
 
 /// Adds a line with the status and the body of the reply to a request, if `K` wants answers. If memory runs out,
