@@ -569,6 +569,7 @@ def counts():
 CLAIMS = [
     ('README.md', r'(\d+) of the (\d+) crates', ('program', 'crates')),
     ('README.md', r'(\d+) wrong bodies', ('bodies',)),
+    ('README.md', r'the gate tries (\d+) of them', ('edits',)),
     ('docs/proved.md', r'has (\d+) small edits in (\d+) crates', ('edits', 'edited')),
     ('docs/proved.md', r'A crate has (\d+) to (\d+)\.', ('least', 'most')),
     ('docs/gate.md', r'there are (\d+) crates and (\d+) edits', ('crates', 'edits')),

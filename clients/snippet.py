@@ -1,5 +1,6 @@
-"""The blocks of README.md and docs/clients.md that people copy, run as they stand there except for the port: the first block of README, with each AWS CLI, and its boto3 program,
-the script for CI with and without `bash -e`, the fixture of pytest, and the Python that sends a file of requests and turns a stream's limits on."""
+"""The blocks of README.md and docs/clients.md that people copy, run as they stand there except for the port: README's
+first commands, in a fresh copy and with each AWS CLI, and its boto3 program, the script for CI with and without
+`bash -e`, the fixture of pytest, and the Python that sends a file of requests and turns a stream's limits on."""
 import importlib.util
 import json
 import os
@@ -94,6 +95,45 @@ class Script(unittest.TestCase):
         self.assertIn(wanted, (self.room / 'script').read_text().splitlines())
 
 
+class FirstCommands(unittest.TestCase):
+    """README's first two blocks, pasted line by line into a fresh copy of the repository, with nothing between the lines.
+    A kept build of these sources saves the minutes of the first one. The tests, of which this is one, are a stub."""
+
+    TESTS = 'all but the proofs'
+
+    def setUp(self):
+        if shutil.which('aws') is None:
+            self.skipTest('there is no AWS CLI on this machine')
+        room = pathlib.Path(tempfile.mkdtemp())
+        self.addCleanup(shutil.rmtree, room)
+        self.clone = room / 'kds'
+        shutil.copytree(ROOT, self.clone, ignore=shutil.ignore_patterns('.git', 'out', '__pycache__'), symlinks=True)
+        for kept in ('out/quick', 'crates/kds_cli/out'):
+            if (ROOT / kept).is_dir():
+                shutil.copytree(ROOT / kept, self.clone / kept)
+        (self.clone / '.ci/quick.sh').write_text(f'echo {self.TESTS}\n')
+        self.given = {name: value for name, value in os.environ.items() if name != 'KDS'}
+        said = subprocess.run(['./kds', '--version'], cwd=self.clone, env=self.given, stdout=subprocess.PIPE, text=True, check=True)
+        if 'once that is built' in said.stdout:
+            self.skipTest('no build of these sources is kept')
+
+    def test_they_run_as_they_stand(self):
+        """With each AWS CLI of this machine: version 1, and that of a distribution."""
+        for version, aws in versions('aws').items():
+            with self.subTest(version=version):
+                self.paste(f'{pathlib.Path(aws).parent}:{os.environ["PATH"]}')
+
+    def paste(self, path):
+        server = block('README.md', '$ ./kds serve').replace(PORT, str(free_port())).splitlines()
+        shown = [line for line in server if not line.startswith('$ ')]
+        lines = block('README.md', './kds replay').splitlines() + [line[2:] for line in server if line.startswith('$ ')]
+        pasted = '\n'.join([*lines, 'kill %1; wait %1', ''])
+        done = subprocess.run(['bash'], input=pasted, cwd=self.clone, env=self.given | {'PATH': path},
+                              capture_output=True, text=True, timeout=60, check=False)
+        wanted = (ROOT / 'examples/first.out').read_text().splitlines() + [self.TESTS] + shown
+        self.assertEqual((143, wanted), (done.returncode, done.stdout.splitlines()), done.stderr)
+
+
 class Blocks(unittest.TestCase):
     """The other ones."""
 
@@ -106,23 +146,6 @@ class Blocks(unittest.TestCase):
         head = {'X-Amz-Target': f'Kinesis_20131202.{operation}', 'Content-Type': JSON}
         with urllib.request.urlopen(urllib.request.Request(server.endpoint + '/', json.dumps(body).encode(), head)) as answer:
             return json.loads(answer.read() or b'{}')
-
-    @unittest.skipIf(shutil.which('aws') is None, 'there is no AWS CLI on this machine')
-    def test_the_first_block_of_readme(self):
-        """With each AWS CLI of this machine: version 1, and that of a distribution."""
-        for version, aws in versions('aws').items():
-            with self.subTest(version=version):
-                self.run_first_block(f'{pathlib.Path(aws).parent}:{os.environ["PATH"]}')
-
-    def run_first_block(self, path):
-        port, text = free_port(), block('README.md', '$ ./kds serve')
-        commands, shown = [], []
-        for line in text.replace(PORT, str(port)).splitlines():
-            (commands if line.startswith('$ ') else shown).append(line.removeprefix('$ '))
-        ready = f'until (exec 3<> /dev/tcp/127.0.0.1/{port}) 2> /dev/null; do sleep 0.05; done'
-        script = '\n'.join([commands[0], ready, *commands[1:], 'kill %1; wait %1'])
-        done = subprocess.run(['bash', '-c', script], cwd=ROOT, env=os.environ | {'PATH': path}, capture_output=True, text=True, timeout=60, check=False)
-        self.assertEqual((143, shown), (done.returncode, done.stdout.splitlines()), done.stderr)
 
     @unittest.skipIf(importlib.util.find_spec('boto3') is None, 'there is no boto3 on this machine')
     def test_the_boto3_program_of_readme(self):
