@@ -23,29 +23,32 @@ EDITS = {
 }
 UNDO = 'git checkout crates'
 RATE, LOGS, WRONG = './dev check kds_rate', './dev check kds_stream_logs', './dev edits kds_rate'
-# What is changed and how the page says it; the edits, and whether those before are undone first; the command; what the
-# page says that it takes; and what it must print: the function that isn't proved, or how many wrong bodies are refused.
-Row = collections.namedtuple('Row', 'what edits undone command how result refused', defaults=(None,))
+# What is changed and how the page says it; the edits, and whether those before are undone first; the command; what comes;
+# what it took in a whole run of a fresh clone, and again on a busy machine that had checked all crates before; and what
+# it must print: the function that isn't proved, or how many wrong bodies are refused.
+Row = collections.namedtuple('Row', 'what edits undone command how result first again refused', defaults=(None,))
 ROWS = (
-    Row('Nothing is changed.', '', True, RATE, f'`{RATE}`', 'proved, 12 s'),
+    Row('Nothing is changed.', '', True, RATE, f'`{RATE}`', 'proved', '138 s', '12 s'),
     Row("The bytes of a record don't count: `admits` calls `is_too_much` with 0 bytes.", 'A', True, RATE,
-        'A, then the same command', 'not proved, `Window::admits`, 26 s', 'Window::admits'),
+        'A, then the same command', 'not proved, `Window::admits`', '11 s', '26 s', 'Window::admits'),
     Row('The records of the previous second still count.', 'B', True, RATE,
-        'B, then the same command', 'not proved, `Window::taken`, 30 s', 'Window::taken'),
+        'B, then the same command', 'not proved, `Window::taken`', '7 s', '30 s', 'Window::taken'),
     Row('`admits` is edited as in the second row, and the `ensures` clause of its contract is deleted too.', 'AC', True,
-        RATE, 'A and C, then the same command', '**proved**, 23 s: without this clause, nothing refuses the wrong body'),
+        RATE, 'A and C, then the same command', '**proved**: without this clause, nothing refuses the wrong body',
+        '7 s', '23 s'),
     Row('After these two edits, the crate that calls `kds_rate` is checked.', '', False, LOGS, f'then `{LOGS}`',
-        'not proved, `windows::admits_at`, 45 s: the weakened contract makes the proof of a caller fail', 'windows::admits_at'),
+        'not proved, `windows::admits_at`: the weakened contract makes the proof of a caller fail',
+        '272 s', '45 s', 'windows::admits_at'),
     Row('The wrong bodies that are stored with `kds_rate` are tried.', '', True, WRONG, f'`{WRONG}`',
-        'all 7 refused, 2.5 minutes', 7),
+        'all 7 refused', '55 s', '150 s', 7),
 )
 
 
 def page():
     """The table, and the edits below it."""
-    yield from ('| What | Command | Result |', '|---|---|---|')
+    yield from ('| What | Command | Result | First | Again |', '|---|---|---|---|---|')
     for row in ROWS:
-        yield f'| {row.what} | {row.how} | {row.result} |'
+        yield f'| {row.what} | {row.how} | {row.result} | {row.first} | {row.again} |'
     yield ''
     commands = [(EDITS[letter], letter) for letter in EDITS] + [(UNDO, 'between two rows, but for the fifth')]
     width = max(len(command) for command, _ in commands) + 2
@@ -67,6 +70,17 @@ def holds(row, status, printed):
 def run(room, command):
     return subprocess.run(['bash', '-c', command], cwd=room, stdin=subprocess.DEVNULL, stdout=subprocess.PIPE,
                           stderr=subprocess.STDOUT, text=True, errors='replace', check=False)
+
+
+def run_shown(room, command):
+    """The same, with its lines as they come."""
+    child = subprocess.Popen(['bash', '-c', command], cwd=room, stdin=subprocess.DEVNULL, stdout=subprocess.PIPE,
+                             stderr=subprocess.STDOUT, text=True, errors='replace')
+    printed = []
+    for line in child.stdout:
+        print(f'    {line}', end='', flush=True)
+        printed.append(line)
+    return subprocess.CompletedProcess(command, child.wait(), ''.join(printed))
 
 
 def must(room, command):
@@ -110,8 +124,9 @@ def main():
             if words and not row.undone:
                 edit(room, ROWS[first - 1])
             edit(room, row)
+            print(f'row {number}: running {row.command}; a first check also proves the crates below', flush=True)
             begin = time.monotonic()
-            done = run(room, row.command)
+            done = run_shown(room, row.command)
             passed = holds(row, done.returncode, done.stdout)
             told = 'as the page says' if passed else 'NOT as the page says'
             print(f'row {number}: {row.how}: {time.monotonic() - begin:.0f} s: {told}, {row.result}', flush=True)

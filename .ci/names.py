@@ -20,6 +20,7 @@ import sys
 
 import clauses
 import idle
+import reached
 import shown
 import together
 import wrap
@@ -557,11 +558,15 @@ def counts():
             for line in (ROOT / 'docs/gate.md').read_text().splitlines() if line.startswith('| `')]
     operation = (ROOT / 'crates/kds_json/src/operation.rt').read_text()
     operations = re.search(r'pub enum Operation \{(.*?)\n\}', operation, re.S)[1]
+    definitions, _, lines = re.search(r'(\d+) definitions in (\d+) files, (\d+) lines', '\n'.join(reached.table())).groups()
+    ends = ('crates/kds_cli/src/main.rt', 'crates/kds_cli_runs/src/host.rt')
     return {
         'crates': int(listed[0]), 'program': int(listed[1]), 'edits': len(edits), 'bodies': len(bodies), 'edited': len(of_one), 'least': min(of_one), 'most': max(of_one),
         'operations': len(re.findall(r'^    (\w+),', operations, re.M)),
         'gate_crates': len(gate), 'gate_edits': sum(int(row[3]) for row in gate if row[3] != '-'),
         'gate_minutes': round(sum(int(row[6]) for row in gate) / 60),
+        'definitions': int(definitions), 'definition_lines': int(lines), 'clauses': len(re.findall(r'\bensures ', reached.contract())),
+        'end_lines': sum(len((ROOT / path).read_text().splitlines()) for path in ends),
     }
 
 
@@ -572,6 +577,9 @@ CLAIMS = [
     ('README.md', r'the gate tries (\d+) of them', ('edits',)),
     ('docs/proved.md', r'has (\d+) small edits in (\d+) crates', ('edits', 'edited')),
     ('docs/proved.md', r'A crate has (\d+) to (\d+)\.', ('least', 'most')),
+    ('docs/proved.md', r'all ([\d,]+) definitions \(([\d,]+) lines\)', ('definitions', 'definition_lines')),
+    ('docs/proved.md', r'the (\d+) clauses of `run`, the (\d+) lines', ('clauses', 'end_lines')),
+    ('docs/proved.md', r'(\d+) lines that hand the real', ('end_lines',)),
     ('docs/gate.md', r'there are (\d+) crates and (\d+) edits', ('crates', 'edits')),
     ('docs/gate.md', r'The table is of (\d+) crates and (\d+) edits', ('gate_crates', 'gate_edits')),
     ('docs/wrong-bodies.md', r'The gate tries (\d+) of them', ('edits',)),
@@ -592,9 +600,9 @@ def check_counts(tally, write):
             continue
         new = text
         for place, name in reversed(list(enumerate(names, 1))):
-            same = int(found[place]) == numbers[name]
+            same = int(found[place].replace(',', '')) == numbers[name]
             tally.holds(same or write, f'{page}: {found[0]}: {name} are {numbers[name]}')
-            new = new[:found.start(place)] + str(numbers[name]) + new[found.end(place):]
+            new = new[:found.start(place)] + f'{numbers[name]:,}' + new[found.end(place):]
         if write and new != text:
             (ROOT / page).write_text(new)
             print(f'written: {page}')

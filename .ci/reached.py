@@ -1,7 +1,7 @@
 #!/usr/bin/env python3
 """The definitions that the contract of `run` reaches, in an order to read: file by file, lowest first, each file's in its own order. It
 starts at the names in the clauses of `run`, and follows the imports of the specs (`use`) down, definition by definition. It prints the
-table that docs/proved.md has; `.ci/names.py` compares the two.
+table that docs/reading-list.md has; `.ci/names.py` compares the two.
 
     .ci/reached.py              the table
     .ci/reached.py contract     the contract itself, as a block of Markdown"""
