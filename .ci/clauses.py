@@ -8,8 +8,8 @@ only the first goal of an edit, and `./dev edits` tells all of them.
                                    edit was kept from an earlier run, `rt ci` tells its goal once more
     .ci/clauses.py --write LOG..   writes what the logs say into .ci/refusals.txt. A later log counts more, and one of
                                    `./dev edits` more than one of `rt ci`. Then run ./dev names --write
-    .ci/clauses.py page            prints the table of docs/wrong-bodies.md: the clauses of the public contracts, and
-                                   the edits that break each
+    .ci/clauses.py table           prints the clauses of the public contracts, and the edits that break each
+    .ci/clauses.py page            prints the table of docs/wrong-bodies.md: the clauses that none breaks, and why
     .ci/clauses.py open            prints the clauses that no stored goal is of, and for which LEFT has no reason: none
 
 A goal is written FUNCTION.CLAUSE for a clause that the function ensures (`ensures` if its only clause has no name),
@@ -396,13 +396,26 @@ def clauses():
             yield crate, path, clause, list(breaking(crate, path, clause, len(named) == 1))
 
 
-def page():
+def table():
     yield '| Function | Clause | Broken by |'
     yield '|---|---|---|'
     for crate, path, clause, edits in clauses():
         why = reason(crate, f'{path}.{clause}') or '-'
         name = '(it has no name)' if clause == 'ensures' else f'`{clause}`'
         yield f'| `{crate}`: `{path}` | {name} | {", ".join(f"`{it}`" for it in edits) or why} |'
+
+
+def page():
+    """The clauses that no edit breaks, by the reason. The only clause of a contract has no name."""
+    found = {}
+    for crate, path, clause, edits in clauses():
+        if not edits:
+            functions = found.setdefault(reason(crate, f'{path}.{clause}') or '-', {})
+            functions.setdefault(path, []).append('' if clause == 'ensures' else f' `{clause}`')
+    yield '| Why | Clauses |'
+    yield '|---|---|'
+    for why, functions in found.items():
+        yield f'| {why} | {"; ".join(f"`{path}`" + ",".join(names) for path, names in functions.items())} |'
 
 
 def open_clauses():
@@ -432,15 +445,15 @@ def check(tally):
 
 def are_words(words):
     logs = words[1:] if words[:1] == ['--write'] else words
-    if words in (['page'], ['open']):
+    if words in (['page'], ['table'], ['open']):
         return True
     return bool(logs) and (logs is not words or len(logs) == 1) and all(map(os.path.isfile, logs))
 
 
 def main():
-    words = asked(__doc__, '.ci/clauses.py LOG | --write LOG.. | page | open, and a LOG is a file', are_words)
-    if words == ['page']:
-        print('\n'.join(page()))
+    words = asked(__doc__, '.ci/clauses.py LOG | --write LOG.. | page | table | open, and a LOG is a file', are_words)
+    if words in (['page'], ['table']):
+        print('\n'.join(page() if words == ['page'] else table()))
     elif words == ['open']:
         print('\n'.join(open_clauses()))
     else:
