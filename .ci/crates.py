@@ -65,7 +65,7 @@ def adopt(comment, crates):
         crate.fields = known.get(crate.name, {field: '' for field in FIELDS})
     blocks = []
     for crate in lines:
-        fields = [textwrap.fill(f'{field}: {crate.fields[field]}', 132, initial_indent='    ', subsequent_indent='        ',
+        fields = [textwrap.fill(f'{field}: {crate.fields[field]}', 118, initial_indent='    ', subsequent_indent='        ',
                                 break_long_words=False, break_on_hyphens=False) for field in FIELDS]
         blocks.append('\n'.join([crate.line()] + fields))
     LIST.write_text('\n'.join(comment) + '\n\n' + '\n\n'.join(blocks) + '\n')
@@ -102,28 +102,19 @@ def page(crates):
     program = {crate.name for crate in of_program(crates)}
     out = ['# Crates', '',
            '<!-- made from docs/crates.list by ./dev crates: change that file, and run it again -->', '',
-           f'There are {len(crates)} crates; the program stands on {len(program)} of them, which include its own crate. In each group lower crates '
-           'come first. Every',
-           'crate is one layer. The layer above calls the public functions of the crate and relies on their contracts alone. Proofs may also cite the',
-           'lemmas of a lower crate (`CONTRIBUTING.md`). The column "Stands on" lists the crates that a crate uses, those of the toolchain included. It',
-           'leaves out `kds_base` and `kds_defs`, on which nearly every crate stands. The crates are proved in the order of `crates.txt`.', '',
-           'This page uses these words; the [glossary](glossary.md) has more:', '',
-           '- A *turn* is a command with its actor and its time, applied as a whole. A command is *lawful* if its arguments lie within the ranges of the',
-           '  API.',
-           '- A *history* is a list of turns, and a *journal* is the event log that a history leaves. Each line of a journal has one *entry*, an event.',
-           '- A value *stands for* a history, a journal or a list of events if it represents it. A function is *exact* if it does exactly what its',
-           '  definition says.',
-           '- A *law* is a theorem about the definitions, stated as the contract of an empty function.',
-           '- A *row* is an item of the lease table. A *tenure* is one worker\'s hold on a lease. A read of a tenure is *given* by the command that',
-           '  counts it as delivered, once the processor\'s call has returned.',
-           '- A *hall* is one machine that many threads share. A *pass* is the right to make turns in a hall under one actor number.', '']
+           textwrap.fill(
+               f'There are {len(crates)} crates; the program stands on {len(program)} of them, its own among them. Each is '
+               'a layer, whose contracts alone the code above relies on. In each group lower crates come first. "Stands '
+               'on" leaves out `kds_base` and `kds_defs`, on which nearly every crate stands. A function is *exact* if it '
+               'does exactly what its definition says. The [glossary](glossary.md) has the other words, and `crates.txt` '
+               'the order of proof.', 100), '']
     for group, members in groups.items():
         out += [f'## {group}', '', '| Crate | Does | Stands on | The layer above uses |', '|---|---|---|---|']
         for crate in members:
             below = ', '.join(name for name in crate.below if name not in low) or '-'
             out.append(f'| `{crate.name}` | {crate.fields["does"]} | {below} | {crate.fields["used for"]} |')
         out += ['', 'What is proved:', '']
-        out += [textwrap.fill(f'- `{crate.name}`: {crate.fields["proved"]}', 140, subsequent_indent='  ', break_long_words=False,
+        out += [textwrap.fill(f'- `{crate.name}`: {crate.fields["proved"]}', 120, subsequent_indent='  ', break_long_words=False,
                               break_on_hyphens=False) for crate in members]
         out.append('')
     return '\n'.join(out)
