@@ -285,6 +285,15 @@ def twice():
     return dict(word.split(':') for word in line[1].split())
 
 
+def named_lines(line):
+    """What a line `$ awk ..` of a page writes of the files that clients/schedule makes of the incident, which are stored."""
+    found = re.match(r'^\$ (awk -f examples/[\w-]+\.awk) answer/names\.txt answer/incident\.journal( \| sed -n \'[\dp;]+\')?$', line)
+    if not found:
+        return None
+    command = f'{found[1]} examples/incident.names examples/incident.journal{found[2] or ""}'
+    return subprocess.run(['bash', '-c', command], cwd=ROOT, stdout=subprocess.PIPE, text=True, check=True).stdout.splitlines()
+
+
 def check_outputs(tally, page):
     """Each command `./kds ..` of a page shows its stored output, and one that reads an example has one."""
     where = page.relative_to(ROOT)
@@ -304,6 +313,8 @@ def check_outputs(tally, page):
             if dumped:
                 told = (ROOT / 'examples' / f'{dumped[1]}.out').read_text().splitlines()
                 tally.holds(shown == [line for line in told if line], f'{where}: {lines[at][2:]} writes something else')
+            told = named_lines(lines[at])
+            tally.holds(not shown or told in (None, shown), f'{where}: {lines[at][2:]} writes something else')
             found = re.match(r'^\$ \./kds ([^|&]+?)((?: \| (?:head|tail) -n \d+)*)$', lines[at])
             if not found or not shown:
                 continue
