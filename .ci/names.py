@@ -75,7 +75,7 @@ KINDS = ['A command', 'An entry of the journal', 'A state of a stream', 'A refus
          'A command that only reads', 'Add a kind of schedule line']
 SEARCH = re.compile(r"^    git grep -lwE '([^']+)' -- 'crates/k\*\.rt' 'crates/k\*\.antt'$", re.M)
 # words that are no name of this repository: of the toolchain, of Rust, of Kinesis and of other clients
-FOREIGN = set('''AWS_ENDPOINT_URL AWS_ENDPOINT_URL_KINESIS AWS_CBOR_DISABLE MaxRecordSizeInKiB StreamId Authorization Builder EndpointConfiguration endpointOverride endpoint_url WAITING_ON_PARENT_SHARDS LEASE_LOST ZOMBIE Do EndpointConnectionError HTTPClient https maxSockets Deserializer from_value'''.split())
+FOREIGN = set('''AWS_ENDPOINT_URL AWS_ENDPOINT_URL_KINESIS AWS_CBOR_DISABLE MaxRecordSizeInKiB StreamId Authorization Builder EndpointConfiguration endpointOverride endpoint_url WAITING_ON_PARENT_SHARDS LEASE_LOST ZOMBIE Do EndpointConnectionError NoRegionError NoCredentialsError HTTPClient https maxSockets Deserializer from_value'''.split())
 
 
 def defined_in(files):

@@ -91,8 +91,10 @@ class Script(unittest.TestCase):
                 self.assertEqual([], list((self.room / 'work').iterdir()))
 
     def test_the_page_has_the_tunables_of_the_script(self):
-        wanted = re.search(r'^tunables=(\S+)$', (ROOT / 'help' / 'programs').read_text(), re.M)[0]
-        self.assertIn(wanted, (self.room / 'script').read_text().splitlines())
+        """In the script for CI, the fixture and the container."""
+        wanted = re.search(r'^tunables=(\S+)$', (ROOT / 'help' / 'programs').read_text(), re.M)
+        self.assertIn(wanted[0], (self.room / 'script').read_text().splitlines())
+        self.assertEqual(3, (ROOT / 'docs/clients.md').read_text().count(wanted[1]))
 
 
 class FirstCommands(unittest.TestCase):
