@@ -19,6 +19,7 @@ import subprocess
 import sys
 
 import clauses
+import defined
 import idle
 import reached
 import shown
@@ -66,8 +67,44 @@ SHARED = {
 }
 # the most lines of a function, its contract included, each clause counted as one
 LINES = 44
-# the most words of README above what is proved
-WORDS = 1500
+# The words of each page that its reader needs. A page may have a tenth more, and all of them together TOTAL.
+WORDS = {
+    'README.md': 1_200,
+    'CONTRIBUTING.md': 3_450,
+    'CHANGELOG.md': 500,
+    'docs/DECISIONS.md': 6_300,
+    'docs/architecture.md': 2_250,
+    'docs/calling.md': 1_800,
+    'docs/clients.md': 2_400,
+    'docs/crates.md': 3_550,
+    'docs/definitions.md': 8_500,
+    'docs/differences.md': 3_450,
+    'docs/formats.md': 4_700,
+    'docs/gate.md': 850,
+    'docs/glossary.md': 1_500,
+    'docs/incidents.md': 2_700,
+    'docs/leases.md': 1_500,
+    'docs/performance.md': 3_900,
+    'docs/proved.md': 4_450,
+    'docs/reading-list.md': 2_000,
+    'docs/recording.md': 650,
+    'docs/workers.md': 1_500,
+    'docs/wrong-bodies.md': 2_350,
+    'examples/README.md': 700,
+}
+TOTAL = 64_000
+# How often pages other than these explain a word of the glossary. The number may only fall.
+EXPLAINING, EXPLAINED = {'README.md', 'docs/glossary.md', 'docs/leases.md'}, 2
+# Facts that have one home: no more than two pages tell each.
+FACTS = {
+    'when idle connections are closed': r'10 seconds[^.|]*(?:2\.2|2 to 3)\b|\b2\.2 seconds',
+    'the bytes of a record': r'10,485,760',
+    'how long a build takes': r'15\s+to\s+60\s+minutes',
+    'what the quick program is': r'run-time\s+checks?\b',
+}
+# A page tells nothing of how it, or the program, was before.
+HISTORY = re.compile(r'\b(?:[Ee]arlier (?:versions?|forms?) of|(?:[Bb]efore|[Ss]ince) (?:this|that) (?:decision|gate|change)|[Ii]n an earlier form|'
+                     r'(?:was|were|is|are) replaced by|used to be|not any longer|[Aa]t first,? (?:there|it|the))\b')
 # The widest line of a page's prose, tables and blocks aside. A terminal of 80 columns breaks no word of README.
 COLUMNS, COLUMNS_OF_README = 100, 80
 # the kinds of change whose files CONTRIBUTING.md lists, each in a section of its own with the search that finds them
@@ -88,7 +125,7 @@ def files_of(place):
     return list(path.glob('*.antt')) if path.is_dir() else [path.with_suffix('.antt')]
 
 
-# ---- the tables of docs/definitions.md: each name stands in the file that its row gives
+# ---- docs/definitions.md: each name stands in the file below whose place it is
 
 def rows(text):
     for line in text.splitlines():
@@ -110,11 +147,11 @@ def places_of(cell):
 def check_definitions(tally):
     everywhere = defined_in(ROOT.glob('crates/*/specs/*.antt'))
     laws = {name for file in ROOT.glob('crates/*/src/*.rt') for name in FUNCTION.findall(file.read_text())}
-    for cells in rows((ROOT / 'docs' / 'definitions.md').read_text()):
-        places = places_of(cells[-1])
+    for named, below in defined.listed((ROOT / 'docs/definitions.md').read_text()):
+        places = places_of(named)
         missing = [place for place in places if not all(file.exists() for file in files_of(place))]
         known = everywhere | laws if not places or missing else defined_in(f for p in places for f in files_of(p))
-        for name in re.findall(r'`([^`]+)`', cells[0]):
+        for name in (name for names, _ in below for name in names):
             tally.holds(name in known and not missing, f'docs/definitions.md: {name} is not in {", ".join(places) or "the crates"}')
 
 
@@ -196,11 +233,45 @@ def check_listed(tally):
         tally.holds(str(page.relative_to(ROOT)) in readme, f'README.md: it names no {page.relative_to(ROOT)}')
 
 
-def check_words(tally, page):
-    """Who comes to README reads it whole."""
-    above = page.read_text().partition('\n## What is proved\n')[0]
-    count = sum(re.search(r'\w', word) is not None for word in above.split())
-    tally.holds(count <= WORDS, f'{page.relative_to(ROOT)}: {count:,} words above "What is proved", and {WORDS:,} are allowed')
+def check_words(tally):
+    """Each page has the words that its reader needs, and all of them together no more than TOTAL."""
+    pages = {str(page.relative_to(ROOT)): len(page.read_text().split()) for page in [*PAGES, ROOT / 'CHANGELOG.md']}
+    for name, count in pages.items():
+        tally.holds(name in WORDS, f'{name}: WORDS in .ci/names.py has no number for it')
+        most = WORDS.get(name, 0) * 11 // 10
+        tally.holds(count <= most, f'{name}: {count:,} words, and {most:,} are allowed')
+    tally.holds(not set(WORDS) - set(pages), f'WORDS in .ci/names.py has pages that are gone: {sorted(set(WORDS) - set(pages))}')
+    tally.holds(sum(pages.values()) <= TOTAL, f'all pages: {sum(pages.values()):,} words, and {TOTAL:,} are allowed')
+
+
+def glossary():
+    """The words in the first column of the glossary's tables."""
+    lines = (ROOT / 'docs/glossary.md').read_text().splitlines()
+    cells = [line.split('|')[1].replace('`', '') for line in lines if line.startswith('| ')]
+    found = {word.strip(' )') for cell in cells for word in re.split(r', | \(', cell)}
+    return {word for word in found if re.match(r'^[a-z][a-z -]*$', word)}
+
+
+def check_explained(tally):
+    """A word of the glossary is explained there alone: `*word*`, or the word with what it is in parentheses."""
+    words = '|'.join(sorted(map(re.escape, glossary()), key=len, reverse=True))
+    forms = [rf'(?<!\*)\*(?:{words})s?\*(?!\*)', rf'\b(?:{words})s? \((?:the|a|an|one|each|every) [^)]{{12,}}\)']
+    found = [f'{page.relative_to(ROOT)}: {text}' for page in PAGES if str(page.relative_to(ROOT)) not in EXPLAINING
+             for form in forms for text in re.findall(form, re.sub(r'\s+', ' ', page.read_text()))]
+    says = f'words of the glossary that pages explain once more: {len(found)} now, {EXPLAINED} allowed'
+    tally.holds(len(found) <= EXPLAINED, f'{says}: link the glossary in place of the new ones, of {"; ".join(found)}')
+    tally.holds(len(found) >= EXPLAINED, f'{says}: set EXPLAINED in .ci/names.py to {len(found)}, so that it can only fall')
+
+
+def check_homes(tally):
+    """A fact of FACTS stands on two pages at most, and no page tells what was before."""
+    for fact, form in FACTS.items():
+        found = [str(page.relative_to(ROOT)) for page in PAGES if re.search(form, page.read_text())]
+        tally.holds(len(found) <= 2, f'{fact}: {", ".join(found)} tell it; name its home, and link it from the others')
+    for page in PAGES:
+        for found in HISTORY.finditer(page.read_text()):
+            at = page.read_text().count('\n', 0, found.start()) + 1
+            tally.holds(False, f'{page.relative_to(ROOT)}, about line {at}: "{found[0]}": say what is so today; the log has what was before')
 
 
 def check_columns(tally, page):
@@ -663,7 +734,9 @@ def main():
         if page.name != 'crates.md':  # ./dev crates makes it
             check_columns(tally, page)
     check_listed(tally)
-    check_words(tally, ROOT / 'README.md')
+    check_words(tally)
+    check_explained(tally)
+    check_homes(tally)
     check_calling(tally, ROOT / 'docs/calling.md')
     check_examples(tally, ROOT / 'examples/README.md')
     check_sections(tally)
