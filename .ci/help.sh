@@ -56,6 +56,16 @@ for words in --help -h help; do
     answers './dev build' ./dev $words
 done
 answers "kds $(cat VERSION)" ./dev --version
+# Each text of help fits a terminal of 100 columns, names the tools that replay is of little use without, and has an example.
+for words in './kds --help' ./dev 'clients/schedule --help' 'clients/dump --help'; do
+    wide=$($words 2>&1 < /dev/null | awk 'length($0) > 100')
+    [ -z "$wide" ]
+    tell $? "$words, its columns" "$wide"
+done
+for part in clients/schedule clients/dump clients/record viewer/journal.html clients/differences 'after a source changed' 'examples/first.txt' \
+    '    10   message refused'; do
+    answers "$part" ./kds --help
+done
 
 slip 2 "$usage" '--help lists' ./kds
 slip 2 "$usage" 'did you mean serve' ./kds server 4567 17
@@ -75,7 +85,7 @@ slip 2 "$usage" 'drill takes three numbers' ./kds drill 7
 slip 2 "$usage" './kds replay < examples/first.txt' ./kds replay examples/first.txt
 slip 2 "$usage" './kds audit < examples/workers.journal' ./kds audit examples/workers.journal
 slip 2 "$usage" 'the one flag is --journal' ./kds replay --jornal
-slip 2 "$usage" 'stands behind replay' ./kds --journal replay
+slip 2 "$usage" 'comes after replay' ./kds --journal replay
 slip 2 "$usage" './kds replay --journal < examples/first.txt' ./kds replay --journal examples/first.txt
 
 line() { # PART LINE, as printf takes it: behind a line that is one
@@ -87,13 +97,19 @@ line 'has no line feed' '1000 api ListStreams {}'
 line 'is empty' '\n'
 line 'is a comment' '# why\n'
 line 'CR LF' '1000 step\r\n'
-line 'first field is a moment' 'api ListStreams {}\n'
-line 'first field is a moment' '01 api ListStreams {}\n'
-line 'a moment is below 2^62' '4611686018427387904 api ListStreams {}\n'
-line 'makes moments of dates' '2026-11-29T14:05:33Z api ListStreams {}\n'
-line 'two spaces' '1000  api ListStreams {}\n'
+line 'first field must be a time in milliseconds (no leading zeros), not "api"' 'api ListStreams {}\n'
+line 'first field must be a time in milliseconds (no leading zeros), not "01"' '01 api ListStreams {}\n'
+line 'a time is in milliseconds, below 2^62: this has 19 digits' '4611686018427387904 api ListStreams {}\n'
+line 'this has 20 digits' '17959611010000000000 api ListStreams {}\n'
+line 'clients/schedule makes them of dates' '2026-11-29T14:05:33Z api ListStreams {}\n'
+line 'write one space after the time' '1000  api ListStreams {}\n'
+line 'write one space after api' '1000 api  ListStreams {}\n'
+line 'write one space between two fields' '1000 raw 1  survey\n'
+line 'after api an operation is missing' '1000 api\n'
+line 'after the actor a command is missing' '1000 raw 1\n'
+line 'after KIND: nothing, latest, or time' '1000 worker w1 tally soon\n'
 line 'second field is api' '1000 apt ListStreams {}\n'
-line 'behind the operation stands no space' '1000 api ListStreams\n'
+line 'after the operation a space and a body are missing' '1000 api ListStreams\n'
 line 'the operation is 1 to 64' '1000 api List-Streams {}\n'
 line 'the actor is 1 to 999' '1000 raw 0 survey\n'
 line 'there is no command tak' '1000 raw 1 tak 1/0 0 w1\n'
@@ -102,7 +118,7 @@ line 'the form is mark TENURE COUNTER NUMBER' '1000 raw 1 mark 1 2\n'
 line 'KIND is tally, lines or users' '1000 worker w1\n'
 line 'step has one field' '1000 step\n'
 line 'hand has two fields' '1000 hand 1000\n'
-line 'here is a tab' '1000\tstep\t1000\n'
+line 'not by a tab' '1000\tstep\t1000\n'
 line 'not text in UTF-8' '1000 step \0\n'
 slip 3 'line 1: not a schedule line' 'looks like a journal: use audit' ./kds replay < examples/workers.journal
 whole() { # PART FILE: one whose first line is none, for what the file is
@@ -127,7 +143,7 @@ mended() { # NAME SCRIPT: a sound journal, changed by sed
     sed "$2" examples/workers.journal > "$work/$1"
     echo "$work/$1"
 }
-journal 'entry 33 Lost' 'entry 33 is line 34: 5001 1001 marked 5 4 5' examples/stale-mark.journal
+journal 'entry 33 Lost' "entry 33 is line 34: 5001 1001 marked 5 4 5; Lost U: the row's tenure is U and not T; U is 0 if the row names no tenure (docs/leases.md, Commands)" examples/stale-mark.journal
 : > "$work/empty"
 journal 'entry 1 Form' 'the input is empty' "$work/empty"
 journal 'entry 1 Form' 'looks like a schedule' examples/first.txt
@@ -145,13 +161,35 @@ head -c -1 examples/workers.journal > "$work/open"
 journal 'entry 38 Form' 'has no line feed' "$work/open"
 journal 'entry 3 Form' 'line 4 is not an entry: 2026-11-29' "$(mended dated '4s/^[0-9]*/2026-11-29/')"
 journal 'entry 3 Form' 'line 4 is not an entry: # why' "$(mended told '4s/.*/# why/')"
-journal 'entry 3 Form' 'here is a tab' "$(mended tabbed '4s/ /\t/')"
+journal 'entry 3 Form' 'not by a tab' "$(mended tabbed '4s/ /\t/')"
 ./kds audit < <(cat examples/first.txt) > "$work/out" 2> "$work/err"
 [ $? -eq 1 ] && grep -q 'docs/formats.md, Journal' "$work/err"
 tell $? 'an audit of a pipe' "$(cat "$work/err")"
 
+# Each refusal that an audit can name has its condition in one line. Those of a command that only reads it can't.
+explained() { # NAME
+    local said
+    said=$(here=. && source help/hints && rule "$1")
+    [[ $said == "$1"*': '* ]] && [ "$(wc -l <<< "$said")" -eq 1 ] && [ "${#said}" -le 200 ]
+    tell $? "the rule $1" "$said"
+}
+for name in $(sed -n 's/^ *Refusal::\([A-Za-z]*\).* => "\1",$/\1/p' crates/kcl_script_fields/src/answer.rt); do
+    [[ $name == @(Expired|PageExpired|BadNumber) ]] || explained "$name"
+done
+
 slip 4 'read fault' 'is a directory' ./kds replay < "$work"
 slip 4 'read fault' 'is closed' ./kds replay <&-
+printf '#!/bin/sh\necho out of memory >&2\nexit 6\n' > "$work/six"
+chmod +x "$work/six"
+KDS="$work/six" slip 6 'out of memory' 'memory ran out' ./kds replay
+printf 'POST / HTTP/1.1\r\n' > "$work/half"
+slip 7 'input ended inside a message' "the last request isn't whole" ./kds answer < "$work/half"
+head -c 16777217 /dev/zero | tr '\0' x > "$work/long"
+slip 9 'input too long' 'line 1 has more than 16,777,216 bytes' ./kds replay < "$work/long"
+slip 9 'input too long' 'or the input more than 1,073,741,824' ./kds replay < <(cat "$work/long")
+rm -f "$work/long"
+printf 'POST / HTTP/1.1\r\n\r\n' > "$work/refused"
+slip 10 'message refused' '411 is a request without Content-Length' ./kds answer < "$work/refused"
 if [ -e /dev/full ]; then
     timeout 60 ./kds replay < examples/first.txt > /dev/full 2> "$work/err"
     [ $? -eq 5 ] && [ "$(head -n 1 "$work/err")" = 'write fault' ] && grep -q 'disk is full' "$work/err"
@@ -480,7 +518,8 @@ source=$fake/crates/kds_cli/src/main.rt
 version="kds $(cat VERSION)"$'\nruns'
 
 # The quick program: built once for sources, kit and words; not at all where it can't be, with a line that says why.
-fake 7 input 1 "$then" build ./kds -c 'cat; exit 7'
+whole="kds: the last request isn't whole: the input ends inside its head, or before the bytes that Content-Length names"
+fake 7 input 1 "$then$whole"$'\n' build ./kds -c 'cat; exit 7'
 fake 20 input 0 "$first" build ./dev try -c 'cat; exit 20'
 fake 20 input 0 "$first" build ./kds -c 'cat; exit 20'
 fake 0 "$version the quick program, $(cd "$fake" && echo out/quick/kds-*): not proved yet, ./dev build proves it" 0 '' build ./kds --version

@@ -47,6 +47,9 @@ TURNS = {
     'the noun again': r'\b(?:that|which) (?:is|are) (?:one|none)\b(?! of\b)',
     'applies to, states': r'\b(?:is|are) said of\b',
 }
+# What messages and texts of help have no more: each with what to write. Comments aren't asked.
+MESSAGES = {'after': r'\bbehind\b', 'not "..", or what the replay does': r'\band here (?:it|is|are)\b', "isn't": r'\bit is no\b'}
+SPEAKING = ('help/hints', 'help/line.awk', 'help/kds.txt', 'dev', 'clients/schedule', 'clients/story.py', 'clients/dump')
 TURNED = {
     'out of memory': 0,
     'the name of the number: `size` bytes': 0,
@@ -358,6 +361,10 @@ def twice():
 
 def named_lines(line):
     """What a line `$ awk ..` of a page writes of the files that clients/schedule makes of the incident, which are stored."""
+    if line == '$ clients/schedule --to answer examples/incident-session.txt examples/incident-story.txt':
+        lines, entries = (len((ROOT / f'examples/incident.{kind}').read_text().splitlines()) for kind in ('txt', 'journal'))
+        return [f'answer: {lines} lines, {entries - 2} entries; drop its files on viewer/journal.html, or call '
+                'awk -f examples/held.awk answer/names.txt answer/incident.journal']
     found = re.match(r'^\$ (awk -f examples/[\w-]+\.awk) answer/names\.txt answer/incident\.journal( \| sed -n \'[\dp;]+\')?$', line)
     if not found:
         return None
@@ -611,6 +618,18 @@ def check_edits(tally):
             tally.holds(stands, f'{path.relative_to(ROOT)}: what it replaces does not stand once in its file')
 
 
+def check_messages(tally):
+    """What users read of the scripts has no turn of MESSAGES: all but comments and what a function says of itself."""
+    for name in SPEAKING:
+        text = (ROOT / name).read_text()
+        if name.startswith('clients/'):
+            text = re.sub(r'^ +"""[^"]*"""', '', text, flags=re.M)
+        said = '\n'.join(line for line in text.splitlines() if not line.lstrip().startswith('#'))
+        for better, turn in MESSAGES.items():
+            found = re.search(rf'.*{turn}.*', said)
+            tally.holds(not found, f'{name}: "{found and found[0].strip()[:80]}"; write: {better}')
+
+
 def check_turns(tally):
     """No page has a turn of phrase of TURNS, and comments of the code have as many as TURNED says."""
     pages = [*PAGES, ROOT / 'CHANGELOG.md', ROOT / 'kds', ROOT / 'dev', *sorted((ROOT / 'help').iterdir())]
@@ -754,6 +773,7 @@ def main():
     check_edits(tally)
     check_idle(tally)
     check_turns(tally)
+    check_messages(tally)
     check_shared(tally)
     clauses.check(tally)
     return tally.end()

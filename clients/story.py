@@ -20,7 +20,7 @@ END = 'end'
 # Where a lease may begin that has no checkpoint at a record, and the checkpoint of one that was processed to its end.
 FIRST, SHARD_END = ('TRIM_HORIZON', 'LATEST', 'AT_TIMESTAMP'), 'SHARD_END'
 CAUSES = 'is a line missing, or is the clock of a host wrong?'
-NO_KIND = f'behind the moment stands no {", ".join(KINDS[:-1])} or {KINDS[-1]}'
+NO_KIND = f'the word after the time is not {", ".join(KINDS[:-1])} or {KINDS[-1]}'
 FORMS = {
     'create': 'HOST create SHARD [latest]', 'take': 'HOST take SHARD [at NUMBER | at TRIM_HORIZON | at SHARD_END]',
     'open': 'HOST open SHARD [at NUMBER | at TRIM_HORIZON | at SHARD_END]', 'fetch': 'HOST fetch SHARD [N]',
@@ -54,7 +54,7 @@ def is_by_names(rest):
     words = rest.split()
     if not words or words[0] not in KINDS:
         return True
-    return words[0] == 'raw' and (len(words) > 1 and not words[1].isdigit() or len(words) > 3 and words[2] in BY_SHARD and is_shard(words[2], words[3:]))
+    return words[0] == 'raw' and (len(words) < 3 or not words[1].isdigit() or len(words) > 3 and words[2] in BY_SHARD and is_shard(words[2], words[3:]))
 
 
 def is_shard(verb, words):
@@ -208,7 +208,7 @@ class Story:
             self.refusals.append(self.where)
             self.tell(f'{self.said()}: {answer}{self.meaning(answer)}')
         elif self.fails and not answer.startswith('refused'):
-            self.differs(f'the log says that it failed, and here it is answered {shown(answer)}: {CAUSES}')
+            self.differs(f'the log says that it failed, and the replay answers {shown(answer)}: {CAUSES}')
         return answer
 
     def said(self):
@@ -231,6 +231,9 @@ class Story:
             return ', nobody has the lease'
         if tenure:
             return f', {self.names.host_of(tenure.worker)} has the lease'
+        words = self.text.split()
+        if name == 'NoLease' and len(words) > 2 and words[1] == 'take':
+            return f': write {words[0]} create {words[2]} before it, or begin with clients/dump --story'
         return f', {self.names.used[value[0]]}' if name == 'ParentsOpen' and value[0] in self.names.used else ''
 
     def raw(self, by, form, *guesses):
@@ -422,7 +425,7 @@ class Story:
         given = self.command(by, host, 'give', key, []).startswith('ok')
         if given and count is not None and int(count) != len(here):
             late = 'a closed shard takes no more, so a records line of it stands before its split or merge' if key in self.closed and len(here) < int(count) else CAUSES
-            self.differs(f'the log has {count} records, and here are {len(here)}: {late}')
+            self.differs(f'the log has {count} records, and the replay delivers {len(here)}: {late}')
         if given and words and here:
             self.number(key, int(words[1]), here[-1], 'the last record processed')
         elif given and words:
@@ -498,7 +501,7 @@ class Story:
         record = self.record_of(key, number)
         if record is None:
             if not it.delivered:
-                raise Misplaced(f'no record has the number {number}: expected it behind to, in a records or process line of this shard before')
+                raise Misplaced(f'no record has the number {number}: write it after "to" in an earlier records or process line of this shard')
             record = last_of(it)
             self.names.bind(key, number, record)
         return self.command(by, host, 'mark', key, [str(record)])
@@ -547,7 +550,7 @@ class Story:
     def raw_by_names(self, words):
         """A raw line that names a host, or a shard where a tenure stands, with or without what the replay knows."""
         if len(words) < 2:
-            raise Unreadable('behind raw stands no actor with a command')
+            raise Unreadable('after raw: an actor and a command')
         host, verb, *rest = words
         if not NAME.fullmatch(host):
             raise Unreadable(f'{shown(host)} is no name of a host')
@@ -561,7 +564,7 @@ class Story:
         if verb == 'take' and host.isdigit() and len(rest) < 2:
             raise Unreadable('expected raw BY take SHARD wN, for an actor that is a number')
         if not least <= len(rest) <= most:
-            raise Unreadable(f'expected raw BY {verb} SHARD with at most {most - 1} words behind it: counter and position are the replay\'s')
+            raise Unreadable(f'expected raw BY {verb} SHARD with at most {most - 1} words after it: counter and position are the replay\'s')
         return self.command(by, self.names.actors.get(by, f'actor {by}'), verb, key, rest[1:])
 
     def expected(self, word):
@@ -610,7 +613,7 @@ def last_of(tenure):
 def counted(word, least, most):
     """A count in a story."""
     if not NUMBER.fullmatch(word) or not least <= int(word) <= most:
-        raise Unreadable(f'expected a number of records from {least} to {most}, and here is {shown(word)}')
+        raise Unreadable(f'expected a number of records from {least} to {most}, not {shown(word)}')
     return int(word)
 
 
