@@ -65,8 +65,9 @@ def adopt(comment, crates):
         crate.fields = known.get(crate.name, {field: '' for field in FIELDS})
     blocks = []
     for crate in lines:
-        fields = [textwrap.fill(f'{field}: {crate.fields[field]}', 118, initial_indent='    ', subsequent_indent='        ',
-                                break_long_words=False, break_on_hyphens=False) for field in FIELDS]
+        fields = [textwrap.fill(f'{field}: {crate.fields[field]}', 118, initial_indent='    ',
+                                subsequent_indent='        ', break_long_words=False, break_on_hyphens=False)
+                  for field in FIELDS]
         blocks.append('\n'.join([crate.line()] + fields))
     LIST.write_text('\n'.join(comment) + '\n\n' + '\n\n'.join(blocks) + '\n')
     return lines
@@ -103,19 +104,19 @@ def page(crates):
     out = ['# Crates', '',
            '<!-- made from docs/crates.list by ./dev crates: change that file, and run it again -->', '',
            textwrap.fill(
-               f'There are {len(crates)} crates; the program stands on {len(program)} of them, its own among them. Each is '
-               'a layer, whose contracts alone the code above relies on. In each group lower crates come first. "Stands '
-               'on" leaves out `kds_base` and `kds_defs`, on which nearly every crate stands. A function is *exact* if it '
-               'does exactly what its definition says. The [glossary](glossary.md) has the other words, and `crates.txt` '
-               'the order of proof.', 100), '']
+               f'There are {len(crates)} crates; the program stands on {len(program)} of them, its own among them. '
+               'Each is a layer, whose contracts alone the code above relies on. In each group lower crates come first. '
+               '"Stands on" leaves out `kds_base` and `kds_defs`, on which nearly every crate stands. A function is '
+               '*exact* if it does exactly what its definition says. The [glossary](glossary.md) has the other words, '
+               'and `crates.txt` the order of proof.', 100), '']
     for group, members in groups.items():
         out += [f'## {group}', '', '| Crate | Does | Stands on | The layer above uses |', '|---|---|---|---|']
         for crate in members:
             below = ', '.join(name for name in crate.below if name not in low) or '-'
             out.append(f'| `{crate.name}` | {crate.fields["does"]} | {below} | {crate.fields["used for"]} |')
         out += ['', 'What is proved:', '']
-        out += [textwrap.fill(f'- `{crate.name}`: {crate.fields["proved"]}', 120, subsequent_indent='  ', break_long_words=False,
-                              break_on_hyphens=False) for crate in members]
+        out += [textwrap.fill(f'- `{crate.name}`: {crate.fields["proved"]}', 120, subsequent_indent='  ',
+                              break_long_words=False, break_on_hyphens=False) for crate in members]
         out.append('')
     return '\n'.join(out)
 

@@ -1,6 +1,6 @@
 #!/usr/bin/env python3
-"""The definitions in docs/definitions.md, each with the comment above it in its file of specs/: the first comment above the name,
-whatever its length. The page's names and sections are by hand.
+"""The definitions in docs/definitions.md, each with the comment above it in its file of specs/: the first comment above
+the name, whatever its length. The page's names and sections are by hand.
 
     .ci/defined.py          the page as it would be with these words
     .ci/defined.py apart    the names whose words on the page are other ones: the place, the name, and both"""

@@ -23,8 +23,8 @@ EDITS = {
 }
 UNDO = 'git checkout crates'
 RATE, LOGS, WRONG = './dev check kds_rate', './dev check kds_stream_logs', './dev edits kds_rate'
-# What is changed and how the page says it; the edits, and whether those before are undone first; the command; what comes;
-# what it took in a whole run of a fresh clone, and again on a busy machine that had checked all crates before; and what
+# What is changed and how the page says it; the edits, and whether those before are undone first; the command; what
+# comes; what it took in a whole run of a fresh clone, and again on a busy machine that had checked all crates before; and what
 # it must print: the function that isn't proved, or how many wrong bodies are refused.
 Row = collections.namedtuple('Row', 'what edits undone command how result first again refused', defaults=(None,))
 ROWS = (

@@ -56,14 +56,14 @@ for words in --help -h help; do
     answers './dev build' ./dev $words
 done
 answers "kds $(cat VERSION)" ./dev --version
-# Each text of help fits a terminal of 100 columns, names the tools that replay is of little use without, and has an example.
+# Each text of help fits a terminal of 100 columns, names the tools beside replay, and has an example.
 for words in './kds --help' ./dev 'clients/schedule --help' 'clients/dump --help'; do
     wide=$($words 2>&1 < /dev/null | awk 'length($0) > 100')
     [ -z "$wide" ]
     tell $? "$words, its columns" "$wide"
 done
-for part in clients/schedule clients/dump clients/record viewer/journal.html clients/differences 'after a source changed' 'examples/first.txt' \
-    '    10   message refused'; do
+for part in clients/schedule clients/dump clients/record viewer/journal.html clients/differences \
+    'after a source changed' 'examples/first.txt' '    10   message refused'; do
     answers "$part" ./kds --help
 done
 
@@ -143,7 +143,8 @@ mended() { # NAME SCRIPT: a sound journal, changed by sed
     sed "$2" examples/workers.journal > "$work/$1"
     echo "$work/$1"
 }
-journal 'entry 33 Lost' "entry 33 is line 34: 5001 1001 marked 5 4 5; Lost U: the row's tenure is U and not T; U is 0 if the row names no tenure (docs/leases.md, Commands)" examples/stale-mark.journal
+lost="Lost U: the row's tenure is U and not T; U is 0 if the row names no tenure (docs/leases.md, Commands)"
+journal 'entry 33 Lost' "entry 33 is line 34: 5001 1001 marked 5 4 5; $lost" examples/stale-mark.journal
 : > "$work/empty"
 journal 'entry 1 Form' 'the input is empty' "$work/empty"
 journal 'entry 1 Form' 'looks like a schedule' examples/first.txt

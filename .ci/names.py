@@ -48,8 +48,13 @@ TURNS = {
     'applies to, states': r'\b(?:is|are) said of\b',
 }
 # What messages and texts of help have no more: each with what to write. Comments aren't asked.
-MESSAGES = {'after': r'\bbehind\b', 'not "..", or what the replay does': r'\band here (?:it|is|are)\b', "isn't": r'\bit is no\b'}
-SPEAKING = ('help/hints', 'help/line.awk', 'help/kds.txt', 'dev', 'clients/schedule', 'clients/story.py', 'clients/dump')
+MESSAGES = {
+    'after': r'\bbehind\b',
+    'not "..", or what the replay does': r'\band here (?:it|is|are)\b',
+    "isn't": r'\bit is no\b',
+}
+SPEAKING = ('help/hints', 'help/line.awk', 'help/kds.txt', 'dev', 'clients/schedule', 'clients/story.py',
+            'clients/dump')
 TURNED = {
     'out of memory': 0,
     'the name of the number: `size` bytes': 0,
@@ -106,7 +111,8 @@ FACTS = {
     'what the quick program is': r'run-time\s+checks?\b',
 }
 # A page tells nothing of how it, or the program, was before.
-HISTORY = re.compile(r'\b(?:[Ee]arlier (?:versions?|forms?) of|(?:[Bb]efore|[Ss]ince) (?:this|that) (?:decision|gate|change)|[Ii]n an earlier form|'
+HISTORY = re.compile(r'\b(?:[Ee]arlier (?:versions?|forms?) of|[Ii]n an earlier form|'
+                     r'(?:[Bb]efore|[Ss]ince) (?:this|that) (?:decision|gate|change)|'
                      r'(?:was|were|is|are) replaced by|used to be|not any longer|[Aa]t first,? (?:there|it|the))\b')
 # The widest line of a page's prose, tables and blocks aside. A terminal of 80 columns breaks no word of README.
 COLUMNS, COLUMNS_OF_README = 100, 80
@@ -115,7 +121,8 @@ KINDS = ['A command', 'An entry of the journal', 'A state of a stream', 'A refus
          'A command that only reads', 'Add a kind of schedule line']
 SEARCH = re.compile(r"^    git grep -lwE '([^']+)' -- 'crates/k\*\.rt' 'crates/k\*\.antt'$", re.M)
 # words that are no name of this repository: of the toolchain, of Rust, of Kinesis and of other clients
-FOREIGN = set('''AWS_ENDPOINT_URL AWS_ENDPOINT_URL_KINESIS AWS_CBOR_DISABLE MaxRecordSizeInKiB StreamId Authorization Builder EndpointConfiguration endpointOverride endpoint_url WAITING_ON_PARENT_SHARDS LEASE_LOST ZOMBIE Do EndpointConnectionError NoRegionError NoCredentialsError HTTPClient https maxSockets Deserializer from_value'''.split())
+FOREIGN = set('''AWS_ENDPOINT_URL AWS_ENDPOINT_URL_KINESIS AWS_CBOR_DISABLE MaxRecordSizeInKiB StreamId Authorization Builder EndpointConfiguration endpointOverride endpoint_url WAITING_ON_PARENT_SHARDS LEASE_LOST ZOMBIE Do EndpointConnectionError HTTPClient https maxSockets Deserializer from_value'''.split())
+FOREIGN |= {'NoRegionError', 'NoCredentialsError'}
 
 
 def defined_in(files):
@@ -243,7 +250,8 @@ def check_words(tally):
         tally.holds(name in WORDS, f'{name}: WORDS in .ci/names.py has no number for it')
         most = WORDS.get(name, 0) * 11 // 10
         tally.holds(count <= most, f'{name}: {count:,} words, and {most:,} are allowed')
-    tally.holds(not set(WORDS) - set(pages), f'WORDS in .ci/names.py has pages that are gone: {sorted(set(WORDS) - set(pages))}')
+    gone = sorted(set(WORDS) - set(pages))
+    tally.holds(not gone, f'WORDS in .ci/names.py has pages that are gone: {gone}')
     tally.holds(sum(pages.values()) <= TOTAL, f'all pages: {sum(pages.values()):,} words, and {TOTAL:,} are allowed')
 
 
@@ -263,7 +271,7 @@ def check_explained(tally):
              for form in forms for text in re.findall(form, re.sub(r'\s+', ' ', page.read_text()))]
     says = f'words of the glossary that pages explain once more: {len(found)} now, {EXPLAINED} allowed'
     tally.holds(len(found) <= EXPLAINED, f'{says}: link the glossary in place of the new ones, of {"; ".join(found)}')
-    tally.holds(len(found) >= EXPLAINED, f'{says}: set EXPLAINED in .ci/names.py to {len(found)}, so that it can only fall')
+    tally.holds(len(found) >= EXPLAINED, f'{says}: set EXPLAINED in .ci/names.py to {len(found)}')
 
 
 def check_homes(tally):
@@ -274,7 +282,7 @@ def check_homes(tally):
     for page in PAGES:
         for found in HISTORY.finditer(page.read_text()):
             at = page.read_text().count('\n', 0, found.start()) + 1
-            tally.holds(False, f'{page.relative_to(ROOT)}, about line {at}: "{found[0]}": say what is so today; the log has what was before')
+            tally.holds(False, f'{page.relative_to(ROOT)}, about line {at}: "{found[0]}": say what is so today')
 
 
 def check_columns(tally, page):
@@ -360,16 +368,19 @@ def twice():
 
 
 def named_lines(line):
-    """What a line `$ awk ..` of a page writes of the files that clients/schedule makes of the incident, which are stored."""
+    """What a line of a page writes that makes, or reads, the files of the incident, which are stored."""
     if line == '$ clients/schedule --to answer examples/incident-session.txt examples/incident-story.txt':
-        lines, entries = (len((ROOT / f'examples/incident.{kind}').read_text().splitlines()) for kind in ('txt', 'journal'))
+        made_of = (ROOT / f'examples/incident.{kind}' for kind in ('txt', 'journal'))
+        lines, entries = (len(path.read_text().splitlines()) for path in made_of)
         return [f'answer: {lines} lines, {entries - 2} entries; drop its files on viewer/journal.html, or call '
                 'awk -f examples/held.awk answer/names.txt answer/incident.journal']
-    found = re.match(r'^\$ (awk -f examples/[\w-]+\.awk) answer/names\.txt answer/incident\.journal( \| sed -n \'[\dp;]+\')?$', line)
+    found = re.match(r'^\$ (awk -f examples/[\w-]+\.awk) answer/names\.txt answer/incident\.journal'
+                     r'( \| sed -n \'[\dp;]+\')?$', line)
     if not found:
         return None
     command = f'{found[1]} examples/incident.names examples/incident.journal{found[2] or ""}'
-    return subprocess.run(['bash', '-c', command], cwd=ROOT, stdout=subprocess.PIPE, text=True, check=True).stdout.splitlines()
+    done = subprocess.run(['bash', '-c', command], cwd=ROOT, stdout=subprocess.PIPE, text=True, check=True)
+    return done.stdout.splitlines()
 
 
 def check_outputs(tally, page):
@@ -657,12 +668,14 @@ def counts():
     of_one = [count for count in (len(list(folder.glob('*.edit'))) for folder in ROOT.glob('crates/*/must-fail')) if count]
     operation = (ROOT / 'crates/kds_json/src/operation.rt').read_text()
     operations = re.search(r'pub enum Operation \{(.*?)\n\}', operation, re.S)[1]
-    definitions, _, lines = re.search(r'(\d+) definitions in (\d+) files, (\d+) lines', '\n'.join(reached.table())).groups()
+    table = '\n'.join(reached.table())
+    definitions, lines = re.search(r'(\d+) definitions in \d+ files, (\d+) lines', table).groups()
     ends = ('crates/kds_cli/src/main.rt', 'crates/kds_cli_runs/src/host.rt')
     return {
         'crates': int(listed[0]), 'program': int(listed[1]), 'edits': len(edits), 'bodies': len(bodies), 'edited': len(of_one), 'least': min(of_one), 'most': max(of_one),
         'operations': len(re.findall(r'^    (\w+),', operations, re.M)),
-        'definitions': int(definitions), 'definition_lines': int(lines), 'clauses': len(re.findall(r'\bensures ', reached.contract())),
+        'definitions': int(definitions), 'definition_lines': int(lines),
+        'clauses': len(re.findall(r'\bensures ', reached.contract())),
         'end_lines': sum(len((ROOT / path).read_text().splitlines()) for path in ends),
     }
 

@@ -31,6 +31,11 @@ def of_files(name, *words, program=DUMP):
     return made(*words, program=program, cwd=EXAMPLES)
 
 
+# What is told of a lease that nobody created.
+NO_LEASE = ('schedule: the input: line 7: host-b take b: refused NoLease: '
+            'write host-b create b before it, or begin with clients/dump --story')
+
+
 class Schedules(unittest.TestCase):
     def test_dates_become_moments(self):
         # a date, the seconds since 1970 that `date` tells, and the milliseconds behind them
@@ -62,7 +67,8 @@ class Schedules(unittest.TestCase):
         none, beyond = 'it begins with no moment and no date', 'the moment is below 0, or 2^62 or more'
         odd = 'the word after the time is not api, raw, worker, step, stop or hand'
         words = 'create, take, open, fetch, process, checkpoint, renew, release, hand, delete, restarts, or stream, split, merge, records'
-        for line, why in [(b'2026-11-29T14:05:33 raw 1 rows', 'the date has no zone: write Z after it for UTC, or call with --utc'),
+        for line, why in [(b'2026-11-29T14:05:33 raw 1 rows',
+                           'the date has no zone: write Z after it for UTC, or call with --utc'),
                           (b'2026-02-30T14:05:33Z raw 1 rows', 'there is no such date'), (b'worker-a took a lease', none),
                           (b'1000', none), (b'01 raw 1 rows', none),
                           (b'4611686018427387904 raw 1 rows', beyond), (b'1969-12-31T23:59:59Z raw 1 rows', beyond),
@@ -175,8 +181,8 @@ class Stories(unittest.TestCase):
                    'schedule: a: 2 of the records that the log has stood in no records line, and were put where the log has them first\n')
         split = '1002 api SplitShard {"StreamName":"orders","ShardToSplit":"shardId-000000000000","NewStartingHashKey":"85070591730234615865843651857942052864"}'
         self.story('1002 split a c d\n1003 host-a process a 3', [split, '1003 raw 1 read 1 0 3', '1003 raw 1 give 1'],
-                   'schedule: the input: line 8: host-a process a 3: the log has 3 records, and the replay delivers 1: a closed shard takes no more, so a records line of it stands before its split or '
-                   'merge\n')
+                   'schedule: the input: line 8: host-a process a 3: the log has 3 records, and the replay delivers 1: '
+                   'a closed shard takes no more, so a records line of it stands before its split or merge\n')
         self.story('1002 host-a process a\n1003 host-a process a 0', ['1002 raw 1 read 1 0 1000', '1002 raw 1 give 1', '1003 raw 1 read 1 2 1000', '1003 raw 1 give 1'])
         self.story('1002 host-a process a to 7', ['1002 raw 1 read 1 0 1000', '1002 raw 1 give 1'],
                    'schedule: the input: line 7: host-a process a to 7: the log has 7, which is record 7 here, and the last record processed is 1: ' + CAUSES)
@@ -184,13 +190,14 @@ class Stories(unittest.TestCase):
         self.story('1002 records b 1 to 9', ['1002 api PutRecords {"StreamName":"orders","Records":[{"Data":"","PartitionKey":"record","ExplicitHashKey":'
                                               '"170141183460469231731687303715884105728"}]}'],
                    'schedule: the input: line 7: records b 1 to 9: the log has 9, which is record 9 here, and the last record put is 3: ' + CAUSES)
-        self.story('1002 host-b take b', ['1002 raw 2 take 1/1 0 w2'], 'schedule: the input: line 7: host-b take b: refused NoLease: write host-b create b before it, or begin with clients/dump --story\n')
+        self.story('1002 host-b take b', ['1002 raw 2 take 1/1 0 w2'], f'{NO_LEASE}\n')
 
     def test_what_a_log_says_failed(self):
         read = ['1002 raw 1 read 1 0 1000', '1002 raw 1 give 1']
         self.story('1002 host-b take b fails', ['1002 raw 2 take 1/1 0 w2'])
         self.story('1002 host-a process a\n1003 host-a checkpoint a fails', [*read, '1003 raw 1 mark 1 1 1'],
-                   'schedule: the input: line 8: host-a checkpoint a fails: the log says that it failed, and the replay answers ok counter 2: ' + CAUSES)
+                   'schedule: the input: line 8: host-a checkpoint a fails: '
+                   'the log says that it failed, and the replay answers ok counter 2: ' + CAUSES)
         self.story('1002 host-a process a to 49000000000000000000000000001\n1003 host-a checkpoint a\n1004 host-b take a at 49000000000000000000000000001\n1004 host-b open a at 1',
                    [*read, '1003 raw 1 mark 1 1 1', '1004 raw 2 take 1/0 2 w2', '1004 raw 2 open 2'])
         self.story('1002 host-a process a to 49000000000000000000000000001\n1004 host-b take a\n1004 host-b open a at 49000000000000000000000000001', [*read, '1004 raw 2 take 1/0 1 w2', '1004 raw 2 open 2'],
@@ -201,7 +208,8 @@ class Stories(unittest.TestCase):
             self.story(f'1002 host-a take a at {at}', ['1002 raw 1 take 1/0 1 w1'],
                        here and f'schedule: the input: line 7: host-a take a at {at}: the log begins at {at}, and here the lease begins at {here}: is a checkpoint line missing, or is the clock of a host wrong?\n')
         # what was told before a line that can't be is told
-        self.assertEqual((1, b'', 'schedule: the input: line 7: host-b take b: refused NoLease: write host-b create b before it, or begin with clients/dump --story\nschedule: the input: line 8: host-b has no tenure of b: its take, line 7, was refused NoLease\n'),
+        self.assertEqual((1, b'', f'{NO_LEASE}\nschedule: the input: line 8: host-b has no tenure of b: '
+                          'its take, line 7, was refused NoLease\n'),
                          made(text=(START + '1002 host-b take b\n1003 host-b open b\n').encode()))
         self.refused('1002 raw \x1b[31m take b', '?[31m is no name of a host')
 
@@ -215,12 +223,19 @@ class Stories(unittest.TestCase):
                 ('1002 host-a process a many', 'expected a number of records from 0 to 10000, not many'),
                 ('1002 host-a process a 3 up', 'expected HOST process SHARD [N] [to NUMBER]'),
                 ('1002 host-a checkpoint a 5', 'expected HOST checkpoint SHARD [at NUMBER | at end]'),
-                ('1002 host-a checkpoint a at 49000000000000000000000000002', 'no record has the number 49000000000000000000000000002: write it after "to" in an earlier '
-                 'records or process line of this shard'),
+                ('1002 host-a checkpoint a at 49000000000000000000000000002',
+                 'no record has the number 49000000000000000000000000002: '
+                 'write it after "to" in an earlier records or process line of this shard'),
                 ('1002 split a c', 'expected split SHARD LOW HIGH [at HASHKEY]'), ('1002 split a c b', 'the shard b is there already: expected a new name'),
-                ('1002 merge a a c', 'MergeShards is answered 400 '), ('1002 records a 0', 'expected a number of records from 1 to 100000, not 0'),
-                ('1002 stream orders x', 'CreateStream is answered 400 '), ('1002 host-a t\x1bake a', 'the word after the time is not api'), ('1002 raw 1 mark a', 'actor 1 has no tenure of a: '),
-                ('1002 raw 1 rows 5', 'the replay ended here: '), ('1002 raw', 'after raw: an actor and a command'), ('1002 raw 1', 'after raw: an actor and a command'), ('1002 records a 2 to 4', '')]:
+                ('1002 merge a a c', 'MergeShards is answered 400 '),
+                ('1002 records a 0', 'expected a number of records from 1 to 100000, not 0'),
+                ('1002 stream orders x', 'CreateStream is answered 400 '),
+                ('1002 host-a t\x1bake a', 'the word after the time is not api'),
+                ('1002 raw 1 mark a', 'actor 1 has no tenure of a: '),
+                ('1002 raw 1 rows 5', 'the replay ended here: '),
+                ('1002 raw', 'after raw: an actor and a command'),
+                ('1002 raw 1', 'after raw: an actor and a command'),
+                ('1002 records a 2 to 4', '')]:
             with self.subTest(text=text):
                 status, out, said = made(text=(START + text + '\n').encode())
                 if why:
@@ -366,7 +381,8 @@ class Mistakes(unittest.TestCase):
             with self.subTest(numbers=numbers):
                 twice, said = self.told(numbers, True, self.late('d', 14_000, 180_000))
                 self.assertEqual(0, twice)
-                self.assertRegex(said, r'line \d+: a checkpoint x .*fails: the log says that it failed, and the replay answers ok counter \d')
+                self.assertRegex(said, r'line \d+: a checkpoint x .*fails: '
+                                 r'the log says that it failed, and the replay answers ok counter \d')
                 # the lease was taken 11,900 ms or more after the last line of a before it, and at most 9,100 ms before the next: the clock is ahead by 14,000 ms
                 self.assertIn('schedule: all of it fits if the clock of d is ahead by ', said)
                 least, most = map(float, re.search(r'ahead by ([\d.]+) to ([\d.]+) s', said).groups())
@@ -512,11 +528,15 @@ class Dumps(unittest.TestCase):
         self.assertIn('merge s0 s1 s2', self.beginning([{'leaseKey': 's0', **ended}, {'leaseKey': 's2', 'parentShardId': ['s0', 's1'], **first}]))
 
     def test_what_cannot_be_read_is_told(self):
-        for text, why in [(b'', "line 1: expected JSON, or CSV whose first line names leaseKey and checkpoint"), (b'\x1f\x8bx', 'is compressed: gunzip it first'),
-                          (b'\xff\xfe', "isn't text: expected JSON or CSV"), (b'{"a":1}', 'line 1: leaseKey is missing: expected a name without spaces, of ASCII'),
-                          (b'{"Items":[]}', 'there is no lease in it'), (b'{"leaseKey":"a","checkpoint":"5"}\nx', "line 2: isn't JSON"),
+        for text, why in [(b'', "line 1: expected JSON, or CSV whose first line names leaseKey and checkpoint"),
+                          (b'\x1f\x8bx', 'is compressed: gunzip it first'),
+                          (b'\xff\xfe', "isn't text: expected JSON or CSV"),
+                          (b'{"a":1}', 'line 1: leaseKey is missing: expected a name without spaces, of ASCII'),
+                          (b'{"Items":[]}', 'there is no lease in it'),
+                          (b'{"leaseKey":"a","checkpoint":"5"}\nx', "line 2: isn't JSON"),
                           (b'{"leaseKey":"a","checkpoint":"x"}', 'line 1: the checkpoint x: expected a sequence number, TRIM_HORIZON, LATEST, AT_TIMESTAMP or SHARD_END'),
-                          (b'leaseKey,checkpoint\na,5\na,5\n', 'line 3: the lease a stands here twice'), (b'[' * 100_000, "line 1: isn't JSON"),
+                          (b'leaseKey,checkpoint\na,5\na,5\n', 'line 3: the lease a stands here twice'),
+                          (b'[' * 100_000, "line 1: isn't JSON"),
                           (b'leaseKey,checkpoint,leaseCounter\na,5,x\n', 'line 2: leaseCounter is x: expected a number')]:
             with self.subTest(text=text[:40]), tempfile.NamedTemporaryFile() as file:
                 file.write(text)

@@ -98,7 +98,7 @@ class Script(unittest.TestCase):
 
 
 class FirstCommands(unittest.TestCase):
-    """README's first two blocks, pasted line by line into a fresh copy of the repository, with nothing between the lines.
+    """README's first two blocks, pasted line by line into a fresh copy of the repository, with nothing between them.
     A kept build of these sources saves the minutes of the first one. The tests, of which this is one, are a stub."""
 
     TESTS = 'all but the proofs'
@@ -115,7 +115,8 @@ class FirstCommands(unittest.TestCase):
                 shutil.copytree(ROOT / kept, self.clone / kept)
         (self.clone / '.ci/quick.sh').write_text(f'echo {self.TESTS}\n')
         self.given = {name: value for name, value in os.environ.items() if name != 'KDS'}
-        said = subprocess.run(['./kds', '--version'], cwd=self.clone, env=self.given, stdout=subprocess.PIPE, text=True, check=True)
+        said = subprocess.run(['./kds', '--version'], cwd=self.clone, env=self.given,
+                              stdout=subprocess.PIPE, text=True, check=True)
         if 'once that is built' in said.stdout:
             self.skipTest('no build of these sources is kept')
 

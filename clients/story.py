@@ -54,7 +54,8 @@ def is_by_names(rest):
     words = rest.split()
     if not words or words[0] not in KINDS:
         return True
-    return words[0] == 'raw' and (len(words) < 3 or not words[1].isdigit() or len(words) > 3 and words[2] in BY_SHARD and is_shard(words[2], words[3:]))
+    names_shard = len(words) > 3 and words[2] in BY_SHARD and is_shard(words[2], words[3:])
+    return words[0] == 'raw' and (len(words) < 3 or not words[1].isdigit() or names_shard)
 
 
 def is_shard(verb, words):
@@ -501,7 +502,8 @@ class Story:
         record = self.record_of(key, number)
         if record is None:
             if not it.delivered:
-                raise Misplaced(f'no record has the number {number}: write it after "to" in an earlier records or process line of this shard')
+                raise Misplaced(f'no record has the number {number}: '
+                                'write it after "to" in an earlier records or process line of this shard')
             record = last_of(it)
             self.names.bind(key, number, record)
         return self.command(by, host, 'mark', key, [str(record)])
@@ -564,7 +566,8 @@ class Story:
         if verb == 'take' and host.isdigit() and len(rest) < 2:
             raise Unreadable('expected raw BY take SHARD wN, for an actor that is a number')
         if not least <= len(rest) <= most:
-            raise Unreadable(f'expected raw BY {verb} SHARD with at most {most - 1} words after it: counter and position are the replay\'s')
+            raise Unreadable(f'expected raw BY {verb} SHARD with at most {most - 1} words after it: '
+                             'counter and position are the replay\'s')
         return self.command(by, self.names.actors.get(by, f'actor {by}'), verb, key, rest[1:])
 
     def expected(self, word):

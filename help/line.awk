@@ -6,6 +6,8 @@ function is_key(text) { return text ~ /^(0|[1-9][0-9]*)\/(0|[1-9][0-9]*)$/ }
 function is_worker(text) { return text ~ /^w[1-9][0-9]*$/ }
 function is_actor(text) { return is_number(text) && length(text) < 4 && text > 0 }
 
+BEGIN { commands = "survey, rows, make, take, renew, free, open, read, give, mark, cut" }
+
 # The fields of a command on leases after its word, each by the letter of its kind.
 function form_of(word) {
     if (word == "survey" || word == "rows") return word
@@ -21,16 +23,19 @@ function form_of(word) {
 
 function check_command(first,    word) {
     word = field[first]
-    if (word == "") say("after the actor a command is missing: one of survey, rows, make, take, renew, free, open, read, give, mark, cut")
-    if (form_of(word) == "") say("there is no command " word ": it is one of survey, rows, make, take, renew, free, open, read, give, mark, cut")
-    if (word ~ /^(make|take|cut)$/ && !is_key(field[first + 1])) say("KEY is STREAM/SHARD, as 1/0, not \"" field[first + 1] "\"")
-    if (word == "take" && !is_worker(field[first + 3])) say("the worker is w and a number from 1, as w1, not \"" field[first + 3] "\"")
+    if (word == "") say("after the actor a command is missing: one of " commands)
+    if (form_of(word) == "") say("there is no command " word ": it is one of " commands)
+    if (word ~ /^(make|take|cut)$/ && !is_key(field[first + 1]))
+        say("KEY is STREAM/SHARD, as 1/0, not \"" field[first + 1] "\"")
+    if (word == "take" && !is_worker(field[first + 3]))
+        say("the worker is w and a number from 1, as w1, not \"" field[first + 3] "\"")
     say("the form is " form_of(word))
 }
 
 function check_api() {
     if (count < 3) say("after api an operation is missing, as in: 1000 api ListStreams {}")
-    if (field[3] !~ /^[A-Za-z0-9]+$/ || length(field[3]) > 64) say("the operation is 1 to 64 letters or digits, not \"" substr(field[3], 1, 80) "\"")
+    if (field[3] !~ /^[A-Za-z0-9]+$/ || length(field[3]) > 64)
+        say("the operation is 1 to 64 letters or digits, not \"" substr(field[3], 1, 80) "\"")
     if (count < 4) say("after the operation a space and a body are missing: write at least a space, or {}")
 }
 
@@ -51,8 +56,10 @@ function check_worker() {
     if (text ~ /^ /) say("it begins with a space")
     # split by one space, so that two are seen
     count = split(text, field, /[ ]/)
-    if (!is_number(field[1])) say("the first field must be a time in milliseconds (no leading zeros), not \"" substr(field[1], 1, 80) "\"")
-    if (length(field[1]) > 19 || (length(field[1]) == 19 && field[1] "" > "4611686018427387903")) say("a time is in milliseconds, below 2^62: this has " length(field[1]) " digits")
+    if (!is_number(field[1]))
+        say("the first field must be a time in milliseconds (no leading zeros), not \"" substr(field[1], 1, 80) "\"")
+    if (length(field[1]) > 19 || (length(field[1]) == 19 && field[1] "" > "4611686018427387903"))
+        say("a time is in milliseconds, below 2^62: this has " length(field[1]) " digits")
     if (count < 2 || field[2] !~ /^(api|raw|worker|step|stop|hand)$/) {
         if (field[2] == "" && count > 2) say("write one space after the time, not two")
         say("the second field is api, raw, worker, step, stop or hand, not \"" substr(field[2], 1, 80) "\"")
