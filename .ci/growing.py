@@ -7,23 +7,25 @@ KEYS = 2**128
 
 
 class Stream:
-    """The lines that make a stream `s` of some shards and then split and merge a hot one of them, the others staying as they are."""
+    """The lines that make a stream of some shards and then split and merge a hot one of them, the others staying as they are."""
 
-    def __init__(self, shards, hot):
+    def __init__(self, shards, hot, called='s'):
+        self.called = called
         self.count = self.made = shards
         self.open = {place: place for place in hot}  # the open shard that stands at each hot place
         self.turns = itertools.cycle(hot)
 
     def begin(self):
-        yield f'1000 api CreateStream {{"StreamName":"s","ShardCount":{self.count}}}'
+        yield f'1000 api CreateStream {{"StreamName":"{self.called}","ShardCount":{self.count}}}'
 
     def round(self, at, number):
         """Splits the shard of the next hot place, and merges its children again."""
         place = next(self.turns)
         key = (2 * place + 1) * KEYS // (2 * self.count) + number
-        yield f'{at} api SplitShard {{"StreamName":"s","ShardToSplit":"{name(self.open[place])}","NewStartingHashKey":"{key}"}}'
+        stream = f'"StreamName":"{self.called}"'
+        yield f'{at} api SplitShard {{{stream},"ShardToSplit":"{name(self.open[place])}","NewStartingHashKey":"{key}"}}'
         low, self.made = self.made, self.made + 3
-        yield f'{at} api MergeShards {{"StreamName":"s","ShardToMerge":"{name(low)}","AdjacentShardToMerge":"{name(low + 1)}"}}'
+        yield f'{at} api MergeShards {{{stream},"ShardToMerge":"{name(low)}","AdjacentShardToMerge":"{name(low + 1)}"}}'
         self.open[place] = low + 2
 
 
@@ -97,13 +99,78 @@ def survivor(count):
     yield from (f'{2000 + 2 * count * DAY + 20_000 * step} step 1000' for step in range(count))
 
 
+def surveys(at):
+    """The first steps of some workers, in each of which the worker surveys all rows and shards."""
+    for worker in range(8):
+        yield f'{at} worker w{worker + 1} tally'
+        yield f'{at} step {1000 + worker}'
+
+
 def first_surveys(count):
     """Many listed shards, a row for each, and then the first steps of some workers."""
     yield from rounds(SHAPES[0], count)
     yield from (f'{2000 + count} raw 1 make 1/{shard}' for shard in range(3 * count + 1))
-    for worker in range(8):
-        yield f'{3000 + count} worker w{worker + 1} tally'
-        yield f'{3000 + count} step {1000 + worker}'
+    yield from surveys(3000 + count)
+
+
+def owned_rows(count):
+    """Listed shards, a row for each of another worker, and the first steps of some further workers."""
+    yield from rounds(SHAPES[0], count // 5)
+    yield from (f'{2000 + count} raw 1 make 1/{shard}' for shard in range(3 * (count // 5) + 1))
+    yield from (f'{2000 + count} raw 1 take 1/{shard} 0 w{100 + shard}' for shard in range(3 * (count // 5) + 1))
+    yield from surveys(3000 + count)
+
+
+def missing_rows(count):
+    """Listed shards, every second one without a row, and the first steps of some workers."""
+    yield from rounds(SHAPES[0], count // 5)
+    yield from (f'{2000 + count} raw 1 make 1/{shard}' for shard in range(0, 3 * (count // 5) + 1, 2))
+    yield from surveys(3000 + count)
+
+
+def second_stream(count, at):
+    """A further stream with so many splits and merges at one moment, and a row for each of its shards."""
+    stream = Stream(1, [0], 't')
+    yield from stream.begin()
+    for number in range(count):
+        yield from stream.round(at, number)
+    yield from (f'{at} raw 1 make 2/{shard}' for shard in range(stream.made))
+
+
+def rows_of_another_stream(count):
+    """Listed shards of two streams, rows for those of the second alone, and the first steps of some workers."""
+    yield from rounds(SHAPES[0], count // 5)
+    yield from second_stream(count // 5, 2000 + count)
+    yield from surveys(3000 + count)
+
+
+def expired_rows(count):
+    """Rows of expired shards, rows of the listed shards of another stream, and the first steps of some workers."""
+    yield from rounds(SHAPES[0], count // 5)
+    yield from (f'{2000 + count} raw 1 make 1/{shard}' for shard in range(3 * (count // 5) + 1))
+    yield from second_stream(count // 5, 2000 + count + 2 * DAY)
+    yield from surveys(3000 + count + 2 * DAY)
+
+
+def fleet(count):
+    """A worker for each shard of a stream, until each holds a lease, and then three rounds of steps."""
+    shards = 2 * count // 25
+    yield f'1000 api CreateStream {{"StreamName":"s","ShardCount":{shards}}}'
+    yield from (f'1000 worker w{1 + worker} tally' for worker in range(shards))
+    yield from ('1000 step 1000' for _ in range(shards + 1))
+    yield from (f'1000 step {1000 + worker}' for worker in range(shards) for _ in range(6))
+    for number in range(3):
+        yield from (f'{2000 + number} step {1000 + worker}' for worker in range(shards) for _ in range(2))
+
+
+def scaled(count):
+    """A stream of many shards, scaled to one fewer and back four times: a scaling splits and merges nearly all."""
+    shards = count // 10
+    yield f'1000 api CreateStream {{"StreamName":"s","ShardCount":{shards}}}'
+    for number in range(4):
+        for target in (shards - 1, shards):
+            yield (f'{1000 + number} api UpdateShardCount '
+                   f'{{"StreamName":"s","TargetShardCount":{target},"ScalingType":"UNIFORM_SCALING"}}')
 
 
 def made_and_deleted(count):
@@ -133,6 +200,29 @@ def quiet_reads(count):
         yield f'{1000 + number} raw 1 give 1'
 
 
+def reads_behind_expired(count):
+    """Puts, and two days later reads of a tenure that begins before all that has expired, and so finds nothing."""
+    yield '1000 api CreateStream {"StreamName":"s","ShardCount":1}'
+    yield from ('1000 api PutRecord {"StreamName":"s","PartitionKey":"a","Data":"aGk="}' for _ in range(count))
+    at = 1000 + 2 * DAY
+    yield from (f'{at} raw 1 {what}' for what in ('make 1/0', 'take 1/0 0 w1', 'open 1'))
+    for _ in range(count):
+        yield f'{at} raw 1 read 1 0 10'
+        yield f'{at} raw 1 give 1'
+
+
+def tenures_behind_expired(count):
+    """Puts, two days later a split of their shard, and then tenures of it that each read, and find no record left."""
+    yield '1000 api CreateStream {"StreamName":"s","ShardCount":1}'
+    yield from ('1000 api PutRecord {"StreamName":"s","PartitionKey":"a","Data":"aGk="}' for _ in range(count))
+    at = 1000 + 2 * DAY
+    yield f'{at} api SplitShard {{"StreamName":"s","ShardToSplit":"{name(0)}","NewStartingHashKey":"{KEYS // 2}"}}'
+    yield f'{at} raw 1 make 1/0'
+    for tenure in range(1, count + 1):
+        yield f'{at} raw 1 take 1/0 {tenure - 1} w1'
+        yield from (f'{at} raw 1 {what}' for what in (f'open {tenure}', f'read {tenure} 0 10', f'give {tenure}'))
+
+
 def rows_at_a_moment(count):
     """Reshards of a shard, and in each shard that a merge made a put and a row from the moment of the put on."""
     stream = Stream(1, [0])
@@ -151,9 +241,14 @@ def limited_puts(count):
     yield from (f'{1000 + number} api PutRecord {{"StreamName":"s","PartitionKey":"a","Data":"aGk="}}' for number in range(count))
 
 
-# A worker keeps a note on each row that it ever saw, and plans on a copy of its notes. So its steps cost a copy of them all (docs/performance.md).
-SURVIVOR = 'steps of a worker that lived through reshards'
-BY_DECISION = {SURVIVOR: 2.8}
+# What grows faster, as docs/performance.md says. A worker keeps a note on each row that it ever saw, and plans on a copy
+# of its notes: its steps cost a copy of them all. Twice as many workers each survey twice as many rows. Twice as many
+# steps of a scaling each move the places of up to twice as many open shards.
+SURVIVOR, FLEET = 'steps of a worker that lived through reshards', 'a worker for each shard'
+SCALED = 'scaling to one shard fewer and back'
+BY_DECISION = {SURVIVOR: 2.8, FLEET: 4.4, SCALED: 3.3}
+# Kinds that would need more than the 500 open shards that there may be if they had more rounds.
+FEW_ROUNDS = {FLEET: 1_000, SCALED: 1_000}
 # What is measured: a name, the lines of so many rounds, and whether the journal of the lines is audited in place of a replay of the lines.
 LISTINGS = [('first pages', first_page), ('whole pages', whole_page), ('later pages', later_page), ('descriptions', description),
             ('later descriptions', later_description)]
@@ -164,8 +259,16 @@ KINDS = [
     *[(f'pages while shards expire, {shape[0]}', lambda count, shape=shape: expiring(shape, count), False) for shape in SHAPES],
     (SURVIVOR, survivor, False),
     ('first surveys of many shards', first_surveys, False),
+    ('first surveys of rows of many owners', owned_rows, False),
+    ('first surveys of shards without rows', missing_rows, False),
+    ('first surveys of rows of another stream', rows_of_another_stream, False),
+    ('first surveys of rows of expired shards', expired_rows, False),
+    (FLEET, fleet, False),
+    (SCALED, scaled, False),
     ('an audit of streams made and deleted', made_and_deleted, True),
     ('an audit of reads beside a busy shard', quiet_reads, True),
+    ('an audit of reads behind expired records', reads_behind_expired, True),
+    ('an audit of tenures behind expired records', tenures_behind_expired, True),
     ('an audit of rows made at a moment', rows_at_a_moment, True),
     ('an audit of puts under limits', limited_puts, True),
 ]

@@ -15,7 +15,7 @@ import tempfile
 import threading
 
 from checks import SECONDS, Tally, asked, fail, program
-from growing import BY_DECISION, KINDS
+from growing import BY_DECISION, FEW_ROUNDS, KINDS
 
 COUNTED = shutil.which('valgrind')
 ROUNDS, MOST = (1_000, 2.3) if COUNTED else (10_000, 3)
@@ -72,10 +72,14 @@ def written(folder, name, kind, count, audited):
     return f'{schedule} journal'
 
 
+def rounds(name):
+    return min(ROUNDS, FEW_ROUNDS.get(name, ROUNDS))
+
+
 def measured(folder, name, kind, audited):
     """The least costs of both lengths."""
     word = 'audit' if audited else 'replay'
-    files = [written(folder, name, kind, count, audited) for count in (ROUNDS, 2 * ROUNDS)]
+    files = [written(folder, name, kind, count, audited) for count in (rounds(name), 2 * rounds(name))]
     costs = [], []
     while len(costs[0]) < (1 if COUNTED else RUNS) or not COUNTED and len(costs[0]) < 2 * RUNS and min(costs[1]) > MOST * min(costs[0]):
         for file, found in zip(files, costs):
@@ -94,7 +98,8 @@ def main():
     with tempfile.TemporaryDirectory() as folder, concurrent.futures.ThreadPoolExecutor(os.cpu_count() if COUNTED else 1) as pool:
         found = list(pool.map(lambda kind: measured(folder, *kind), kinds))
     for (name, _, _), (one, two) in zip(kinds, found):
-        says = f'{name}: {one:.2f} {unit} for {ROUNDS:,} rounds, and {two:.2f}, {two / one:.2f} times as much, for {2 * ROUNDS:,}'
+        says = (f'{name}: {one:.2f} {unit} for {rounds(name):,} rounds, and {two:.2f}, {two / one:.2f} times as much, '
+                f'for {2 * rounds(name):,}')
         tally.holds(two <= max(MOST, BY_DECISION.get(name, 0)) * one, says)
         if words:
             print(says)
