@@ -323,7 +323,7 @@ cat > "$fakes/step" << 'END'
 does() { [ "$(cat "$FAKES/does")" = "$1" ]; }
 hang() {
     sleep 600 &
-    echo "$$ $!" > "$FAKES/processes"
+    printf '%s ' "$$" "$!" >> "$FAKES/processes" # of several that are at this step at once, on one line
     wait
 }
 full() { echo "$1: error writing 'module.o': No space left on device" >&2; exit 1; }
@@ -374,13 +374,25 @@ cat > "$fakes/kits/kit/toolchain/bin/clang" << 'END'
 source "$FAKES/step"
 case " $* " in
     *' -O0 '*) exit 0 ;;
+    *' -S '*) # the text of the module: the lines of the program stand before its function, where each part has them too
+        sed 's/^/source_filename = /' module.bc
+        printf 'define i32 @main() {\n}\n'
+        ! does strange || echo 'module asm "strange"'
+        exit ;;
     *' --sysroot='*'/kits/kit/toolchain -march=x86-64-v2 '*) ;;
     *) echo "error: other words: $*" >&2; exit 1 ;;
 esac
 ! does hang-clang || hang
 ! does full-clang || full clang
 ! does odd || { echo 'clang: error: an odd module' >&2; exit 1; }
-cp module.bc module.o
+while [ "$1" != ir ]; do shift; done
+sed -n 's/^source_filename = //p' "$2" > "$4"
+END
+cat > "$fakes/kits/kit/bin/python3" << 'END'
+#!/usr/bin/env bash
+source "$FAKES/step"
+! does no-python || { echo 'python3: command not found' >&2; exit 127; }
+PATH=${PATH#*:} exec python3 "$@"
 END
 cat > "$fakes/kits/kit/bin/rattle-link" << 'END'
 #!/usr/bin/env bash
@@ -534,6 +546,18 @@ fake 2 '' 1 "$then"$'kds: this kit\'s inside isn\'t as the quick program needs i
 for step in try clang link; do
     stopped TERM "hang-$step" ./kds -c 'echo ran'
 done
+# The module is compiled in parts, and as one where it can't be split: on one processor nothing tries to.
+one=${then}'kds: compiled as one: '
+fake 0 ran 1 "$one"$'a line of the module is of no known form: module asm "strange"\n' strange ./kds -c 'echo ran'
+tell "$(($(cat "$fake/out/quick/parts") != 1))" 'the parts of a strange module' "$(cat "$fake/out/quick/parts")"
+echo two of one >> "$source"
+fake 0 ran 1 "$one"$'python3: command not found\n' no-python ./kds -c 'echo ran'
+echo two of one >> "$source"
+fake 0 ran 1 "$then" strange env OMP_NUM_THREADS=1 ./kds -c 'echo ran'
+echo two of parts >> "$source"
+fake 0 ran 1 "$then" build env OMP_NUM_THREADS=3 ./kds -c 'echo ran'
+tell "$(($(cat "$fake/out/quick/parts") != 3))" 'the parts of a module' "$(cat "$fake/out/quick/parts")"
+echo two once more > "$source"
 stopped INT hang-try ./dev try -c 'echo ran'
 killed hang-try ./kds -c 'echo ran'
 echo two and more > "$source"
@@ -628,7 +652,7 @@ for _ in {1..300}; do
 done
 kill -TERM $!
 wait $!
-[ $? -eq 143 ] && read -ra processes < "$fakes/processes" && ! kill -0 "${processes[0]}" 2> /dev/null
+[ $? -eq 143 ] && { read -ra processes < "$fakes/processes" || true; } && ! kill -0 "${processes[0]}" 2> /dev/null
 tell $? 'a gate that is ended' "$(cat "$work/out" "$work/err")"
 kill "${processes[1]}" 2> /dev/null
 fake=$whole

@@ -29,7 +29,18 @@ tests() { # CRATE
     rt try --seconds 300 -- "${words[@]}" < "$input" > "$work/given" && cmp "$work/given" stdout
 }
 
-steps=()
+# A first run compiles the program in parts, unless there is one processor (help/quick). One that help/parts.py refuses
+# is compiled as one, which takes longer.
+in_parts() {
+    if ! [ "$KDS" -ef "out/quick/${KDS##*/}" ]; then
+        echo "skipped: KDS names a program that isn't this folder's quick one"
+        return
+    fi
+    echo "compiled in parts: $(cat out/quick/parts)"
+    [ "$(nproc)" -eq 1 ] || [ "$(cat out/quick/parts)" -gt 1 ]
+}
+
+steps=(in_parts)
 for place in crates/test_*; do
     steps+=("tests ${place##*/}")
 done
