@@ -50,7 +50,7 @@ def program():
 
 
 def tunables():
-    """What `./kds serve` tells its allocator of memory where the caller doesn't: the value of GLIBC_TUNABLES."""
+    """What `./kds` tells its allocator of memory where the caller doesn't: the value of GLIBC_TUNABLES."""
     return re.search(r'^tunables=(.*)$', (ROOT / 'help' / 'programs').read_text(), re.M)[1]
 
 

@@ -572,7 +572,10 @@ fake 0 ran 0 '' build env KDS="$fakes/program" ./kds -c 'echo ran'
 fake 0 "$version $fakes/program, which KDS names" 0 '' build env KDS="$fakes/program" ./kds --version
 fake 0 "$fakes/program" 0 '' build env KDS=../program help/checked
 
-fake 0 "$(sed -n 's/^tunables=//p' help/programs)" 0 '' build env -u GLIBC_TUNABLES KDS="$fakes/program" ./kds serve 4592 2
+setting=$(sed -n 's/^tunables=//p' help/programs)
+fake 0 "$setting" 0 '' build env -u GLIBC_TUNABLES KDS="$fakes/program" ./kds serve 4592 2
+# shellcheck disable=SC2016 # the program's words
+fake 0 "$setting" 0 '' build env -u GLIBC_TUNABLES KDS="$fakes/program" ./kds -c 'echo "$GLIBC_TUNABLES"'
 fake 0 glibc.malloc.tcache_count=3 0 '' build env GLIBC_TUNABLES=glibc.malloc.tcache_count=3 KDS="$fakes/program" ./kds serve 4592 2
 
 # The proved one.
