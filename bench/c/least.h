@@ -8,6 +8,7 @@
 #include <stdio.h>
 #include <stdlib.h>
 #include <string.h>
+#include <tmmintrin.h>
 
 typedef unsigned __int128 u128;
 
@@ -102,13 +103,32 @@ static void base64_begin(void) {
     }
 }
 
-/* Decodes, and gives the number of bytes, or -1 if the text isn't base64. It may write a byte behind them. */
-static PART long decode(struct text from, unsigned char *to) {
+/* Decodes, and gives the number of bytes, or -1 if the text isn't base64. It may write 16 bytes behind them. It takes
+ * sixteen digits at once (W. Mula's way, SSSE3): the processors that the program is compiled for have that too. */
+__attribute__((target("ssse3"))) static PART long decode(struct text from, unsigned char *to) {
     if (from.len % 4) return -1;
     if (!from.len) return 0;
     const unsigned char *at = (const unsigned char *)from.at, *last = at + from.len - 4;
     unsigned char *end = to;
-    uint32_t seen = 0;
+    /* A byte is no digit if the entries of its two halves share a bit. A digit's value is the digit and an entry of
+     * `rolls`, by its upper half; '/' has one of its own. */
+    const __m128i lows = _mm_setr_epi8(0x15, 0x11, 0x11, 0x11, 0x11, 0x11, 0x11, 0x11,
+                                       0x11, 0x11, 0x13, 0x1A, 0x1B, 0x1B, 0x1B, 0x1A);
+    const __m128i highs = _mm_setr_epi8(0x10, 0x10, 0x01, 0x02, 0x04, 0x08, 0x04, 0x08,
+                                        0x10, 0x10, 0x10, 0x10, 0x10, 0x10, 0x10, 0x10);
+    const __m128i rolls = _mm_setr_epi8(0, 16, 19, 4, -65, -65, -71, -71, 0, 0, 0, 0, 0, 0, 0, 0);
+    const __m128i order = _mm_setr_epi8(2, 1, 0, 6, 5, 4, 10, 9, 8, 14, 13, 12, -1, -1, -1, -1);
+    const __m128i slash = _mm_set1_epi8('/');
+    __m128i wrong = _mm_setzero_si128();
+    for (; last - at >= 16; at += 16, end += 12) {
+        __m128i v = _mm_loadu_si128((const __m128i *)at), high = _mm_and_si128(_mm_srli_epi32(v, 4), slash);
+        __m128i low = _mm_shuffle_epi8(lows, _mm_and_si128(v, slash));
+        wrong = _mm_or_si128(wrong, _mm_and_si128(low, _mm_shuffle_epi8(highs, high)));
+        v = _mm_add_epi8(v, _mm_shuffle_epi8(rolls, _mm_add_epi8(_mm_cmpeq_epi8(v, slash), high)));
+        v = _mm_madd_epi16(_mm_maddubs_epi16(v, _mm_set1_epi32(0x01400140)), _mm_set1_epi32(0x00011000));
+        _mm_storeu_si128((__m128i *)end, _mm_shuffle_epi8(v, order));
+    }
+    uint32_t seen = _mm_movemask_epi8(_mm_cmpgt_epi8(wrong, _mm_setzero_si128())) ? 1u << 31 : 0;
     for (; at < last; at += 4, end += 3) { /* all groups but the last, the only one that may be padded */
         uint32_t bits = base64_bits[0][at[0]] | base64_bits[1][at[1]] | base64_bits[2][at[2]] | base64_bits[3][at[3]];
         uint32_t bytes = __builtin_bswap32(bits << 8);
@@ -124,8 +144,18 @@ static PART long decode(struct text from, unsigned char *to) {
     return end - to;
 }
 
-static PART char *encode(const unsigned char *from, size_t len, char *to) {
+__attribute__((target("ssse3"))) static PART char *encode(const unsigned char *from, size_t len, char *to) {
     const unsigned char *end = from + len;
+    const __m128i order = _mm_setr_epi8(1, 0, 2, 1, 4, 3, 5, 4, 7, 6, 8, 7, 10, 9, 11, 10);
+    const __m128i rolls = _mm_setr_epi8(65, 71, -4, -4, -4, -4, -4, -4, -4, -4, -4, -4, -19, -16, 0, 0);
+    for (; end - from >= 16; from += 12, to += 16) { /* twelve bytes of the sixteen that are read */
+        __m128i v = _mm_shuffle_epi8(_mm_loadu_si128((const __m128i *)from), order);
+        __m128i odd = _mm_mulhi_epu16(_mm_and_si128(v, _mm_set1_epi32(0x0fc0fc00)), _mm_set1_epi32(0x04000040));
+        __m128i even = _mm_mullo_epi16(_mm_and_si128(v, _mm_set1_epi32(0x003f03f0)), _mm_set1_epi32(0x01000010));
+        v = _mm_or_si128(odd, even);
+        __m128i kind = _mm_sub_epi8(_mm_subs_epu8(v, _mm_set1_epi8(51)), _mm_cmpgt_epi8(v, _mm_set1_epi8(25)));
+        _mm_storeu_si128((__m128i *)to, _mm_add_epi8(v, _mm_shuffle_epi8(rolls, kind)));
+    }
     for (; end - from >= 8; from += 6, to += 8) { /* six bytes of the eight that are read */
         uint64_t bits;
         memcpy(&bits, from, 8);
@@ -212,6 +242,13 @@ static char *print_text(char *to, const char *text, size_t len) {
     return to + len;
 }
 #define PRINT(to, text) print_text(to, text, sizeof(text) - 1)
+
+/* The place of a name in a table of 1,024: where the search for it begins. */
+static size_t place_of(struct text name) {
+    uint32_t hash = 2166136261u;
+    for (size_t i = 0; i < name.len; i++) hash = (hash ^ (unsigned char)name.at[i]) * 16777619u;
+    return hash % 1024;
+}
 
 /* ---- a shard's records */
 

@@ -7,8 +7,14 @@
 #include "strict.h"
 #include <unistd.h>
 
+/* What a shard took within the second, counted whether or not it is enforced. */
+struct window {
+    uint64_t second, records, bytes;
+};
+
 struct shard {
     struct log log;
+    struct window taken;
     u128 start, end;
     uint64_t first, last; /* the sequence numbers that opened and ended it */
     uint64_t closed;      /* when it was closed */
@@ -64,9 +70,7 @@ static void flush_out(void) {
 static struct stream *by_name[1024];
 
 static size_t slot_of(struct text name) {
-    uint32_t hash = 2166136261u;
-    for (size_t i = 0; i < name.len; i++) hash = (hash ^ (unsigned char)name.at[i]) * 16777619u;
-    size_t slot = hash % 1024;
+    size_t slot = place_of(name);
     while (by_name[slot] && (by_name[slot]->name.len != name.len || memcmp(by_name[slot]->name.at, name.at, name.len)))
         slot = (slot + 1) % 1024;
     return slot;
@@ -156,11 +160,7 @@ static PART void print_place(size_t shard, uint64_t seq) {
     to = PRINT(to, "\"}");
 }
 
-/* What a shard took within the second, counted whether or not it is enforced. */
-static struct window { uint64_t second, records, bytes; } windows[1 << 16];
-
-static void count_put(size_t shard, size_t bytes) {
-    struct window *w = &windows[shard & 65535];
+static void count_put(struct window *w, size_t bytes) {
     if (w->second != clock_ / 1000) *w = (struct window){.second = clock_ / 1000};
     w->records++;
     w->bytes += bytes;
@@ -168,7 +168,7 @@ static void count_put(size_t shard, size_t bytes) {
 
 static PART void store(struct stream *s, struct text key, struct text data, u128 *explicit_, size_t *shard, uint64_t *seq) {
     struct record r = {.arrival = clock_, .key_len = key.len};
-    r.bytes = take(key.len + data.len / 4 * 3 + 3);
+    r.bytes = take(key.len + data.len / 4 * 3 + 16);
     memcpy(r.bytes, key.at, key.len);
     long len = decode(data, r.bytes + key.len);
     if (len < 0) exit(1);
@@ -178,7 +178,7 @@ static PART void store(struct stream *s, struct text key, struct text data, u128
     struct shard *x = &s->shards[*shard];
     trim(x);
     add_record(&x->log, r);
-    count_put(*shard, key.len + r.payload_len);
+    count_put(&x->taken, key.len + r.payload_len);
 }
 
 /* ---- requests */
@@ -194,7 +194,7 @@ static PART void fault_(const char *name, const char *message) {
 #define RECORD_BYTES 10485760u
 
 /* A record's members, and the first that is missing or not valid. */
-static PART int checked(struct found *f, u128 *hash, const char **what) {
+static PART int checked(struct item *f, u128 *hash, const char **what) {
     if (f->key.kind == NONE) { *what = "PartitionKey is missing"; return 0; }
     if (f->key.kind != STRING || !is_key(f->key.text)) { *what = "PartitionKey is not valid"; return 0; }
     if (f->data.kind == NONE) { *what = "Data is missing"; return 0; }
@@ -219,7 +219,8 @@ static void put(const char *body, const char *end) {
     u128 hash;
     struct stream *s = named(&f, body, end);
     if (!s) return;
-    if (!checked(&f, &hash, &what)) { fault_("ValidationException", what); return; }
+    struct item it = {f.key, f.data, f.hash};
+    if (!checked(&it, &hash, &what)) { fault_("ValidationException", what); return; }
     size_t shard;
     uint64_t seq;
     store(s, f.key.text, f.data.text, f.hash.kind == STRING ? &hash : NULL, &shard, &seq);
@@ -232,21 +233,13 @@ static void put_many(const char *body, const char *end) {
     struct found f;
     struct stream *s = named(&f, body, end);
     if (!s || f.records.kind != ARRAY) exit(1);
-    static struct found items[500];
-    static u128 hashes[500];
-    size_t count = 0, bytes = 0;
-    const char *at = f.records.text.at + 1, *last = f.records.text.at + f.records.text.len;
-    for (;;) {
+    static u128 hashes[MOST_ITEMS];
+    size_t count = item_count, bytes = 0;
+    if (!count) exit(1);
+    for (size_t i = 0; i < count; i++) {
         const char *what;
-        at = blank(at, last);
-        if (*at != '{' || count == 500) exit(1);
-        items[count] = (struct found){0};
-        at = members(at + 1, last, 125, take_member, &items[count]);
-        if (!checked(&items[count], &hashes[count], &what)) exit(1);
-        bytes += items[count].key.text.len + items[count].data.text.len / 4 * 3;
-        count++;
-        at = blank(at, last);
-        if (*at++ == ']') break;
+        if (!checked(&items[i], &hashes[i], &what)) exit(1);
+        bytes += items[i].key.text.len + items[i].data.text.len / 4 * 3;
     }
     if (bytes > RECORD_BYTES) exit(1);
     to = PRINT(to, "200 {\"FailedRecordCount\":0,\"Records\":[");

@@ -4,7 +4,9 @@
  *     load PORT CELL CONNECTIONS AT_ONCE SECONDS
  *
  * CELL is put100, put10k, many500 (PutRecords of 500 records of 100 bytes), get1000 (GetRecords of 1,000 records of 100
- * bytes), or fill (makes the stream, and puts 1,000 records). The connections and the time are bounded. */
+ * bytes), streams (as put100, over 64 streams in turn), fill (makes a stream of one shard, and puts 1,000 records), or
+ * fill64 (makes 64 streams of 7 shards). The puts of one record have KEYS keys in turn. The connections and the time
+ * are bounded. */
 #include "least.h"
 #include <arpa/inet.h>
 #include <netinet/tcp.h>
@@ -13,10 +15,14 @@
 #include <time.h>
 #include <unistd.h>
 
+#define KEYS 1024
+#define STREAMS 64
+
 static int port, at_once;
 static double until;
+/* so many requests of this length, one behind another */
 static char *asked;
-static size_t asked_len;
+static size_t asked_len, asked_count;
 
 static double seconds(void) {
     struct timespec t;
@@ -78,10 +84,12 @@ static void *work(void *given) {
     int socket = reach();
     size_t size = 8 << 20, len = 0;
     char *room = take(size);
+    size_t next = 0;
     while (seconds() < until) {
-        send_all(socket, asked, asked_len * (size_t)at_once);
+        send_all(socket, asked + asked_len * next, asked_len * (size_t)at_once);
         take_responses(socket, room, size, &len, at_once);
         *done += (uint64_t)at_once;
+        next = (next + (size_t)at_once) % asked_count;
     }
     close(socket);
     free(room);
@@ -94,7 +102,7 @@ static char *item(char *to, size_t bytes, size_t i) {
     to = PRINT(to, "\"Data\":\"");
     to = encode(payload, bytes, to);
     to = PRINT(to, "\",\"PartitionKey\":\"key-");
-    to = print_number(to, i);
+    to = print_padded(to, i, 4);
     return PRINT(to, "\"");
 }
 
@@ -106,7 +114,16 @@ static size_t write_request(char *to, const char *operation, const char *body, s
                            operation, len, (int)len, body);
 }
 
-static size_t cell(const char *name, char *to) {
+/* The name of a stream: "s", or of several "s00" and so on. */
+static char *print_stream(char *to, int several, size_t i) {
+    *to++ = 's';
+    return several ? print_padded(to, i % STREAMS, 2) : to;
+}
+
+static int is_several(const char *name) { return !strcmp(name, "streams") || !strcmp(name, "fill64"); }
+
+/* The request of a cell whose number is i. */
+static size_t cell(const char *name, size_t i, char *to) {
     char *body = take(1 << 20), *end = body;
     const char *operation = "PutRecord";
     if (!strcmp(name, "get1000")) {
@@ -121,15 +138,17 @@ static size_t cell(const char *name, char *to) {
     } else if (!strcmp(name, "many500")) {
         operation = "PutRecords";
         end = PRINT(end, "{\"StreamName\":\"s\",\"Records\":[");
-        for (size_t i = 0; i < 500; i++) {
-            end = i ? PRINT(end, ",{") : PRINT(end, "{");
-            end = item(end, 100, i);
+        for (size_t j = 0; j < 500; j++) {
+            end = j ? PRINT(end, ",{") : PRINT(end, "{");
+            end = item(end, 100, j);
             *end++ = '}';
         }
         end = PRINT(end, "]}");
     } else {
-        end = PRINT(end, "{\"StreamName\":\"s\",");
-        end = item(end, !strcmp(name, "put10k") ? 10000 : 100, 7);
+        end = PRINT(end, "{\"StreamName\":\"");
+        end = print_stream(end, is_several(name), i);
+        end = PRINT(end, "\",");
+        end = item(end, !strcmp(name, "put10k") ? 10000 : 100, i);
         *end++ = '}';
     }
     size_t len = write_request(to, operation, body, (size_t)(end - body));
@@ -137,16 +156,21 @@ static size_t cell(const char *name, char *to) {
     return len;
 }
 
-static void fill(void) {
+static void fill(const char *name) {
     static char room[1 << 16];
     size_t len = 0;
+    int several = is_several(name);
     char *request = take(1 << 21);
     int socket = reach();
-    const char *create = "{\"StreamName\":\"s\",\"ShardCount\":1}";
-    send_all(socket, request, write_request(request, "CreateStream", create, strlen(create)));
-    take_responses(socket, room, sizeof room, &len, 1);
-    for (int i = 0; i < 1000; i++) {
-        send_all(socket, request, cell("put100", request));
+    for (size_t i = 0; i < (several ? STREAMS : 1); i++) {
+        char create[100], *end = PRINT(create, "{\"StreamName\":\"");
+        end = print_stream(end, several, i);
+        end = several ? PRINT(end, "\",\"ShardCount\":7}") : PRINT(end, "\",\"ShardCount\":1}");
+        send_all(socket, request, write_request(request, "CreateStream", create, (size_t)(end - create)));
+        take_responses(socket, room, sizeof room, &len, 1);
+    }
+    for (size_t i = 0; i < 1000; i++) {
+        send_all(socket, request, cell(several ? "streams" : "put100", i, request));
         take_responses(socket, room, sizeof room, &len, 1);
     }
     close(socket);
@@ -160,14 +184,16 @@ int main(int count, char **words) {
     int connections = atoi(words[3]);
     at_once = atoi(words[4]);
     if (connections < 1 || connections > 64 || at_once < 1 || at_once > 64 || atof(words[5]) > 60) return 2;
-    if (!strcmp(words[2], "fill")) {
-        fill();
+    if (!strncmp(words[2], "fill", 4)) {
+        fill(words[2]);
         return 0;
     }
     char *one = take(2 << 20);
-    asked_len = cell(words[2], one);
-    asked = take(asked_len * (size_t)at_once);
-    for (int i = 0; i < at_once; i++) memcpy(asked + asked_len * (size_t)i, one, asked_len);
+    int is_put = strcmp(words[2], "many500") && strcmp(words[2], "get1000");
+    asked_count = (size_t)(is_put ? KEYS / at_once * at_once : at_once);
+    asked_len = cell(words[2], 0, one);
+    asked = take(asked_len * asked_count);
+    for (size_t i = 0; i < asked_count; i++) memcpy(asked + asked_len * i, one, cell(words[2], i, one));
     static uint64_t done[64][8];
     pthread_t threads[64];
     double begin = seconds();

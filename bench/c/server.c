@@ -87,11 +87,15 @@ static char *place(char *to, uint64_t seq, unsigned shard) {
 
 /* ---- the store; all of it under the lock */
 
-/* The stream of a name, or a place for a new one where there is none. */
-static struct stream *stream_of(struct text name) {
-    for (unsigned i = 0; i < stream_count; i++)
-        if (streams[i].name.len == name.len && !memcmp(streams[i].name.at, name.at, name.len)) return &streams[i];
-    return NULL;
+/* The streams by their names. */
+static struct stream *by_name[1024];
+
+/* The place of a name's stream, or of a new one if there is none of this name. */
+static struct stream **slot_of(struct text name) {
+    size_t slot = place_of(name);
+    while (by_name[slot] && (by_name[slot]->name.len != name.len || memcmp(by_name[slot]->name.at, name.at, name.len)))
+        slot = (slot + 1) % 1024;
+    return &by_name[slot];
 }
 
 static void store(struct stream *s, unsigned shard, struct record *r) {
@@ -108,13 +112,13 @@ static void store(struct stream *s, unsigned shard, struct record *r) {
 #define RECORD_BYTES 10485760u
 
 /* A record of these members, and its hash. */
-static struct record made(struct found *f, u128 *hash) {
+static struct record made(struct item *f, u128 *hash) {
     struct record r = {0};
     if (f->key.kind != STRING || !is_key(f->key.text) || f->data.kind != STRING || bad_bits(f->data.text)) exit(1);
     if (f->key.text.len + f->data.text.len / 4 * 3 > RECORD_BYTES) exit(1);
     if (f->hash.kind == NONE) *hash = hash_of(f->key.text);
     else if (f->hash.kind != STRING || !wide(f->hash.text, hash)) exit(1);
-    r.bytes = take(f->key.text.len + f->data.text.len / 4 * 3 + 3);
+    r.bytes = take(f->key.text.len + f->data.text.len / 4 * 3 + 16);
     memcpy(r.bytes, f->key.text.at, f->key.text.len);
     r.key_len = f->key.text.len;
     long len = decode(f->data.text, r.bytes + r.key_len);
@@ -135,8 +139,10 @@ static void create(const char *at, const char *end, struct buffer *out) {
     char *name = take(f.stream.text.len);
     memcpy(name, f.stream.text.at, f.stream.text.len);
     pthread_mutex_lock(&lock);
-    if (stream_count == 64 || stream_of(f.stream.text)) exit(1);
-    streams[stream_count++] = (struct stream){{name, f.stream.text.len}, (unsigned)count, 1, calloc(count, sizeof(struct shard))};
+    struct stream **slot = slot_of(f.stream.text);
+    if (stream_count == 64 || *slot) exit(1);
+    *slot = &streams[stream_count++];
+    **slot = (struct stream){{name, f.stream.text.len}, (unsigned)count, 1, calloc(count, sizeof(struct shard))};
     pthread_mutex_unlock(&lock);
     end_body(out, begin_body(out, 0));
 }
@@ -145,10 +151,11 @@ static void put(const char *at, const char *end, struct buffer *out) {
     struct found f;
     u128 hash;
     named(at, end, &f);
-    struct record r = made(&f, &hash);
+    struct item it = {f.key, f.data, f.hash};
+    struct record r = made(&it, &hash);
     r.arrival = now_ms();
     pthread_mutex_lock(&lock);
-    struct stream *s = stream_of(f.stream.text);
+    struct stream *s = *slot_of(f.stream.text);
     if (!s) exit(1);
     unsigned shard = home_of(hash, s->count);
     store(s, shard, &r);
@@ -165,22 +172,15 @@ static void put_many(const char *at, const char *end, struct buffer *out) {
     if (f.records.kind != ARRAY) exit(1);
     size_t count = 0, bytes = 0;
     uint64_t arrival = now_ms();
-    const char *from = f.records.text.at + 1, *last = f.records.text.at + f.records.text.len;
-    for (;;) {
-        struct found item = {0};
-        from = blank(from, last);
-        if (*from != '{' || count == 500) exit(1);
-        from = members(from + 1, last, 124, take_member, &item);
-        many[count] = made(&item, &hashes[count]);
+    if (!item_count) exit(1);
+    for (; count < item_count; count++) {
+        many[count] = made(&items[count], &hashes[count]);
         many[count].arrival = arrival;
         bytes += many[count].key_len + many[count].payload_len;
-        count++;
-        from = blank(from, last);
-        if (*from++ == ']') break;
     }
     if (bytes > RECORD_BYTES) exit(1);
     pthread_mutex_lock(&lock);
-    struct stream *s = stream_of(f.stream.text);
+    struct stream *s = *slot_of(f.stream.text);
     if (!s) exit(1);
     for (size_t i = 0; i < count; i++) {
         shards[i] = home_of(hashes[i], s->count);

@@ -221,6 +221,8 @@ static const char *number_(const char *at, const char *end) {
 }
 
 typedef void taker(void *to, struct text name, struct value value);
+static taker take_member;
+static const char *records(const char *at, const char *end, int depth);
 static const char *members(const char *at, const char *end, int depth, taker *take_, void *to);
 
 static const char *value(const char *at, const char *end, int depth, struct value *v) {
@@ -265,7 +267,14 @@ static const char *members(const char *at, const char *end, int depth, taker *ta
         at = blank(at, end);
         if (at >= end || *at != '"' || !(at = string(at + 1, end, &name))) return NULL;
         at = blank(at, end);
-        if (at >= end || *at != ':' || !(at = value(at + 1, end, depth, &v))) return NULL;
+        if (at >= end || *at != ':') return NULL;
+        at = blank(at + 1, end);
+        if (take_ == take_member && name.len == 7 && !memcmp(name.at, "Records", 7) && at < end && *at == '[') {
+            v = (struct value){ARRAY, {at, 0}};
+            if (!(at = records(at + 1, end, depth - 1))) return NULL;
+        } else if (!(at = value(at, end, depth, &v))) {
+            return NULL;
+        }
         if (take_) take_(to, name, v);
         at = blank(at, end);
         if (at >= end || (*at != ',' && *at != '}')) return NULL;
@@ -274,6 +283,12 @@ static const char *members(const char *at, const char *end, int depth, taker *ta
 }
 
 #define IS(text_, word) ((text_).len == sizeof(word) - 1 && !memcmp((text_).at, word, sizeof(word) - 1))
+
+/* The members of a record, and those of the records of a body. */
+struct item { struct value key, data, hash; };
+#define MOST_ITEMS 500
+static __thread struct item items[MOST_ITEMS];
+static __thread size_t item_count;
 
 /* The members that requests have. */
 struct found { struct value stream, key, data, hash, records, iterator, limit, count, split, start, merge, adjacent, after, most; };
@@ -294,6 +309,32 @@ static void take_member(void *to_, struct text name, struct value v) {
     else if (IS(name, "AdjacentShardToMerge")) f->adjacent = v;
     else if (IS(name, "ExclusiveStartShardId")) f->after = v;
     else if (IS(name, "MaxResults")) f->most = v;
+}
+
+static void take_part(void *to_, struct text name, struct value v) {
+    struct item *f = to_;
+    if (IS(name, "Data")) f->data = v;
+    else if (IS(name, "PartitionKey")) f->key = v;
+    else if (IS(name, "ExplicitHashKey")) f->hash = v;
+}
+
+/* The items of an array of records, read where they stand. Others than objects, or too many, are refused: these
+ * programs end with most refusals. */
+static const char *records(const char *at, const char *end, int depth) {
+    item_count = 0;
+    at = blank(at, end);
+    if (at < end && *at == ']') return at + 1;
+    for (;;) {
+        at = blank(at, end);
+        if (at >= end) return NULL;
+        if (*at != '{' || item_count == MOST_ITEMS) exit(1);
+        items[item_count] = (struct item){0};
+        at = members(at + 1, end, depth - 1, take_part, &items[item_count++]);
+        if (!at) return NULL;
+        at = blank(at, end);
+        if (at >= end || (*at != ',' && *at != ']')) return NULL;
+        if (*at++ == ']') return at;
+    }
 }
 
 /* The members of a body, if it is a JSON object in UTF-8. Of members with one name the last counts. */
