@@ -732,6 +732,8 @@ bench/fuzz --inputs -1
 bench/fuzz --inputs 0
 bench/fuzz --seed
 bench/fuzz --seconds 1.5x
+bench/mixes -1
+bench/mixes 1 nosuch
 bench/peers 0
 bench/peers 1 2
 bench/picture --check more
