@@ -427,6 +427,111 @@ class Mistakes(unittest.TestCase):
         self.assertEqual((0, True), (status, 'schedule: whether the clock of a host is wrong was not tried: the story has more than 2000 lines' in said))
 
 
+FIRST, SECOND = (f'490000000000000000000000000000000000000000000000000000{it}' for it in (11, 22))
+# The clock of b is 11 s behind.
+TWO_HOSTS = {'s.txt': f"""2026-12-01T10:00:00Z stream s A
+2026-12-01T10:00:01Z a create A
+2026-12-01T10:00:02Z a take A
+2026-12-01T10:00:03Z a open A
+2026-12-01T10:00:05Z a process A 2 to {FIRST}
+2026-12-01T10:00:06Z a checkpoint A at {FIRST}
+2026-12-01T10:01:00Z a process A 2 to {SECOND}
+2026-12-01T10:01:00.100Z a checkpoint A at {SECOND}
+2026-12-01T10:01:00.130Z a release A
+""", 'b.txt': f"""2026-12-01T10:00:49.600Z b take A
+2026-12-01T10:00:49.650Z b open A at {SECOND}
+"""}
+RIGHT = {'s.txt': TWO_HOSTS['s.txt'], 'b.txt': TWO_HOSTS['b.txt'].replace('10:00:49', '10:01:00')}
+
+
+class Causes(unittest.TestCase):
+    """What is told of the cause, where a story is answered otherwise than its log says."""
+
+    def told(self, files, *before):
+        with tempfile.TemporaryDirectory() as folder:
+            for name, text in files.items():
+                (pathlib.Path(folder) / name).write_text(text)
+            _, _, said = made(*before, *files, cwd=folder)
+        return [line for line in said.splitlines() if 'stood in no records line' not in line]
+
+    def of_the_middle(self, host, minutes):
+        """The story of the middle of a life, with the clock of a host behind."""
+        back = lambda found: f'T14:{int(found[1]) - minutes:02}' if f' {host} ' in found.string else found[0]
+        lines = example('mid-life-story.txt').decode().splitlines()
+        lines = [re.sub('T14:(..)', back, line, count=1) for line in lines]
+        own = [line for line in lines if f' {host} ' in line]
+        others = [line for line in lines if line not in own]
+        files = {'own.txt': '\n'.join(own), 'others.txt': '\n'.join(others)}
+        return self.told(files, EXAMPLES / 'mid-life-beginning.txt')
+
+    def bounds(self, said, host, way):
+        """The bounds that are told of a clock, in seconds."""
+        form = f'the clock of {host} is {way} by (?:more than )?([0-9.]+)(?: to ([0-9.]+))? s'
+        found = [re.search(form, line) for line in said]
+        return [(float(it[1]), float(it[2] or 'inf')) for it in found if it]
+
+    def test_a_line_before_the_beginning(self):
+        said = self.of_the_middle('host-a', 1)
+        self.assertEqual('schedule: own.txt: line 1: it is 47.7 s before the beginning of the story at '
+                         '2026-11-29T14:04:00Z: leave it out, or is a clock behind?', said[0])
+        [(low, high)] = self.bounds(said, 'host-a', 'behind')
+        self.assertTrue(low < 60 < high, said)
+
+    def test_a_lease_that_is_held_since_the_dump(self):
+        said = self.of_the_middle('host-b', 1)
+        self.assertTrue(any(low < 60 < high for low, high in self.bounds(said, 'host-b', 'behind')), said)
+
+    def test_all_shifts_that_fit(self):
+        said = self.told(TWO_HOSTS)
+        # its lease is free from 10:01:00.130 on, and it takes it at 10:00:49.600 by its own clock
+        self.assertEqual([(10.53, float('inf'))], self.bounds(said, 'b', 'behind'))
+        self.assertEqual([], [line for line in said if 'the line' in line])
+        self.assertIn('Not tried: two wrong clocks, a clock that drifts or jumps, a missing line other than a '
+                      'checkpoint', said[-1])
+
+    def test_shifts_a_millisecond_wide(self):
+        # all renewals of both hosts are some milliseconds apart, and some orders of them last for one
+        a = ['1000 stream s A', '1010 a create A', '1020 a take A', '1030 a open A', f'2000 a process A 2 to {FIRST}',
+             f'3000 a checkpoint A at {FIRST}', *(f'{3100 + 7 * i} a renew A' for i in range(5)), '3200 a release A']
+        b = [f'{4000 - 2300} b take A at {FIRST}', *(f'{4001 + 6 * i - 2300} b renew A' for i in range(9))]
+        said = self.told({'a.txt': '\n'.join(a), 'b.txt': '\n'.join(b)})
+        self.assertTrue(any(low < 2.3 < high for low, high in self.bounds(said, 'b', 'behind')), said)
+
+    def test_times_that_go_back(self):
+        said = self.told({'all.txt': RIGHT['s.txt'] + RIGHT['b.txt'], 'b.txt': ''})
+        self.assertEqual([], said)
+        said = self.told({'all.txt': RIGHT['b.txt'].replace('10:01', '10:02') + RIGHT['s.txt']})
+        self.assertEqual('schedule: all.txt: line 3 is 2 min before the line above it, and lines of a file keep their '
+                         'order: write a file for each host, or sort it. All of it fits then', said[0])
+        self.assertEqual([], [line for line in said if 'clock of' in line and 'all of it' in line])
+
+    def test_a_line_that_stands_twice(self):
+        line = f'2026-12-01T10:01:00Z a process A 2 to {SECOND}\n'
+        said = self.told(RIGHT | {'s.txt': RIGHT['s.txt'].replace(line, line * 2)})
+        self.assertEqual('schedule: s.txt: line 8 is the same as line 7, word for word and moment: does it stand there '
+                         'twice? All of it fits then', said[0])
+
+    def test_hosts_that_may_be_one(self):
+        for other, by in (('B', 'capital letters'), ('b:4c1f0d2e-8a11-4b0e-9a70-2f6f5c7f1b01', 'a UUID')):
+            said = self.told(RIGHT | {'b.txt': RIGHT['b.txt'].replace('b open', f'{other} open')})
+            self.assertEqual(f'schedule: the hosts b and {other} differ by {by} alone: if they are one, use one name. '
+                             'All of it fits then', said[0])
+            lacks = f'expected a line {other} take A before it, by the same process; b has the lease'
+            self.assertTrue(said[1].endswith(lacks), said)
+
+    def test_no_clock_is_looked_for(self):
+        lacks = 'b has no tenure of A: expected a line b take A before it, by the same process'
+        said = self.told(RIGHT | {'b.txt': RIGHT['b.txt'].split('\n', 1)[1]})
+        self.assertEqual([f'schedule: b.txt: line 1: {lacks}'], said)
+        said = self.told(RIGHT | {'b.txt': '2026-12-01T10:01:00.600Z b open A\n2026-12-01T10:01:00.650Z b take A\n'})
+        self.assertEqual([f'schedule: b.txt: line 1: {lacks}, and b.txt: line 2 is that line: do the two stand in the '
+                          'wrong order?'], said)
+
+    def test_seconds_with_a_point(self):
+        self.assertEqual('schedule: the input: line 1: 1796119262.600 looks like seconds: a moment is in milliseconds, '
+                         'as 1796119262600\n', made(text=b'1796119262.600 a take A')[2])
+
+
 class Dumps(unittest.TestCase):
     def test_what_a_dump_says(self):
         self.assertEqual((0, example('lease-table-1404.out'), ''), of_files(DUMP, 'lease-table-1404.json'))

@@ -1,6 +1,7 @@
 """A story by names: the words of the logs of consumers become lines of a schedule (docs/incidents.md, "Write the log down"). What no log has, the numbers of
 actors, workers, shards, tenures, counters, positions and records, is asked of a `./kds replay` that runs beside, line by line: a command that is refused
 changes nothing, so a guess costs nothing."""
+import datetime
 import json
 import pathlib
 import re
@@ -43,10 +44,40 @@ class Misplaced(Unreadable):
     """A line that can't be in this place; in another it might."""
 
 
+class NoShard(Misplaced):
+    """There is no such shard yet."""
+
+
+class Lacks(Unreadable):
+    """A line before which another of its own process lacks. No clock is the cause: a host's lines keep their order."""
+
+
 def shown(text):
     """A piece of a file in a message: printable, and not long."""
     kept = ''.join(one if ' ' <= one <= '~' else '?' for one in text)
     return kept if len(kept) <= 80 else f'{kept[:80]} ..'
+
+
+def file_of(where):
+    """The file of a line, by its place."""
+    return where.rpartition(': line ')[0]
+
+
+def date(at):
+    """A moment: those of our years as dates."""
+    if at < 10**11:
+        return str(at)
+    told = datetime.datetime.fromtimestamp(at // 1000, datetime.timezone.utc).strftime('%Y-%m-%dT%H:%M:%S')
+    return f'{told}.{at % 1000:03}Z' if at % 1000 else f'{told}Z'
+
+
+def span(ms):
+    """A time, in words."""
+    whole = ms // 1000
+    if whole < 120:
+        return f'{ms / 1000:.3f}'.rstrip('0').rstrip('.') + ' s'
+    parts = (whole // 60, 'min', whole % 60, 's') if whole < 7200 else (whole // 3600, 'h', whole // 60 % 60, 'min')
+    return ' '.join(f'{number} {unit}' for number, unit in zip(parts[::2], parts[1::2]) if number)
 
 
 def is_by_names(rest):
@@ -112,6 +143,7 @@ class Tenure:
         self.start, self.ended = int(start) if start.isdigit() else 0, start == END
         self.reach = self.start + 1 if start.isdigit() else 0
         self.waiting, self.delivered, self.opened, self.tried, self.told, self.marked, self.where = [], [], False, False, False, None, ''
+        self.freed = False
 
 
 class Names:
@@ -163,7 +195,8 @@ class Names:
         if len(found) > 1:
             raise Unreadable(f'{name} is a shard of several streams: expected its stream too, as {next(iter(self.streams))}/{name}')
         if not found:
-            raise Misplaced(f'there is no shard {shown(word)} at this line: expected one that a stream, split or merge line, or an api line, makes before it')
+            raise NoShard(f'there is no shard {shown(word)} at this line: expected one that a stream, split or merge '
+                          'line, or an api line, makes before it')
         return self.used_as(found[0], name)
 
     def stream_of(self, key):
@@ -174,7 +207,9 @@ class Names:
         kept = self.bound.setdefault(key, {})
         for other, at in kept.items():
             if other != number and (at == record or (other < number) != (at < record)):
-                raise Misplaced(f'{number} would be record {record}, and {other} is record {at}: expected numbers of a shard to rise with its records')
+                raise Misplaced(f'{number} would be record {record}, and {other} is record {at}: expected numbers of a '
+                                'shard to rise with its records: is a process or records line missing, or is the clock '
+                                'of a host wrong?')
         kept[number] = record
 
     def table(self, journal):
@@ -199,6 +234,13 @@ class Story:
         self.lacking = []
         # the records of each shard that lines of the story put, those that no line put, and the shards that take none any more
         self.there, self.added, self.closed = {}, {}, set()
+        # all lines, the number of the one that is read, and the moment at which the first stream is made
+        self.all, self.number_of_line, self.beginning = [], 0, 0
+
+    @property
+    def is_otherwise(self):
+        """Whether anything is told but of records that were put."""
+        return any(it.startswith(tuple(f'{where}: ' for _, where, _ in self.all)) for it in self.told)
 
     # ---- lines of the schedule
 
@@ -276,6 +318,7 @@ class Story:
             tenure.delivered += tenure.waiting.pop(0)
         elif found := re.fullmatch(r'ok counter (\d+)', answer):
             tenure.counter = self.counters[tenure.key] = found[1]
+            tenure.freed = verb == 'free'
 
     def api(self, operation, body):
         """Keeps a request that the story needs, and gives its reply."""
@@ -377,15 +420,28 @@ class Story:
     def held(self, by, host, key):
         """The newest tenure of a lease that this process took."""
         if (by, key) not in self.holds:
-            why = self.refused_takes.get((by, key), f'expected a line {host} take {self.names.used.get(key, key)} before it, by the same process')
-            raise Misplaced(f'{host} has no tenure of {self.names.used.get(key, key)}: {why}')
+            name = self.names.used.get(key, key)
+            if (by, key) in self.refused_takes:
+                raise Misplaced(f'{host} has no tenure of {name}: {self.refused_takes[by, key]}')
+            owner = next((it for it in reversed(self.tenures.values()) if it.key == key), None)
+            has = f'; {self.names.host_of(owner.worker)} has the lease' if owner and not owner.freed else ''
+            raise Lacks(f'{host} has no tenure of {name}: expected a line {host} take {name} before it, '
+                        f'by the same process{self.next_is(host, "take", name)}{has}')
         return self.holds[by, key]
+
+    def next_is(self, host, word, name):
+        """Whether the line that lacks is the next one of its host."""
+        behind = ((where, rest.split()) for _, where, rest in self.all[self.number_of_line + 1:])
+        where, words = next((it for it in behind if it[1][:1] == [host]), ('', []))
+        is_next = words[1:2] == [word] and words[2:3] and words[2].rpartition('/')[2] == name
+        return f', and {where} is that line: do the two stand in the wrong order?' if is_next else ''
 
     def tried(self, host, tenure):
         """Who fetches or processes has opened the shard, or has tried to."""
         if not tenure.tried:
             name = self.names.used.get(tenure.key, tenure.key)
-            raise Misplaced(f'{host} has not opened {name}: expected a line {host} open {name} before it')
+            raise Lacks(f'{host} has not opened {name}: expected a line {host} open {name} before it'
+                        f'{self.next_is(host, "open", name)}')
 
     def command(self, by, host, verb, key, more):
         """A command on leases by its shard."""
@@ -478,16 +534,35 @@ class Story:
         above = sum(it > tenure.start for it in before.delivered) if before and not tenure.ended else 0
         if above:
             name, at = self.names.used.get(key, key), f'record {tenure.start}' if tenure.start else FIRST[0]
-            self.tell(f'{self.said()}: {self.names.host_of(before.worker)} had processed {above} records above {at}, where the lease begins here, and nothing says where it begins in the log: '
-                      f'is a line {self.names.host_of(before.worker)} checkpoint {name} missing before it? If the log has where it begins, add at NUMBER')
+            owner = self.names.host_of(before.worker)
+            later = self.later(owner, name)
+            why = (f'{later} is a checkpoint of it, and stands behind this line: is the clock of a host wrong?' if later
+                   else f'is a line {owner} checkpoint {name} missing before it? If the log has where it begins, '
+                        'add at NUMBER')
+            self.tell(f'{self.said()}: {owner} had processed {above} records above {at}, where the lease begins here, '
+                      f'and nothing says where it begins in the log: {why}')
+
+    def later(self, host, name):
+        """Where a host has a checkpoint line of a shard behind this line, and by no later take."""
+        for _, where, rest in self.all[self.number_of_line + 1:]:
+            words = rest.split()
+            if words[:1] == [host] and words[-1].rpartition('/')[2] == name and words[1] == 'take':
+                return ''
+            if words[:2] == [host, 'checkpoint'] and words[2].rpartition('/')[2] == name and words[-1] != 'fails':
+                return where
+        return ''
 
     def missing(self, key, at, tenure):
         """Why a lease may begin elsewhere. Where the log has a record that the tenure before was delivered, that one's checkpoint line is what lacks."""
         record, before = self.record_of(key, int(at)) if at.isdigit() else None, self.before(tenure)
         if before and record is not None and record > tenure.start and record in before.delivered:
-            line = f'checkpoint {self.names.used.get(key, key)} at {at}'
-            self.lacking.append((self.names.host_of(before.worker), line, tenure.where))
-            return f'is the line {self.names.host_of(before.worker)} {line} missing before it, or is the clock of a host wrong?'
+            host, name = self.names.host_of(before.worker), self.names.used.get(key, key)
+            where = checkpoints(self.all).get((host, name, int(at)))
+            if where:
+                return f'{where} is that checkpoint, so is the clock of a host wrong?'
+            line = f'checkpoint {name} at {at}'
+            self.lacking.append((host, line, tenure.where))
+            return f'is the line {host} {line} missing before it, or is the clock of a host wrong?'
         return 'is a checkpoint line missing, or is the clock of a host wrong?'
 
     def checkpoint(self, by, host, key, words):
@@ -578,6 +653,15 @@ class Story:
     def line(self, at, where, rest):
         """One line of a story, behind its moment, or of a schedule."""
         self.at, self.where, self.text, self.fails = at, where, rest, False
+        try:
+            return self.any_line(at, rest)
+        except NoShard as why:
+            if at >= self.beginning:
+                raise
+            raise Misplaced(f'it is {span(self.beginning - at)} before the beginning of the story at '
+                            f'{date(self.beginning)}: leave it out, or is a clock behind?') from why
+
+    def any_line(self, at, rest):
         words = rest.split()
         if not is_by_names(rest):
             return self.as_it_is(f'{at} {rest}')
@@ -608,6 +692,24 @@ def id_of(key):
     return f'shardId-{int(key.split("/")[1]):012}'
 
 
+def checkpoints(lines):
+    """The checkpoint lines of a story that didn't fail: of which host, shard and number, which a line of the same host
+    before it may have; and where each stands."""
+    found, last = {}, {}
+    for _, where, rest in lines:
+        words = rest.split()
+        if len(words) < 3 or words[1] not in ('process', 'checkpoint', 'hand') or words[-1] == 'fails':
+            continue
+        host, word, shard, *more = words if words[1] != 'hand' else [words[0], words[1], words[-1]]
+        key = host, shard.rpartition('/')[2]
+        number = int(more[-1]) if more and more[-1].isdigit() and {'to', 'at'} & set(more) else None
+        if word != 'process' and (number or not more):
+            found[(*key, number or last.get(key))] = where
+        elif word == 'process' and more[:1] != ['0']:
+            last[key] = number
+    return found
+
+
 def last_of(tenure):
     """The last record that a tenure was delivered, or the one at which it began."""
     return max(tenure.delivered, default=tenure.start)
@@ -620,12 +722,19 @@ def counted(word, least, most):
     return int(word)
 
 
+def makes_stream(rest):
+    """Whether a line makes a stream."""
+    return rest.split(' ', 1)[0] == 'stream' or rest.startswith('api CreateStream ')
+
+
 class Stopped(Unreadable):
     """A line can't be. The story up to it has what was told before."""
 
     def __init__(self, story, where, why):
         super().__init__('\nschedule: '.join([*story.told, f'{where}: {why}']))
-        self.story, self.where, self.is_misplaced = story, where, isinstance(why, Misplaced)
+        self.story, self.where = story, where
+        # whether lines may be wrong, and not just this one's form; and whether their order may be
+        self.is_misplaced, self.is_of_lines = isinstance(why, Misplaced), isinstance(why, (Misplaced, Lacks))
 
 
 def schedule_of(lines, program=None, strict=None):
@@ -634,7 +743,9 @@ def schedule_of(lines, program=None, strict=None):
     taken = {int(words[1]) for words in (rest.split() for _, _, rest in lines) if len(words) > 1 and words[0] == 'raw' and words[1].isdigit() and len(words[1]) < 4}
     with Replay(program) as replay:
         story = Story(replay, taken)
-        for at, where, rest in lines:
+        story.beginning = next((at for at, _, rest in lines if makes_stream(rest)), 0)
+        story.all = lines
+        for story.number_of_line, (at, where, rest) in enumerate(lines):
             try:
                 story.line(at, where, rest)
             except Unreadable as why:
