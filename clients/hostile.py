@@ -182,11 +182,17 @@ def three(away, journal, answers, schedule):
 EXERCISE = """(async (cases) => {
     const own = new Set('html head meta title style body div header h1 h2 span input button label select option details summary textarea svg defs pattern line g path rect circle text code br \
 table caption thead tbody tr th td a script'.split(' ')), found = [];
+    // the help is the page's own text, and no file changes it
+    const help = document.querySelector('#help'), asMade = help.outerHTML;
+    const ofHelp = new Set('dialog h3 p ul li dl dt dd kbd'.split(' '));
     const look = (name) => {
         for (const it of document.querySelectorAll('*')) {
-            if (!own.has(it.tagName.toLowerCase())) found.push([name, it.tagName, it.outerHTML.slice(0, 80)]);
+            const tag = it.tagName.toLowerCase();
+            const mine = own.has(tag) || ofHelp.has(tag) && help.contains(it);
+            if (!mine) found.push([name, it.tagName, it.outerHTML.slice(0, 80)]);
             for (const { name: attribute } of it.attributes) if (/^on|^spoilt$/.test(attribute)) found.push([name, it.tagName, attribute]);
         }
+        if (help.outerHTML !== asMade) found.push([name, 'another help']);
         if (window.pwned) { found.push([name, 'ran']); window.pwned = undefined; }
         const text = document.body.textContent;
         if (/native code|\[object Object\]/.test(text)) found.push([name, 'a word of the script']);

@@ -95,7 +95,8 @@ class Story:
     def on_taken(self, n, words):
         self.over(words[0], n)
         self.holder[words[0]] = words[1]
-        self.tenures[words[1]] = {'key': words[0], 'worker': words[3], 'taken': n, 'end': None, 'opened': None, 'last': n, 'reads': [], 'given': [], 'wait': collections.deque()}
+        self.tenures[words[1]] = {'key': words[0], 'worker': words[3], 'taken': n, 'end': None, 'done': None,
+                                  'opened': None, 'last': n, 'reads': [], 'given': [], 'wait': collections.deque()}
 
     def over(self, key, n):
         no = self.holder.pop(key, None)
@@ -126,6 +127,8 @@ class Story:
     def on_marked(self, n, words):
         key = self.on_renewed(n, words)['key']
         self.marks[key].append((n, math.inf if words[2] == 'end' else int(words[2])))
+        if words[2] == 'end':
+            self.tenures[words[0]]['done'] = n
 
     def on_cut(self, n, words):
         self.rows[words[0]][-1][2] = n
@@ -217,7 +220,9 @@ class Drawing:
         changes = []
         for it in self.story.tenures.values():
             if it['worker'] == worker:
-                changes += [(it['taken'], 1)] + ([(it['end'], -1)] if it['end'] else [])
+                # a lease whose checkpoint is at SHARD_END is one no more
+                until = min((n for n in (it['end'], it['done']) if n), default=None)
+                changes += [(it['taken'], 1)] + ([(until, -1)] if until else [])
         held, steps = 0, []
         for n, by in sorted(changes, key=lambda it: it[0]):
             held += by
