@@ -5,7 +5,7 @@ import socket
 import threading
 import time
 
-from recorder_http import MOST_REQUESTS, Ended, Refused, Requests, refusal
+from recorder_http import FULL, MOST_REQUESTS, Ended, Refused, Requests, refusal
 from recorder_server import Server, Trouble
 
 # A moment is below this one.
@@ -95,6 +95,23 @@ class Recorder:
             os.ftruncate(self.file.fileno(), self.whole)
             self.file.seek(self.whole)
 
+    def look(self):
+        """The recording is over where its file isn't the session any more."""
+        amiss = self.gone.is_set() or self.file_amiss()
+        if amiss and not self.gone.is_set():
+            self.why = amiss
+            self.gone.set()
+
+    def file_amiss(self):
+        """What somebody else did to the file. It is never shorter than the lines that were answered."""
+        whole, name = self.whole, self.file.name
+        try:
+            if not os.path.samestat(os.stat(name), os.fstat(self.file.fileno())):
+                return f'{name} is another file by now, and the session is lost'
+        except OSError as error:
+            return f'{name} is gone, and the session with it: {error.strerror}'
+        return f'{name} was cut, and is not the session' if os.fstat(self.file.fileno()).st_size < whole else ''
+
     def serve(self, client):
         """Answers the requests of a client. One that can't be read is refused, and comes to no server."""
         with client, contextlib.suppress(OSError):
@@ -116,12 +133,14 @@ class Recorder:
             if not answer:
                 return
             closes = request.closes or count == MOST_REQUESTS
+            client.settimeout(FULL)
             client.sendall(answer.response(closes))
             if closes:
                 return
 
     def end(self):
         """The file is whole from here on. A server that is silent is parted from, and what it was asked is no line."""
+        self.look()
         self.gone.set()
         mine = self.turn.acquire(timeout=REST)
         if not mine:

@@ -6,6 +6,8 @@ import re
 
 # The server's limits: the bytes of a head, its headers, the bytes of a body, the requests of a connection.
 MOST_HEAD, MOST_HEADERS, MOST_BODY, MOST_REQUESTS = 16_384, 64, 16_777_216, 1_000_000
+# The seconds after which it ends a connection that sends nothing, and at most one that takes nothing of its answer.
+IDLE, FULL = 10, 30
 OPERATION = re.compile(rb'Kinesis_20131202\.([A-Za-z0-9]{1,64})')
 JSON = re.compile(rb'application/x-amz-json-1\.1(?:;.*)?')
 PHRASES = {400: b'Bad Request', 404: b'Not Found', 405: b'Method Not Allowed', 411: b'Length Required',
@@ -154,7 +156,11 @@ class Requests:
         self.unread = bytearray()
 
     def more(self):
-        piece = self.source.recv(65_536)
+        self.source.settimeout(IDLE)
+        try:
+            piece = self.source.recv(65_536)
+        except TimeoutError:
+            raise Ended from None
         if not piece:
             raise Ended
         self.unread += piece

@@ -1,7 +1,10 @@
 """The server behind the recorder, and what its answers tell: whether it is still the one of the recording, and whether
 somebody else calls it."""
+import base64
 import contextlib
+import errno
 import json
+import re
 import socket
 import time
 
@@ -16,6 +19,8 @@ SILENCE = 30
 UNUSED = 0.3
 # The seconds after which the server is asked once more which streams there are.
 LOOKED = 1
+# Where there are no descriptors left, and the seconds after which that is tried again. Idle clients give theirs back.
+NO_DESCRIPTORS, AGAIN = (errno.EMFILE, errno.ENFILE), 0.2
 # The operations that make streams, or take sequence numbers.
 FOLLOWED = (b'CreateStream', b'DeleteStream', b'SplitShard', b'MergeShards', b'UpdateShardCount', b'PutRecord',
             b'PutRecords')
@@ -93,6 +98,8 @@ class Server:
         # Of each stream that the lines made: when that was, and the number of its last record or step of a resharding.
         self.made = {}
         self.last = {}
+        # how many streams the lines have made in all
+        self.count = 0
 
     def begin(self):
         """Before a request. Raises Trouble where the server isn't the one of the recording."""
@@ -110,10 +117,14 @@ class Server:
         self.compare(streams_of(self.socket, self.port))
 
     def reach(self):
-        try:
-            self.socket = connected(self.port)
-        except OSError:
-            raise Trouble(f'the server at {HOST}:{self.port} is gone') from None
+        end = time.monotonic() + SILENCE
+        while not self.socket:
+            try:
+                self.socket = connected(self.port)
+            except OSError as error:
+                if error.errno not in NO_DESCRIPTORS or time.monotonic() > end:
+                    raise Trouble(f'the server at {HOST}:{self.port} is gone') from None
+                time.sleep(AGAIN)
 
     def compare(self, streams):
         """The streams that the server has are to be those that it made for the lines."""
@@ -161,7 +172,8 @@ class Server:
         """Why there was no answer."""
         if not self.is_cut:
             self.connect()
-        return Trouble(f'the server at {HOST}:{self.port} ended the connection without an answer: it was started anew')
+        return Trouble(f'the server at {HOST}:{self.port} ended the connection without an answer: it was started anew, '
+                       'or the recorder stood still')
 
     def follow(self, name, body, answer):
         """Keeps which streams there are, and how far the numbers of each are. Raises Trouble where an answer doesn't
@@ -177,6 +189,7 @@ class Server:
         if name == b'CreateStream':
             summary = self.told(b'DescribeStreamSummary', StreamName=stream)['StreamDescriptionSummary']
             self.made[stream], self.last[stream] = summary[MADE], 0
+            self.follow_count(stream)
         elif name == b'DeleteStream':
             del self.made[stream], self.last[stream]
         elif name in (b'SplitShard', b'MergeShards'):
@@ -189,6 +202,15 @@ class Server:
                 if number != self.last[stream]:
                     raise Trouble(f'the server has given a record of {stream} the sequence number {number}, '
                                   f'and by the lines it has {self.last[stream]}: {ANOTHER}')
+
+    def follow_count(self, stream):
+        """A new stream has the next number. One that was made and deleted past the recorder has taken a number."""
+        self.count += 1
+        iterator = self.told(b'GetShardIterator', StreamName=stream, ShardId='shardId-000000000000',
+                             ShardIteratorType='TRIM_HORIZON')['ShardIterator']
+        number = int(re.match(rb'KI1:(\d+):', base64.b64decode(iterator))[1])
+        if number != self.count:
+            raise Trouble(f'the server has made {number} streams, and the lines make {self.count}: {ANOTHER}')
 
     def steps(self, stream):
         """How many numbers a resharding just took: each step is the last number of the shards that it closed."""

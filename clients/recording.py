@@ -6,6 +6,7 @@ import importlib.machinery
 import importlib.util
 import io
 import json
+import os
 import pathlib
 import resource
 import signal
@@ -21,7 +22,7 @@ import recorder
 import recorder_http
 import recorder_server
 import suite
-from server import IDLE, ROOT, free_port, request, responses, serving
+from server import FULL, IDLE, ROOT, free_port, request, responses, serving
 
 # what differs in a replay: tokens and moments
 LEFT_OUT = {'ShardIterator', 'NextShardIterator', 'NextToken', 'ApproximateArrivalTimestamp', 'StreamCreationTimestamp', 'MillisBehindLatest'}
@@ -137,6 +138,25 @@ class Beside(unittest.TestCase):
         self.assert_answered(first, half[-10:])
         self.assert_answered(second, request('CreateStream', b'{"StreamName":"d","ShardCount":1}'))
         self.assertEqual(self.lines(), [b'CreateStream {"StreamName":"%s","ShardCount":1}' % it for it in (b'a', b'c', b'b', b'd')])
+
+    def test_an_idle_one_is_parted_from(self):
+        """As by the server: between two requests, and amid one."""
+        self.assertEqual((recorder_http.IDLE, recorder_http.FULL), (IDLE, FULL))
+        recorder_http.IDLE = 1
+        self.addCleanup(setattr, recorder_http, 'IDLE', IDLE)
+        asked, half = self.connect(), self.connect()
+        self.assert_answered(asked, request('ListStreams', b'{}'))
+        half.sendall(request('ListStreams', b'{}')[:-1])
+        for it in (asked, half):
+            self.assertEqual(it.recv(1), b'')
+        # whoever sends a byte now and then isn't idle
+        slow = self.connect()
+        for byte in request('ListStreams', b'{}')[:4]:
+            slow.sendall(bytes([byte]))
+            time.sleep(0.5)
+        slow.sendall(request('ListStreams', b'{}')[4:])
+        self.assertEqual([it for it, _ in responses(slow, 1)], [200])
+        self.assertEqual(self.lines(), [b'ListStreams {}'] * 2)
 
     def test_readers_that_stop_hold_nobody_up(self):
         rude, second = self.connect(), self.connect()
@@ -303,13 +323,15 @@ class Amiss(Program):
 
     def in_process(self, target):
         """What the recorder's command says where it has less patience, and its status."""
-        signs, given = [(sign, signal.getsignal(sign)) for sign in (signal.SIGINT, signal.SIGTERM)], recorder_server.SILENCE
+        signs = [(sign, signal.getsignal(sign)) for sign in (signal.SIGINT, signal.SIGTERM, signal.SIGHUP)]
+        given, limits = recorder_server.SILENCE, resource.getrlimit(resource.RLIMIT_NOFILE)
         recorder_server.SILENCE, said = 1, io.StringIO()
         try:
             with contextlib.redirect_stderr(said), contextlib.redirect_stdout(io.StringIO()):
                 return record.main([str(self.port), str(target), str(self.path)]), said.getvalue()
         finally:
             recorder_server.SILENCE = given
+            resource.setrlimit(resource.RLIMIT_NOFILE, limits)
             for sign, handler in signs:
                 signal.signal(sign, handler)
 
@@ -457,6 +479,82 @@ class Amiss(Program):
         finally:
             recorder.MOST_FILE = given
         self.assert_replays([200, 200])
+
+    def test_a_stream_that_came_and_went_past_the_recorder(self):
+        """It took a number, so the next stream has another one than in a replay."""
+        made = [('CreateStream', b'{"StreamName":"%s","ShardCount":1}' % name) for name in (b'a', b'b')]
+        with serving(members=2) as server:
+            started = self.recording(server.port)
+            self.assertEqual(self.ask(*made[0]), 200)
+            past = b'{"StreamName":"past","ShardCount":1}', b'{"StreamName":"past"}'
+            self.past(server, ('CreateStream', past[0]), ('DeleteStream', past[1]))
+            self.assertEqual(self.ask(*PUT), 200)
+            self.assertIsNone(self.ask(*made[1]))
+            self.assert_refused(started, 'the server has made 3 streams, and the lines make 2: it was started anew, or '
+                                         'somebody went past the recorder; the file is whole up to there')
+        self.assert_replays([200, 200])
+
+    def test_the_numbers_of_streams(self):
+        """Those that are deleted and made again by lines are no reason to end."""
+        made, gone = ('CreateStream', b'{"StreamName":"a","ShardCount":3}'), ('DeleteStream', b'{"StreamName":"a"}')
+        asked = [made, made, gone, made, gone, made, PUT]
+        with serving(members=2) as server:
+            started = self.recording(server.port)
+            statuses = [self.ask(*it) for it in asked]
+            started.send_signal(signal.SIGINT)
+            self.assertEqual((*started.communicate(timeout=30), started.returncode), ('', '', 0))
+        self.assertEqual(statuses, [200, 400, 200, 200, 200, 200, 200])
+        self.assert_replays(statuses)
+
+    def test_a_file_that_somebody_else_changes(self):
+        """Amid the recording it is told at once, and right before its end at the end."""
+        anew = lambda: (self.path.unlink(), self.path.write_text(''))
+        for deed, said in ((self.path.unlink, 'is gone, and the session with it'), (anew, 'is another file by now'),
+                           (lambda: os.truncate(self.path, 0), 'was cut, and is not the session')):
+            for by_interrupt in (True, False):
+                self.port = free_port()
+                self.path.unlink(missing_ok=True)
+                with serving(members=2) as server:
+                    started = self.recording(server.port)
+                    self.assertEqual([self.ask('ListStreams', b'{}') for _ in range(2)], [200, 200])
+                    deed()
+                    if by_interrupt:
+                        started.send_signal(signal.SIGINT)
+                    self.assert_refused(started, said)
+
+    def test_a_hangup(self):
+        """It ends the recording as SIGTERM does. Where it is ignored, as by nohup, it goes on."""
+        for is_ignored in (False, True):
+            self.path, self.port = self.path.with_suffix(f'.{is_ignored}'), free_port()
+            handler = signal.SIG_IGN if is_ignored else signal.SIG_DFL
+            with serving(members=2) as server:
+                started = self.recording(server.port, preexec_fn=lambda: signal.signal(signal.SIGHUP, handler))
+                self.assertEqual(self.ask('ListStreams', b'{}'), 200)
+                started.send_signal(signal.SIGHUP)
+                if is_ignored:
+                    time.sleep(0.5)
+                    self.assertEqual(self.ask('ListStreams', b'{}'), 200)
+                    started.send_signal(signal.SIGTERM)
+                self.assertEqual((*started.communicate(timeout=30), started.returncode), ('', '', 0))
+            self.assert_replays([200] * (1 + is_ignored))
+
+    def test_many_clients_that_stay(self):
+        """It takes as many descriptors as it may have. With none left it waits for those of idle clients."""
+        for limits, most in (((32, 400), IDLE), ((32, 48), 5 * IDLE)):
+            self.path, self.port = self.path.with_suffix(f'.{limits[1]}'), free_port()
+            with serving(members=2) as server, contextlib.ExitStack() as stack:
+                limit = lambda: resource.setrlimit(resource.RLIMIT_NOFILE, limits)
+                started = self.recording(server.port, preexec_fn=limit)
+                begin, statuses = time.monotonic(), []
+                for _ in range(80):
+                    client = stack.enter_context(socket.create_connection(('127.0.0.1', self.port), timeout=60))
+                    client.sendall(request('ListStreams', b'{}'))
+                    statuses.append(next((status for status, _ in responses(client, 1)), None))
+                self.assertEqual(statuses, [200] * 80)
+                self.assertLess(time.monotonic() - begin, most)
+                started.send_signal(signal.SIGTERM)
+                self.assertEqual((*started.communicate(timeout=30), started.returncode), ('', '', 0))
+            self.assert_replays([200] * 80)
 
     def test_a_full_disk(self):
         """The file may have 8,192 bytes: what was answered is in it, and the server has done no more."""
