@@ -9,16 +9,17 @@ import threading
 import time
 import urllib.parse
 
+import botocore.loaders
 import botocore.session
 from botocore.auth import SigV4Auth
 from botocore.awsrequest import AWSRequest
 from botocore.credentials import Credentials
+from botocore.exceptions import BotoCoreError
+from botocore.model import ServiceModel
 
-from differing.faults import Refused, Unreachable, is_here, read, refusal
+from differing.faults import BUSY, Refused, Unreachable, is_here, read, refusal
 
 JSON = 'application/x-amz-json-1.1'
-# what a server may answer instead of doing what was asked, if too much is asked at once
-BUSY = ('LimitExceededException', 'ProvisionedThroughputExceededException', 'ThrottlingException')
 # A connection that was idle for so many seconds isn't used again: the server may be closing it.
 IDLE = 5
 
@@ -27,14 +28,23 @@ def own_credentials():
     """Those of the environment or of files. The other sources of botocore's chain ask hosts that nobody named, or run
     programs."""
     session = botocore.session.Session()
-    chain = session.get_component('credential_provider')
-    chain.providers = [
-        each for each in chain.providers if each.METHOD in ('env', 'shared-credentials-file', 'config-file')
-    ]
-    found = session.get_credentials()
+    try:
+        chain = session.get_component('credential_provider')
+        chain.providers = [
+            each for each in chain.providers if each.METHOD in ('env', 'shared-credentials-file', 'config-file')
+        ]
+        found = session.get_credentials()
+    except BotoCoreError as error:  # a profile that isn't there, a file that can't be read
+        raise Unreachable(f'no credentials: {error}') from error
     if found is None:
         raise Unreachable('no credentials in the environment (AWS_ACCESS_KEY_ID, AWS_SECRET_ACCESS_KEY) or in ~/.aws')
     return found
+
+
+def model():
+    """Amazon's model of the operations, as botocore has it. No file of settings is read for it."""
+    told = botocore.loaders.create_loader().load_service_model('kinesis', 'service-2')
+    return ServiceModel(told, service_name='kinesis')
 
 
 class Endpoint:
@@ -46,7 +56,7 @@ class Endpoint:
         self.credentials = Credentials('any', 'any') if self.here else own_credentials()
         self.mine, self.lock = threading.local(), threading.Lock()
         self.last, self.calls = {}, collections.Counter()
-        self.model = botocore.session.get_session().get_service_model('kinesis')
+        self.model = model()
 
     @contextlib.contextmanager
     def hurried(self):
@@ -140,5 +150,7 @@ class Endpoint:
             return connection.sock.recv(200).split(b'\r\n')[0].decode(errors='replace')
         except TimeoutError:
             return 'nothing'
+        except (OSError, http.client.HTTPException) as error:
+            raise Refused(operation, 'no answer', f'{type(error).__name__} {error}') from error
         finally:
             connection.close()

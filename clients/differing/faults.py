@@ -3,12 +3,21 @@ import json
 import re
 
 
+# what a server may answer instead of doing what was asked, if too much is asked at once
+BUSY = ('LimitExceededException', 'ProvisionedThroughputExceededException', 'ThrottlingException')
+
+
 class Refused(Exception):
     """A reply that isn't a success, or none. `status` is 0 if there was no reply."""
 
     def __init__(self, operation, name, message='', status=0):
         super().__init__(f'{operation}: {name} {" ".join(message.split())[:60]}'.strip())
         self.name, self.message, self.status = name, message, status
+
+    @property
+    def told(self):
+        """The error's name, with the status where a client may take that otherwise."""
+        return self.name if self.status in (0, 400) or 'status' in self.name else f'{self.name} with {self.status}'
 
 
 class Unreachable(Exception):
@@ -18,7 +27,7 @@ class Unreachable(Exception):
 def read(operation, body):
     try:
         return json.loads(body) if body else {}
-    except ValueError as error:
+    except (ValueError, RecursionError) as error:
         raise Refused(operation, 'a reply that is not JSON', body[:60].decode(errors='replace'), 200) from error
 
 
@@ -26,7 +35,7 @@ def refusal(operation, status, headers, body):
     """An error as SDKs name it: by the body, or by a header."""
     try:
         told = json.loads(body)
-    except ValueError:
+    except (ValueError, RecursionError):
         told = None
     if not isinstance(told, dict):
         told = {}

@@ -4,16 +4,21 @@ from differing.faults import Refused
 from differing.steps import Stage
 from differing.verdict import UNREACHED, UNTRIED, judge
 
-ODD = (AttributeError, KeyError, IndexError, TypeError, ValueError, StopIteration)
+# what a reply of a form that nobody expected ends in
+ODD = (ArithmeticError, AttributeError, LookupError, TypeError, ValueError, StopIteration)
+
+
+def odd(fault):
+    return f'a reply of another form: {type(fault).__name__} {fault}'[:120]
 
 
 def outcome(one, stage):
     try:
-        return one.run(stage)
+        return str(one.run(stage))
     except Refused as refused:
         return f'stopped at {refused}'
     except ODD as fault:
-        return f'a reply of another form: {type(fault).__name__} {fault}'
+        return odd(fault)
 
 
 def left_out(one, here, beyond, slow):
@@ -33,6 +38,8 @@ def begin(scene, stage):
         return f'the scene: stopped at {refused}'
     except Unmet as lack:
         return f'the scene needs {lack}'
+    except ODD as fault:
+        return f'the scene: {odd(fault)}'
     return None
 
 
@@ -52,7 +59,8 @@ def play(scene, cases, streams, report, beyond, slow):
             report(one, f'needs {lack}', UNREACHED)
         else:
             report(one, given, judge(one, given, streams.endpoint.model))
-    streams.clear()
+    # what can't be deleted now is tried again at the end, which says so
+    streams.give_up()
 
 
 def run(chosen, streams, report, beyond=False, slow=False):

@@ -3,12 +3,15 @@ import secrets
 import time
 
 from differing.case import Unmet
-from differing.faults import Refused, Unreachable
+from differing.faults import BUSY, Refused, Unreachable
 
 PREFIX = 'kds-differences-'
 # the most shards that are open at once
 MOST = 3
 GONE = 'ResourceNotFoundException'
+# no reply at all, and errors that a later call may not meet
+NONE = 'no answer'
+PASSING = (NONE, 'CREATING', 'UPDATING', 'DELETING', 'ResourceInUseException', *BUSY)
 
 
 class Streams:
@@ -20,6 +23,8 @@ class Streams:
         self.endpoint, self.call = endpoint, endpoint.call
         self.stem = f'{PREFIX}{secrets.token_hex(4)}'
         self.made, self.unsure, self.count = {}, set(), 0
+        # the seconds that a stream is waited for
+        self.patience = 30 if endpoint.here else 300
 
     def nobody(self):
         """A random name that no stream has."""
@@ -43,7 +48,7 @@ class Streams:
                 'CreateStream', StreamName=name, **({'ShardCount': shards} if shards is not None else {}), **more
             )
         except Refused as refused:
-            if refused.status == 400:  # after any other fault it may have been made
+            if refused.status == 400 and refused.name != 'status 400':  # after any other fault it may have been made
                 self.forget(name)
             raise
         except Unreachable:  # it was never sent
@@ -59,31 +64,34 @@ class Streams:
     def status(self, name):
         """The state of a stream, or the error."""
         try:
-            return self.call('DescribeStreamSummary', StreamName=name)['StreamDescriptionSummary']['StreamStatus']
+            state = self.call('DescribeStreamSummary', StreamName=name)['StreamDescriptionSummary']['StreamStatus']
         except Refused as refused:
             return refused.name
+        except (LookupError, TypeError):
+            state = None
+        return state if isinstance(state, str) else 'no StreamStatus'
 
-    def ready(self, name, seconds=300):
+    def ready(self, name):
         """Waits until a stream is ACTIVE."""
-        end = time.monotonic() + seconds
+        end = time.monotonic() + self.patience
         while (now := self.status(name)) != 'ACTIVE':
-            if time.monotonic() > end or now == GONE:
+            if time.monotonic() > end or now not in PASSING:
                 raise Refused('DescribeStreamSummary', f'{now} after a wait for ACTIVE')
             time.sleep(0.1 if self.endpoint.here else 1)
         return name
 
-    def delete(self, name, seconds=300):
+    def delete(self, name):
         """Deletes a stream, and waits until it is gone: its shards count until then."""
         begin = time.monotonic()
         while True:
             age = time.monotonic() - begin
-            if age > seconds:
+            if age > self.patience:
                 raise Refused('DeleteStream', f'{name} is still there')
             try:
                 self.call('DeleteStream', StreamName=name)
                 gone = self.status(name) == GONE
             except Refused as refused:
-                if refused.name not in (GONE, 'ResourceInUseException'):
+                if refused.name not in (GONE, *PASSING) and refused.status < 500:
                     raise
                 # a stream whose CreateStream gave no reply may come yet
                 gone = refused.name == GONE and (name not in self.unsure or age > (2 if self.endpoint.here else 15))
@@ -92,16 +100,12 @@ class Streams:
                 return
             time.sleep(0.1 if self.endpoint.here else 2)
 
-    def clear(self):
-        for name in list(self.made):
-            self.delete(name)
-
     def give_up(self):
         """Deletes what it can, and says of each stream that it couldn't delete why."""
         left = []
         for name in list(self.made):
             try:
                 self.delete(name)
-            except (Refused, Unreachable) as fault:
+            except Exception as fault:  # the others are deleted all the same
                 left.append(f'{name} ({fault})')
         return left
