@@ -23,7 +23,7 @@ def tags(stage):
     try:
         given = stage.call('ListTagsForStream', StreamName=stage.name)['Tags']
     except Refused as refused:
-        return refused.name
+        return refused.told
     return 'kept' if given == [{'Key': 'made', 'Value': 'here'}] else f'they are {given}'
 
 
@@ -87,6 +87,6 @@ def on_demand(stage):
     try:
         name = stage.streams.create(None, suffix='demand', counted=1, StreamModeDetails={'StreamMode': 'ON_DEMAND'})
     except Refused as refused:
-        return refused.name
+        return refused.told
     stage.streams.delete(name)
     return 'accepted'

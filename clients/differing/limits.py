@@ -10,6 +10,7 @@ from differing.steps import b64
 
 scene = Scene('limits', lambda stage: stage.begin(1))
 NONE, SOME = 'none refused', 'some refused'
+TOO_MUCH = 'ProvisionedThroughputExceededException'
 
 
 def at_once(stage, count, operation, **members):
@@ -43,7 +44,7 @@ def told(names, error):
 )
 def reading(stage):
     _, names = at_once(stage, 16, 'GetRecords', ShardIterator=stage.iterator(), Limit=1)
-    return told(names, 'ProvisionedThroughputExceededException')
+    return told(names, TOO_MUCH)
 
 
 @scene.case(
@@ -76,7 +77,7 @@ def writing(stage):
     refused = [record for reply in replies for record in reply['Records'] if record.get('ErrorCode')]
     if refused:
         stage.kept.message = refused[0]['ErrorMessage']
-    return SOME if refused else told(names, 'ProvisionedThroughputExceededException')
+    return SOME if refused else told(names, TOO_MUCH)
 
 
 @scene.case(
@@ -100,8 +101,8 @@ def enforced(stage):
                 'PutRecords', StreamName=stage.name, Records=[{'PartitionKey': 'w', 'Data': b64(bytes(600_000))}] * 2
             )
             if reply['FailedRecordCount']:
-                stage.kept.message = reply['Records'][1]['ErrorMessage']
-                return 'the second is refused'
+                stage.kept.message, name = (reply['Records'][1][member] for member in ('ErrorMessage', 'ErrorCode'))
+                return 'the second is refused' + (f' by {name}' if name != TOO_MUCH else '')
     finally:
         stage.call('LocalEnforceLimits', StreamName=stage.name, Enforce=False)
     return 'none is refused'

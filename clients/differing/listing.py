@@ -71,6 +71,23 @@ def described(stage):
     return ', '.join(f'{len(each["Shards"])} {str(each["HasMoreShards"]).lower()}' for each in (first, rest))
 
 
+@scene.same(
+    'ListShards of one shard, then of the one after it, and so on',
+    '3 of 3 shards',
+    place='ListShards.ExclusiveStartShardId',
+    reading='the list begins after this shard',
+)
+def after_shard(stage):
+    found, after = [], {}
+    while len(found) < 9:
+        told = stage.call('ListShards', StreamName=stage.name, MaxResults=1, **after)['Shards']
+        if not told:
+            break
+        found.append(told[0]['ShardId'])
+        after = {'ExclusiveStartShardId': found[-1]}
+    return f'{len(found)} of {len(set(found))} shards'
+
+
 scene.call(
     'DescribeStream with a Limit of 10,001',
     (DIFFERENT, 'ValidationException'),
@@ -93,6 +110,18 @@ def two(stage):
 
 
 names = Scene('names', two)
+
+
+names.call(
+    'ListStreams with a Limit of 10,001',
+    (DIFFERENT, 'ValidationException'),
+    'ListStreams',
+    {'Limit': 10_001},
+    kds='ValidationException',
+    says='InvalidArgumentException',
+    place='ListStreams.Limit',
+    reading='at most 10,000, and ValidationException is not among the errors of the operation',
+)
 
 
 @names.case('the order of the names ..-a and ..-B', (OWN, 'Default page sizes; order of names'), kds='B a')
@@ -124,3 +153,17 @@ names.call(
 )
 def more(stage):
     return str(stage.call('ListStreams', Limit=1)['HasMoreStreams']).lower()
+
+
+@names.same(
+    'the first name after one of two streams',
+    'the other',
+    place='ListStreams.ExclusiveStartStreamName',
+    reading='the page begins after this name',
+)
+def after_name(stage):
+    """Of two neighbours one comes after the other, and neither after itself."""
+    pair = stage.kept.pair
+    given = [stage.call('ListStreams', Limit=1, ExclusiveStartStreamName=name)['StreamNames'] for name in pair]
+    fits = ([pair[1]] == given[0]) != ([pair[0]] == given[1])
+    return 'the other' if fits and all([name] != told for name, told in zip(pair, given)) else f'{given}'

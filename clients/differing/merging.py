@@ -78,7 +78,38 @@ def merged(stage):
     given = reply.get('ChildShards', [])
     parents = [at(0)(stage), at(1)(stage)]
     fits = [(each['ShardId'], sorted(each['ParentShards'])) for each in given] == [(joined, parents)]
-    return 'one child of two parents' if fits else f'{len(given)} children'
+    return 'one child of two parents' if fits and stage.has_ranges(given) else f'{len(given)} children'
+
+
+@scene.same(
+    'the parents of the merged shard in ListShards',
+    'both',
+    place='ListShards.AdjacentParentShardId',
+    reading='the other of the two parents',
+)
+def parents(stage):
+    given = {stage.kept.joined['ParentShardId'], stage.kept.joined['AdjacentParentShardId']}
+    return 'both' if given == {at(0)(stage), at(1)(stage)} else ' '.join(sorted(given))
+
+
+@scene.same(
+    'shards that DescribeStream names after a merge',
+    'those of ListShards',
+    place='DescribeStream.Shards',
+    reading='with the parents of each',
+)
+def described(stage):
+    return stage.described()
+
+
+@scene.same(
+    'a merge of that shard with the next one',
+    'accepted',
+    place='MergeShards.ShardToMerge',
+    reading='the shard that is merged',
+)
+def merge_again(stage):
+    return stage.attempt('MergeShards', ShardToMerge=stage.kept.joined['ShardId'], AdjacentShardToMerge=at(2)(stage))
 
 
 @scene.case(

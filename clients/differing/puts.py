@@ -12,9 +12,9 @@ ERRORS = (OWN, 'Errors and messages')
     'bytes and keys of records that are read', 'as they were put', place='PutRecord.Data', reading='bytes of any kind'
 )
 def bytes_back(stage):
-    wanted = [('ä', bytes(range(256))), ('漢"\\', b''), ('\u2028', b'\xff' * 1000)]
+    wanted = [('ä', bytes(range(256))), ('漢"\\', b''), ('\u2028', b'\xff' * 1000), ('Ab', bytes(range(256)) * 400)]
     puts = [stage.put(key, data, ExplicitHashKey='0') for key, data in wanted]
-    records, _ = stage.read(stage.from_number(puts[0]['SequenceNumber'], puts[0]['ShardId']), 3)
+    records, _ = stage.read(stage.from_number(puts[0]['SequenceNumber'], puts[0]['ShardId']), 4)
     given = [(record['PartitionKey'], base64.b64decode(record['Data'])) for record in records]
     return 'as they were put' if given == wanted else f'{len(given)} records: {given!r}'[:80]
 
@@ -41,10 +41,11 @@ def order(stage):
 )
 def natural(stage):
     asked = [{'PartitionKey': f'n{at}', 'ExplicitHashKey': '0', 'Data': ''} for at in range(5)]
-    numbers = [
-        reply['SequenceNumber'] for reply in stage.call('PutRecords', StreamName=stage.name, Records=asked)['Records']
-    ]
-    records, _ = stage.read(stage.from_number(min(numbers, key=int), stage.open_shards()[0][2]), 5)
+    told, shard = stage.call('PutRecords', StreamName=stage.name, Records=asked), stage.open_shards()[0][2]
+    if told['FailedRecordCount'] or {reply['ShardId'] for reply in told['Records']} != {shard}:
+        return f'{told["FailedRecordCount"]} failed, in {sorted({reply["ShardId"] for reply in told["Records"]})}'
+    numbers = [reply['SequenceNumber'] for reply in told['Records']]
+    records, _ = stage.read(stage.from_number(min(numbers, key=int), shard), 5)
     keys = {record['SequenceNumber']: record['PartitionKey'] for record in records}
     return (
         'in the order of the request'

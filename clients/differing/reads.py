@@ -69,10 +69,35 @@ def latest(stage):
     return 'that record' if given == [number] else f'{len(given)} records'
 
 
+@scene.same(
+    'three records in pages of one, and one that is put at the end of them',
+    'each once, in order',
+    place='GetRecords.NextShardIterator',
+    reading='reads on, and is null only at the end of a closed shard',
+)
+def onward(stage):
+    puts = [stage.put(f'p{at}')['SequenceNumber'] for at in range(3)]
+    at, given = stage.from_number(puts[0]), []
+    for _ in range(12):
+        told = stage.call('GetRecords', ShardIterator=at, Limit=1)
+        given += [record['SequenceNumber'] for record in told['Records']]
+        at = told['NextShardIterator']
+        if len(given) == len(puts) == 3:
+            puts.append(stage.put('p3')['SequenceNumber'])
+        if len(given) == 4:
+            break
+        stage.rest()
+    return 'each once, in order' if given == puts else f'{len(given)} of {len(puts)}, {len(set(given))} of them apart'
+
+
+BEHIND = ('the age of the next record', 'the age of the record that is returned', 'the time between the two records')
+
+
 @scene.case(
     'MillisBehindLatest if one record follows',
     (OWN, 'MillisBehindLatest'),
     kds='the age of the next record',
+    says=BEHIND,
     place='GetRecords.MillisBehindLatest',
     reading='how far the reply is behind the end of the shard',
 )
@@ -142,3 +167,16 @@ scene.call(
 def expired(stage):
     time.sleep(max(0, stage.kept.since + 301 - time.monotonic()))
     return stage.outcome('GetRecords', ShardIterator=stage.kept.token)
+
+
+@scene.same(
+    'the arrival of a record',
+    'within a minute of now',
+    place='GetRecords.ApproximateArrivalTimestamp',
+    reading='about when the record came',
+)
+def arrived(stage):
+    number = stage.put('w')['SequenceNumber']
+    record = stage.read(stage.from_number(number), 1, 1)[0][0]
+    away = record['ApproximateArrivalTimestamp'] - time.time()
+    return 'within a minute of now' if abs(away) < 60 else f'{away:.0f} seconds from now'

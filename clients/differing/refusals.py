@@ -122,5 +122,5 @@ def none(stage):
     try:
         stage.streams.create(0, counted=1)
     except Refused as refused:
-        return refused.name
+        return refused.told
     return 'accepted'

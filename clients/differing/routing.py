@@ -10,6 +10,7 @@ DIGESTS = {
     'a': '0cc175b9c0f1b6a831c399e269772661',
     'abc': '900150983cd24fb0d6963f7d28e17f72',
     'message digest': 'f96b697d7cb7938d525a2f31aaf161d0',
+    'ABCDEFGHIJKLMNOPQRSTUVWXYZabcdefghijklmnopqrstuvwxyz0123456789': 'd174ab98d277d9f5a5611c2c9f419d9f',
 }
 
 

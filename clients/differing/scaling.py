@@ -23,7 +23,8 @@ def counts(stage):
     told = stage.kept.reply = stage.call('UpdateShardCount', StreamName=stage.name, TargetShardCount=1, **HOW)
     stage.streams.ready(stage.name)
     stage.recount()
-    return f'{told.get("CurrentShardCount")} {told.get("TargetShardCount")}'
+    where = '' if told.get('StreamName') == stage.name else f' of {told.get("StreamName")}'
+    return f'{told.get("CurrentShardCount")} {told.get("TargetShardCount")}{where}'
 
 
 lacks(scene, 'UpdateShardCount', 'StreamARN', lambda stage: stage.kept.reply, takes=BEYOND)

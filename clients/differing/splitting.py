@@ -1,9 +1,16 @@
 """Splits, and the end of a closed shard. At most three shards are open."""
 import base64
+import time
 
 from differing.case import DIFFERENT, LEFT, OWN, Scene
 from differing.faults import Refused
 from differing.steps import bounds, is_closed
+
+
+# what DescribeStream and DescribeStreamSummary both tell
+BOTH = (
+    'StreamName StreamARN StreamStatus RetentionPeriodHours StreamCreationTimestamp EnhancedMonitoring'.split()
+)
 
 
 def make(stage):
@@ -118,7 +125,34 @@ def numbered(stage):
 def closed(stage):
     records, reply, end = stage.read_out(stage.kept.parent)
     mine = [each for each in records if base64.b64decode(each['Data']).startswith(b'before')]
-    return f'its {len(mine)} records, then {end} and {len(reply.get("ChildShards", []))} children'
+    children = reply.get('ChildShards', [])
+    where = '' if stage.has_ranges(children) else ' with other hash keys'
+    return f'its {len(mine)} records, then {end} and {len(children)} children{where}'
+
+
+@scene.same(
+    'shards that DescribeStream names after a split',
+    'those of ListShards',
+    place='DescribeStream.Shards',
+    reading='open and closed shards',
+)
+def described(stage):
+    return stage.described()
+
+
+@scene.same(
+    'what DescribeStream and DescribeStreamSummary say of a stream',
+    'the same, and the open shards',
+    place='DescribeStreamSummary.OpenShardCount',
+    reading='the open shards',
+)
+def agree(stage):
+    told, short = stage.description(), stage.summary()
+    wrong = [name for name in BOTH if told[name] != short[name]]
+    wrong += ['StreamName'] * (short['StreamName'] != stage.name)
+    wrong += ['OpenShardCount'] * (short['OpenShardCount'] != len(stage.open_shards()))
+    wrong += ['StreamCreationTimestamp'] * (abs(short['StreamCreationTimestamp'] - time.time()) > 600)
+    return ', '.join(dict.fromkeys(wrong)) or 'the same, and the open shards'
 
 
 @scene.case(
@@ -150,7 +184,7 @@ def filtered(stage):
             for each in stage.call('ListShards', StreamName=stage.name, ShardFilter={'Type': 'AT_LATEST'})['Shards']
         }
     except Refused as refused:
-        return refused.name
+        return refused.told
     return (
         'the open shards'
         if given == {name for _, _, name in stage.open_shards()}

@@ -54,7 +54,7 @@ class Stage:
         try:
             self.call(operation, **members)
         except Refused as refused:
-            return refused.name
+            return refused.told
         if operation in CHANGING:
             self.streams.ready(members['StreamName'])
         return 'accepted'
@@ -62,11 +62,28 @@ class Stage:
     def put(self, key, data=b'x', **more):
         return self.call('PutRecord', StreamName=self.name, PartitionKey=key, Data=b64(data), **more)
 
+    def description(self):
+        return self.call('DescribeStream', StreamName=self.name)['StreamDescription']
+
     def summary(self):
         return self.call('DescribeStreamSummary', StreamName=self.name)['StreamDescriptionSummary']
 
     def shards(self):
         return self.call('ListShards', StreamName=self.name)['Shards']
+
+    def described(self):
+        """Whether DescribeStream tells of each shard what ListShards does, in any order."""
+        both = self.description()['Shards'], self.shards()
+        given, wanted = ({each['ShardId']: each for each in some} for some in both)
+        other = [name for name in given.keys() & wanted.keys() if given[name] != wanted[name]]
+        if other:
+            return f'{len(other)} are told otherwise'
+        return 'those of ListShards' if given == wanted else f'{len(given)} of {len(wanted)}'
+
+    def has_ranges(self, children):
+        """Whether these shards, as GetRecords tells of them, have the hash keys that ListShards tells."""
+        wanted = {each['ShardId']: bounds(each) for each in self.shards()}
+        return all(wanted.get(each['ShardId']) == bounds(each) for each in children)
 
     def open_shards(self):
         """The range and the id of each shard that is open, by range."""
@@ -80,6 +97,11 @@ class Stage:
     def from_number(self, number, shard=ZERO):
         return self.iterator(shard, 'AT_SEQUENCE_NUMBER', StartingSequenceNumber=number)
 
+    def rest(self):
+        """A pause between two pages that are read elsewhere."""
+        if not self.here:
+            time.sleep(1)
+
     def read(self, at, least=0, limit=None):
         """Records from an iterator on, with the last reply. It ends at so many records, or at the end of the shard if
         `least` is None. A page may be empty before that."""
@@ -90,8 +112,7 @@ class Stage:
             at = told.get('NextShardIterator')
             if at is None or (least is not None and len(records) >= least):
                 break
-            if not self.here:
-                time.sleep(1)
+            self.rest()
         return records, told
 
     def read_out(self, shard, kind='TRIM_HORIZON'):
@@ -122,7 +143,7 @@ class Stage:
         try:
             self.reshard(operation, more, **members)
         except Refused as refused:
-            return refused.name
+            return refused.told
         return 'accepted'
 
 
