@@ -6,10 +6,18 @@ import urllib.parse
 from differing.faults import is_here
 from differing.streams import MOST, PREFIX
 
+# What a run makes on a server elsewhere that does as `kds` does, without --beyond and --slow. A server that needs time
+# for a change is asked more often.
+CALLS, STREAMS, SHARDS, RECORDS, MEGABYTES = 345, 14, 27, 67, 12
 MOST_TOLD = (
-    f'makes some 12 streams there, one or two at a time, whose names begin with {PREFIX}, puts some 100 records of '
-    f'12 MB in all, and deletes the streams. At most {MOST} shards are open at once'
+    f'makes {STREAMS} streams there, one or two at a time, whose names begin with {PREFIX}, puts {RECORDS} records of '
+    f'{MEGABYTES} MB in all, and deletes the streams. At most {MOST} shards are open at once'
 )
+COST = f"""
+There are {{}} cases. Without --beyond and --slow a server elsewhere gets {{}} of them, in some {CALLS} calls, and in
+more if its changes take time. They make {STREAMS} streams with {SHARDS} shards in all, and put {RECORDS} records of
+{MEGABYTES} MB in all. An account that pays for each hour of a shard that has begun pays for {SHARDS} of them, and for
+some {MEGABYTES * 1000 // 25} units of 25 KB that are put."""
 
 
 class Words(argparse.ArgumentParser):
@@ -18,12 +26,14 @@ class Words(argparse.ArgumentParser):
         sys.exit(2)
 
 
-def words(text):
+def words(text, scenes):
     """The options. `text` is what --help says."""
+    cases = [one for scene in scenes for one in scene.cases]
+    cost = COST.format(len(cases), sum(one.takes is None for one in cases))
     parser = Words(
         prog='clients/differences',
         allow_abbrev=False,
-        description=text,
+        description=text + '\n' + cost,
         formatter_class=argparse.RawDescriptionHelpFormatter,
     )
     parser.add_argument('--endpoint')
