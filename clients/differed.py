@@ -1,22 +1,28 @@
 """`clients/differences` itself: against `kds`, against servers whose differences are known, ended in the middle, and
-where nothing can leave the machine. And docs/differences.md: each row has a case, and its table of moto is what comes."""
+where nothing can leave the machine. And docs/differences.md: each row has a case, and its table of moto is what
+comes."""
+import collections
 import concurrent.futures
 import contextlib
 import importlib.metadata
 import importlib.util
 import json
+import os
 import re
 import signal
 import subprocess
 import sys
+import tempfile
 import time
 import unittest
 
-from differing import alone, catalogue, page, verdict
-from differing.behind import standing
+from differing import alone, catalogue, operations, options, page, planted, trial, verdict
+from differing.behind import Front, standing
 from differing.endpoint import Endpoint
-from differing.planted import FAULTS, Planted
+from differing.runner import run as run_cases
 from differing.stand import Stand
+from differing.streams import Streams
+from differing.unnamed import UNNAMED, entries
 from server import ROOT, free_port, serving
 from snippet import listens
 
@@ -49,8 +55,9 @@ AS_REFERENCE = {
 }
 
 
-def run(*words):
-    return subprocess.run([SCRIPT, *words], capture_output=True, text=True, timeout=600, check=False)
+def run(*words, **variables):
+    there = os.environ | variables
+    return subprocess.run([SCRIPT, *words], capture_output=True, text=True, timeout=600, check=False, env=there)
 
 
 def came(done):
@@ -124,10 +131,10 @@ class Runs(unittest.TestCase):
             # each has a server of its own: the stand-in counts the open shards of all streams on its server
             cls.server, cls.other = (stack.enter_context(serving(members=64)) for _ in range(2))
             cls.stand = stack.enter_context(standing(Stand(cls.server.port)))
-            planted = stack.enter_context(standing(Planted(cls.other.port)))
+            three = stack.enter_context(standing(planted.Three(cls.other.port)))
             pool = stack.enter_context(concurrent.futures.ThreadPoolExecutor(3))
             cls.as_reference = pool.submit(run, '--endpoint', cls.stand.endpoint)
-            cls.faulty = pool.submit(run, '--endpoint', planted.endpoint)
+            cls.faulty = pool.submit(run, '--endpoint', three.endpoint)
             cls.own = pool.submit(run)
             cls.addClassCleanup(stack.pop_all().close)
 
@@ -152,7 +159,7 @@ class Runs(unittest.TestCase):
         done = self.faulty.result()
         self.assertEqual(1, done.returncode, done.stderr)
         wrong = {name.split(': ', 1)[1] for name, how in came(done).items() if how == verdict.OTHERWISE}
-        self.assertEqual({name for names in FAULTS.values() for name in names}, wrong, done.stdout)
+        self.assertEqual({name for names in planted.SEEN_BY.values() for name in names}, wrong, done.stdout)
 
     def test_an_interrupt_leaves_nothing(self):
         """In the middle of calls, of waits for ACTIVE, and of a deletion."""
@@ -173,6 +180,162 @@ class Runs(unittest.TestCase):
         for done in (self.as_reference, self.faulty):
             done.result()
         self.assertEqual([[], []], [left(server.port) for server in (self.server, self.other)])
+
+
+class Ended(unittest.TestCase):
+    """Runs that end early, whose streams are deleted all the same."""
+
+    @classmethod
+    def setUpClass(cls):
+        cls.server = cls.enterClassContext(serving(members=64))
+        cls.endpoint = ['--endpoint', cls.server.endpoint]
+
+    def tearDown(self):
+        self.assertEqual([], left(self.server.port))
+
+    def assert_ended(self, status, part, done):
+        """By one line behind the one that names the streams."""
+        lines = [line for line in done.stderr.splitlines() if not re.search(': streams kds-|[0-9] calls, ', line)]
+        self.assertEqual((status, 1), (done.returncode, len(lines)), done.stderr)
+        self.assertIn(part, lines[0])
+
+    def test_the_output_is_closed(self):
+        """After its first line, in the middle of a scene."""
+        words = [SCRIPT, *self.endpoint]
+        with subprocess.Popen(words, stdout=subprocess.PIPE, stderr=subprocess.PIPE, text=True) as one:
+            one.stdout.readline()
+            one.stdout.close()
+            done = subprocess.CompletedProcess([], one.wait(60), None, one.stderr.read())
+        self.assert_ended(2, "the output can't be written: Broken pipe", done)
+
+    def test_both_outputs_are_closed(self):
+        with subprocess.Popen([SCRIPT, *self.endpoint], stdout=subprocess.PIPE, stderr=subprocess.STDOUT) as one:
+            one.stdout.readline()
+            one.stdout.close()
+            self.assertEqual(2, one.wait(60))
+
+    def test_the_disk_is_full(self):
+        for words in ([], ['--table'], ['--list']):
+            with self.subTest(words=words), open('/dev/full', 'w') as full:
+                done = subprocess.run([SCRIPT, *self.endpoint, *words], stdout=full, stderr=subprocess.PIPE, text=True,
+                                      timeout=600, check=False)
+                self.assert_ended(2, "the output can't be written: No space left on device", done)
+
+    def test_an_interrupt_of_a_pipeline(self):
+        """Ctrl-C ends tee too."""
+        tee = subprocess.Popen(['tee', '/dev/null'], stdin=subprocess.PIPE, stdout=subprocess.DEVNULL, process_group=0)
+        with subprocess.Popen([SCRIPT, *self.endpoint], stdout=tee.stdin, stderr=subprocess.PIPE, text=True,
+                              process_group=tee.pid) as one:
+            tee.stdin.close()
+            one.stderr.readline()
+            time.sleep(2)
+            os.killpg(tee.pid, signal.SIGINT)
+            done = subprocess.CompletedProcess([], one.wait(60), None, one.stderr.read())
+        tee.wait()
+        self.assert_ended(130, 'ended by SIGINT', done)
+
+    def test_answers_that_are_lost(self):
+        """Every second one to CreateStream or DeleteStream. A case that needed one is named, and the others run."""
+        for operation in ('CreateStream', 'DeleteStream'):
+            with self.subTest(operation), standing(planted.Lost(self.server.port, operation)) as front:
+                done = run('--endpoint', front.endpoint)
+                self.assertEqual(1, done.returncode, done.stderr)
+                self.assertEqual(set(NAMES), set(came(done)))
+                self.assertIn('no answer', done.stdout)
+
+    def test_settings_of_botocore(self):
+        """For a server on this machine none is read."""
+        with tempfile.NamedTemporaryFile('w') as file:
+            file.write('garbage[')
+            file.flush()
+            for name, value, part in (('AWS_PROFILE', 'nosuch', 'The config profile (nosuch) could not be found'),
+                                      ('AWS_CONFIG_FILE', file.name, 'Unable to parse config file')):
+                with self.subTest(name):
+                    done = run('--only', 'a stream name with a space', *self.endpoint, **{name: value})
+                    self.assertEqual((0, 1), (done.returncode, done.stderr.count('\n')), done.stderr)
+                    done = run('--only', 'retention', **{name: value})
+                    self.assertEqual(0, done.returncode, done.stderr)
+                    done = run('--endpoint', 'http://192.0.2.1', '--yes', **{name: value})
+                    self.assert_ended(2, part, done)
+
+
+class Counted(Front):
+    """Counts what a run makes."""
+
+    def __init__(self, behind):
+        super().__init__(behind)
+        self.counts = collections.Counter()
+
+    def answer(self, operation, members):
+        status, told = self.forward(operation, members)
+        self.counts['calls'] += 1
+        if status == 200:
+            self.counts['streams'] += operation == 'CreateStream'
+            shards = {'CreateStream': members.get('ShardCount'), 'SplitShard': 2, 'MergeShards': 1}
+            self.counts['shards'] += shards.get(operation, 0)
+            records = {'PutRecord': [members], 'PutRecords': members.get('Records')}.get(operation, [])
+            self.counts['records'] += len(records)
+            self.counts['bytes'] += sum(len(record['Data']) * 3 // 4 for record in records)
+        return status, told
+
+
+class Faults(unittest.TestCase):
+    """Servers with one fault each (differing/planted.py). Each fault is named by a case, or stands in a list with the
+    reason (differing/unnamed.py)."""
+
+    @classmethod
+    def setUpClass(cls):
+        done = subprocess.run([trial.__file__], capture_output=True, text=True, timeout=900, check=False)
+        if done.returncode:
+            raise AssertionError(done.stderr)
+        cls.trials = [json.loads(line) for line in done.stdout.splitlines()]
+
+    def test_each_is_named_or_has_a_reason(self):
+        wrong = [one for one in self.trials if bool(one['named']) == bool(entries(one['fault']))]
+        self.assertEqual([], wrong)
+
+    def test_each_reason_is_of_a_fault(self):
+        """And one fault has one reason. Older models know fewer members."""
+        found = {entry for one in self.trials for entry in entries(one['fault'])}
+        self.assertEqual([], [entry for entry in UNNAMED if entry not in found and self.is_known(entry)])
+        self.assertEqual([], [one for one in self.trials if len(entries(one['fault'])) > 1])
+
+    def is_known(self, entry):
+        """Whether the installed model has the member of a reason, if it is of one."""
+        operation, _, path = entry.split(' ')[0].partition('.')
+        if operation not in operations.SERVED:
+            return True
+        return any(page.has(shape, path.split('.')[-1]) for shape in page.shapes(trial.model(), operation))
+
+    def test_a_fault_that_is_named_changed_something(self):
+        self.assertEqual([], [one for one in self.trials if one['named'] and not one['used']])
+
+    def test_nothing_is_left(self):
+        self.assertEqual([], [one for one in self.trials if one['left'] or one.get('status') == 3])
+
+    def test_a_run_ends_by_itself(self):
+        self.assertEqual([], [one for one in self.trials if 'ended by' in one.get('said', '')])
+
+    def test_there_is_one_for_each_member(self):
+        """Of each reply and of each request, by the model itself."""
+        tried = ' '.join(one['fault'] for one in self.trials)
+        for operation in operations.SERVED:
+            told = trial.model().operation_model(operation)
+            for shape in (told.input_shape, told.output_shape):
+                for name in (shape.members if shape else {}):
+                    if name not in planted.NAMING or shape is told.output_shape:
+                        self.assertIn(f'{operation}.{name}', tried)
+
+    def test_what_help_says_of_a_run(self):
+        """As it would be on a server elsewhere."""
+        with serving(members=40) as server, standing(Counted(server.port)) as front:
+            endpoint = Endpoint(front.endpoint, 'us-east-1', 0)
+            pairs = [(scene, [one for one in scene.cases if one.takes is None]) for scene in SCENES]
+            run_cases([pair for pair in pairs if pair[1]], Streams(endpoint), lambda *_: None)
+        told = (options.STREAMS, options.SHARDS, options.RECORDS, options.MEGABYTES)
+        counts = front.counts
+        self.assertEqual(told, (counts['streams'], counts['shards'], counts['records'], round(counts['bytes'] / 1e6)))
+        self.assertLess(abs(counts['calls'] - options.CALLS), 20)
 
 
 class Moto(unittest.TestCase):

@@ -33,7 +33,7 @@ class Front(ThreadingHTTPServer):
             return reply.status, json.loads(told) if told else None
 
     def answer(self, operation, members):
-        """Status and reply: what a server of this kind changes."""
+        """Status and reply: what a server of this kind changes. Without a status no answer is sent."""
         return self.forward(operation, members)
 
     def handle_error(self, request, client_address):
@@ -72,6 +72,9 @@ class Handler(BaseHTTPRequestHandler):
             status, told = self.server.forward(operation, body, kind)
         else:
             status, told = self.server.answer(operation, members)
+        if status is None:
+            self.close_connection = True
+            return
         text = b'' if told is None else json.dumps(told).encode()
         self.send_response(status)
         for name, value in {'Content-Type': kind, 'Content-Length': str(len(text)), **self.server.headers}.items():
