@@ -12,8 +12,45 @@ case $* in
     *) echo 'usage: .ci/quick.sh; --help says more' >&2; exit 2 ;;
 esac
 
+work=$(mktemp -d) || exit 1
+# What runs, each in a process group of its own, which ends with this script: the present step, and the clients.
+now=
+behind=
+ended() {
+    local group
+    for group in $now $behind; do
+        kill -TERM -- "-$group" 2> /dev/null
+        for _ in {1..50}; do
+            kill -0 -- "-$group" 2> /dev/null || continue 2
+            sleep 0.1
+        done
+        kill -KILL -- "-$group" 2> /dev/null
+    done
+    rm -rf "$work"
+}
+trap ended EXIT
+trap 'exit 130' INT
+trap 'exit 143' TERM
+trap 'exit 129' HUP
+
+# Runs a command, and gives its status.
+attend() { # WORD..
+    local status
+    set -m
+    "$@" < /dev/null &
+    now=$!
+    set +m
+    wait "$now"
+    status=$?
+    now=
+    return "$status"
+}
+
 # Each check takes the program from KDS. What this names already stays.
-KDS=${KDS:-$(help/try --name)} || exit
+if [ -z "${KDS:-}" ]; then
+    attend help/try --name > "$work/name" || exit
+    KDS=$(cat "$work/name")
+fi
 export KDS
 
 # The tests of a crate in Rattle. A crate that is a program has none, and is run instead: it must print what its file `stdout` has.
@@ -47,10 +84,6 @@ done
 mapfile -t -O "${#steps[@]}" steps < <(grep -v '^#' .ci/steps)
 [ -r .ci/steps ] || exit 1
 
-work=$(mktemp -d) || exit 1
-behind=
-trap '[ -z "$behind" ] || kill -- -"$behind" 2> /dev/null; rm -rf "$work"' EXIT
-
 # The clients wait for most of their time. So they run behind the other steps from the beginning, one after another, and
 # what each says is shown where it stands among the steps.
 is_behind() { [[ $1 = clients/* ]]; }
@@ -63,7 +96,6 @@ run_behind() {
         echo "$status" > "$work/$at.status"
     done
 }
-# In a process group of their own, which ends with this script.
 set -m
 run_behind &
 behind=$!
@@ -76,18 +108,23 @@ ended_behind() { # AT
     [ -s "$work/$1.status" ] && return "$(cat "$work/$1.status")"
 }
 
+# A step, a command and its words. What it says goes to the output and into a file.
+run_step() { # AT
+    if is_behind "${steps[$1]}"; then
+        ended_behind "$1" | tee "$work/said"
+    else
+        (${steps[$1]}) 2>&1 | tee "$work/said"
+    fi
+    return "${PIPESTATUS[0]}"
+}
+
 passed=0
 failed=0
 told=()
 for at in "${!steps[@]}"; do
     printf '== step %d of %d, %d left: %s\n' $((at + 1)) "${#steps[@]}" $((${#steps[@]} - at - 1)) "${steps[at]}"
-    if is_behind "${steps[at]}"; then
-        ended_behind "$at" | tee "$work/said"
-    else
-        # a command and its words
-        (${steps[at]}) < /dev/null 2>&1 | tee "$work/said"
-    fi
-    status=${PIPESTATUS[0]}
+    attend run_step "$at"
+    status=$?
     # A step counts its checks in its last such line. One that has none, or that fails with none that failed, is one check.
     good=0
     bad=0
