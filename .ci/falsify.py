@@ -5,6 +5,7 @@ looks at what each prints. This script makes the table and the commands of the p
     .ci/falsify.py [ROW]     all rows, or the one of this number; the fifth runs the commands of the fourth first
     .ci/falsify.py page      prints the part of the page"""
 import collections
+import os
 import pathlib
 import re
 import shutil
@@ -67,20 +68,31 @@ def holds(row, status, printed):
     return status == 1 and any(name == row.refused or name.endswith('::' + row.refused) for name in left)
 
 
-def run(room, command):
-    return subprocess.run(['bash', '-c', command], cwd=room, stdin=subprocess.DEVNULL, stdout=subprocess.PIPE,
-                          stderr=subprocess.STDOUT, text=True, errors='replace', check=False)
+# how often a command that still runs is told, in seconds
+OFTEN = 60
 
 
-def run_shown(room, command):
-    """The same, with its lines as they come."""
-    child = subprocess.Popen(['bash', '-c', command], cwd=room, stdin=subprocess.DEVNULL, stdout=subprocess.PIPE,
-                             stderr=subprocess.STDOUT, text=True, errors='replace')
-    printed = []
-    for line in child.stdout:
-        print(f'    {line}', end='', flush=True)
-        printed.append(line)
-    return subprocess.CompletedProcess(command, child.wait(), ''.join(printed))
+def run(room, command, tell=lambda *_: None):
+    """Runs a command. While it runs, `tell` gets the minutes that have passed, and the last line that was printed."""
+    with tempfile.TemporaryFile() as out:
+        words, begin = ['bash', '-c', command], time.monotonic()
+        process = subprocess.Popen(words, cwd=room, stdin=subprocess.DEVNULL, stdout=out, stderr=subprocess.STDOUT)
+        while True:
+            try:
+                status = process.wait(OFTEN)
+                break
+            except subprocess.TimeoutExpired:
+                tell(round((time.monotonic() - begin) / 60), (printed(out).splitlines() or [''])[-1])
+            except BaseException:
+                process.kill()
+                process.wait()
+                raise
+        return subprocess.CompletedProcess(words, status, printed(out))
+
+
+def printed(file):
+    """What a command has written so far, by another place in the file than its own."""
+    return os.pread(file.fileno(), os.fstat(file.fileno()).st_size, 0).decode(errors='replace')
 
 
 def must(room, command):
@@ -124,9 +136,9 @@ def main():
             if words and not row.undone:
                 edit(room, ROWS[first - 1])
             edit(room, row)
-            print(f'row {number}: running {row.command}; a first check also proves the crates below', flush=True)
             begin = time.monotonic()
-            done = run_shown(room, row.command)
+            print(f'row {number}: {row.how}: running; the first check of a copy proves the crates below too', flush=True)
+            done = run(room, row.command, lambda *now: print(f'row {number}: {now[0]} min: {now[1][:90]}', flush=True))
             passed = holds(row, done.returncode, done.stdout)
             told = 'as the page says' if passed else 'NOT as the page says'
             print(f'row {number}: {row.how}: {time.monotonic() - begin:.0f} s: {told}, {row.result}', flush=True)
