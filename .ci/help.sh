@@ -210,6 +210,28 @@ done
 cp "$KDS" "$work/quick"
 answers 'runs quick, which KDS names' env -C "$work" KDS=quick "$PWD/kds" --version
 
+# What the caller's shell exports, and KDS that names the script itself.
+answers "kds $(cat VERSION)" env POSIXLY_CORRECT=1 ./kds --version
+answers './dev build' env POSIXLY_CORRECT=1 ./dev --help
+printf '1000 step\r\n' > "$work/schedule"
+for name in errexit nounset posix pipefail; do
+    answers "kds $(cat VERSION)" env SHELLOPTS="$name" ./kds --version
+    slip 3 'line 1: not a schedule line' 'CR LF' env SHELLOPTS="$name" ./kds replay < "$work/schedule"
+    answers './dev build' env SHELLOPTS="$name" ./dev --help
+done
+for name in cd cat rm mktemp sed printf kill source stop; do
+    answers "kds $(cat VERSION)" env "BASH_FUNC_$name%%=() { echo odd; return 1; }" ./kds --version
+    slip 3 'line 1: not a schedule line' 'CR LF' env "BASH_FUNC_$name%%=() { echo odd; return 1; }" ./kds replay < "$work/schedule"
+    answers './dev build' env "BASH_FUNC_$name%%=() { echo odd; return 1; }" ./dev --help
+done
+for words in '--version' 'replay' 'serve 4594 2'; do
+    # shellcheck disable=SC2086
+    timeout 20 env KDS=./kds ./kds $words < /dev/null > "$work/out" 2> "$work/err"
+    given=$?
+    [ "$words" = --version ] || { [ "$given" -eq 2 ] && [ "$(cat "$work/err")" = 'kds: KDS names this script, and not a program: ./kds' ]; }
+    tell $? "KDS=./kds ./kds $words" "status $given, $(head -n 2 "$work/err")"
+done
+
 # Where no temporary file can be made or written the program's own line and status stay, and no hint follows.
 bare() { # STATUS OUTPUT ERRORS FILE WORD..
     local status=$1 output=$2 errors=$3 file=$4
@@ -284,6 +306,15 @@ for words in 'nosuch' 'build nosuch' 'test nosuch' 'test --quick nosuch' 'client
     [ $? -eq 2 ] && [ ! -s "$work/out" ] && [ "$(wc -l < "$work/err")" -eq 1 ] && grep -q '^dev: ' "$work/err"
     tell $? "./dev $words" "$(head -n 2 "$work/out" "$work/err")"
 done
+# Without the kit: one line, and nothing starts.
+without=$(IFS=:; for folder in $PATH; do [ -e "$folder/rt" ] || printf '%s:' "$folder"; done)
+for words in 'check kds_rate' 'edits kds_rate' 'faults replay' test 'test --quick' calling 'calling --prove' falsify 'falsify 2'; do
+    # shellcheck disable=SC2086
+    PATH=${without%:} timeout 20 ./dev $words > "$work/out" 2> "$work/err"
+    [ $? -eq 2 ] && [ ! -s "$work/out" ] && [ "$(cat "$work/err")" = 'dev: the command rt of the Rattle kit is not there (README.md, "What it stands on")' ]
+    tell $? "./dev $words without rt" "$(head -n 2 "$work/out" "$work/err")"
+done
+PATH=${without%:} answers '' timeout 20 ./dev calling --help
 for words in build test clients check gate; do
     answers './dev build' timeout 20 ./dev $words --help
 done
@@ -565,6 +596,26 @@ fake 0 ran 1 "$then" build ./kds -c 'echo ran'
 echo three > "$source"
 fake 0 ran 2 "$then"$'kds: a source changed meanwhile\n'"${then#"$first"}" change ./kds -c 'echo ran'
 fake 0 ran 0 "$first" build ./kds -c 'echo ran'
+# What is kept runs without the kit, if no source changed.
+without=$(IFS=:; for folder in $PATH; do [ -e "$folder/rt" ] || printf '%s:' "$folder"; done)
+path=${without%:} fake 0 ran 0 "$first" build ./kds -c 'echo ran'
+path=${without%:} fake 0 "$version the quick program, $(cd "$fake" && echo out/quick/kds-*): not proved yet, ./dev build proves it" 0 '' build ./kds --version
+echo three and more > "$source"
+path=${without%:} fake 2 '' 0 $'kds: the command rt of the Rattle kit is not there (README.md, "What it stands on")\n' build ./kds -c 'echo ran'
+echo three > "$source"
+# Ctrl-C in a loop ends the program that runs, and the loop.
+begin build
+# shellcheck disable=SC2016 # the inner shell's words
+(cd "$fake" && PATH=$path exec env --default-signal=INT setsid bash -c 'echo $$ > "$0"; for _ in 1 2; do ./kds -c "echo begun; sleep 20"; echo "went on"; done' "$work/loop") > "$work/out" 2> "$work/err" &
+for _ in {1..100}; do
+    ! grep -q begun "$work/out" || break
+    sleep 0.1
+done
+kill -INT -- "-$(cat "$work/loop")"
+wait $!
+given=$?
+[ "$given" -eq 130 ] && [ "$(cat "$work/out")" = begun ]
+tell $? 'a loop that is ended by Ctrl-C' "status $given, $(cat "$work/out" "$work/err")"
 echo kit-2 > "$fakes/version"
 twice ./kds -c 'echo ran'
 fake 2 '' 0 $'kds: KDS names no program: /nosuch\n' build env KDS=/nosuch ./kds replay
@@ -670,7 +721,6 @@ waiting proof ./dev build
 
 # A kit that isn't there, one that is broken, one beside which nothing can be kept; a folder that can't be written; a full disk.
 echo six > "$source"
-without=$(IFS=:; for folder in $PATH; do [ -e "$folder/rt" ] || printf '%s:' "$folder"; done)
 for words in './kds replay' './dev try replay' './dev build'; do
     # shellcheck disable=SC2086
     path=${without%:} fake 2 '' 0 $'kds: the command rt of the Rattle kit is not there (README.md, "What it stands on")\n' build $words
@@ -699,6 +749,31 @@ if unshare -rm mount -t tmpfs none "$fakes/tmp" 2> /dev/null; then
 else
     echo 'skipped: this user can mount no disk to fill'
 fi
+
+# A quick test that is ended: its step ends, and so do the clients behind it.
+mkdir -p "$work/test/"{.ci,clients} && cp .ci/quick.sh "$work/test/.ci"
+printf '%s\n' .ci/hang clients/hang > "$work/test/.ci/steps"
+cat > "$work/test/.ci/hang" << 'END'
+#!/usr/bin/env bash
+sleep 600 | cat &
+echo "$$ $!" >> "${0%/*}/../processes"
+wait
+END
+chmod +x "$work/test/.ci/hang" && cp "$work/test/.ci/hang" "$work/test/clients"
+for signal in TERM HUP; do
+    rm -f "$work/test/processes"
+    KDS=/bin/true "$work/test/.ci/quick.sh" > "$work/out" 2>&1 &
+    for _ in {1..100}; do
+        [ "$(wc -l 2> /dev/null < "$work/test/processes")" != 2 ] || break
+        sleep 0.1
+    done
+    kill "-$signal" $!
+    wait $!
+    given=$?
+    read -rd '' -a processes < "$work/test/processes"
+    [ "$given" -eq $((128 + $(kill -l $signal))) ] && [ "${#processes[@]}" -eq 4 ] && ! kill -0 "${processes[@]}" 2> /dev/null
+    tell $? "a quick test that is ended by $signal" "status $given, $(cat "$work/out")"
+done
 
 # Words of the scripts that none of them has: one line on the error output, at once, and nothing starts.
 odd() { # SCRIPT WORD..
