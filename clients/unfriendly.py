@@ -294,6 +294,20 @@ class Places(unittest.TestCase):
         between.sendall(LIST)
         self.assertEqual([[status for status, _ in responses(it, 1)] for it in (inside, between)], [[200], [200]])
 
+    def test_a_place_that_is_free_again(self):
+        """A connection that was open while all places were in use pauses as long as any other, once one is free."""
+        self.serve(2)
+        gone, held = self.clients(2)
+        for _ in range(10):
+            time.sleep(0.5)
+            for connection in (gone, held):
+                connection.sendall(LIST)
+                self.assertEqual([status for status, _ in responses(connection, 1)], [200])
+        gone.close()
+        time.sleep(IDLE - 4)
+        held.sendall(LIST)
+        self.assertEqual([status for status, _ in responses(held, 1)], [200])
+
     def test_a_reader_that_pauses(self):
         """It asks for two answers of 8 MB, reads nothing for 6 seconds, and gets both whole."""
         self.serve(2)
@@ -353,6 +367,48 @@ class Places(unittest.TestCase):
             connection, = self.clients(1)
             self.assertEqual(self.server.threads(), 1)
             connection.close()
+
+
+class Stops(unittest.TestCase):
+    """The process of the server is stopped and goes on, as by Ctrl-Z and `fg`. Each stop interrupts each read."""
+
+    def setUp(self):
+        self.server = self.enterContext(serving(4))
+
+    def opened(self):
+        """An idle connection, half a head and half a body, each with the rest of its request."""
+        held = []
+        for sent in (0, 40, len(LIST) - 1):
+            connection = self.enterContext(self.server.connect())
+            connection.sendall(LIST + LIST[:sent])
+            self.assertEqual([status for status, _ in responses(connection, 1)], [200])
+            held.append((connection, LIST[sent:]))
+        return held
+
+    def stop(self, count, seconds):
+        for _ in range(count):
+            for sign in (signal.SIGSTOP, signal.SIGCONT):
+                time.sleep(seconds)
+                self.server.process.send_signal(sign)
+
+    def test_they_end_no_connection(self):
+        """One stop as a person makes it, and some more."""
+        held = self.opened()
+        self.stop(1, 1)
+        self.stop(10, 0.02)
+        for connection, rest in held:
+            connection.sendall(rest)
+            self.assertEqual([status for status, _ in responses(connection, 1)], [200])
+
+    def test_many_count_as_silence(self):
+        """A read that is interrupted counts as one that waited, so a number of stops ends each connection before its
+        time."""
+        held, begin = self.opened(), time.monotonic()
+        self.stop(60, 0.02)
+        for connection, _ in held:
+            with contextlib.suppress(ConnectionResetError):
+                self.assertEqual(connection.recv(1), b'')
+        self.assertLess(time.monotonic() - begin, IDLE - 2)
 
 
 class Ending(unittest.TestCase):
