@@ -431,8 +431,8 @@ class Story:
 
     def next_is(self, host, word, name):
         """Whether the line that lacks is the next one of its host."""
-        behind = ((where, rest.split()) for _, where, rest in self.all[self.number_of_line + 1:])
-        where, words = next((it for it in behind if it[1][:1] == [host]), ('', []))
+        after = ((where, rest.split()) for _, where, rest in self.all[self.number_of_line + 1:])
+        where, words = next((it for it in after if it[1][:1] == [host]), ('', []))
         is_next = words[1:2] == [word] and words[2:3] and words[2].rpartition('/')[2] == name
         return f', and {where} is that line: do the two stand in the wrong order?' if is_next else ''
 
