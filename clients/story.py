@@ -536,7 +536,7 @@ class Story:
             name, at = self.names.used.get(key, key), f'record {tenure.start}' if tenure.start else FIRST[0]
             owner = self.names.host_of(before.worker)
             later = self.later(owner, name)
-            why = (f'{later} is a checkpoint of it, and stands behind this line: is the clock of a host wrong?' if later
+            why = (f'{later} is a checkpoint of it, and stands after this line: is the clock of a host wrong?' if later
                    else f'is a line {owner} checkpoint {name} missing before it? If the log has where it begins, '
                         'add at NUMBER')
             self.tell(f'{self.said()}: {owner} had processed {above} records above {at}, where the lease begins here, '
