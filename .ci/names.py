@@ -49,7 +49,7 @@ TURNS = {
 }
 # What messages and texts of help have no more: each with what to write. Comments aren't asked.
 MESSAGES = {
-    'after': r'\bbehind\b',
+    'after': r'(?<!clock )\bbehind\b',  # but a clock that is behind
     'not "..", or what the replay does': r'\band here (?:it|is|are)\b',
     "isn't": r'\bit is no\b',
 }
