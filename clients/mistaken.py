@@ -288,8 +288,19 @@ def count(seed, stories):
             print(f'{seed} {kind}: {wrong}')
 
 
-if __name__ == '__main__':
-    if len(sys.argv) == 2:
-        show(int(sys.argv[1]))
+def are_words(words):
+    return len(words) in (1, 2) and all(word.isdigit() for word in words)
+
+
+def main():
+    sys.path.insert(0, str(ROOT / '.ci'))
+    from checks import asked
+    seed, *stories = asked(__doc__, 'clients/mistaken.py SEED [COUNT]', are_words)
+    if stories:
+        count(int(seed), int(stories[0]))
     else:
-        count(int(sys.argv[1]), int(sys.argv[2]))
+        show(int(seed))
+
+
+if __name__ == '__main__':
+    main()
