@@ -97,6 +97,8 @@ THROUGH = {
         'after_renewal.leaves', 'after_renewal.processors', 'after_consumer.held', 'after_consumer.consumers',
         'update_held.ensures', 'tenancy_of.ensures', 'taken_of.ensures', 'add_taken.held', 'add_taken.consumers',
     ],
+    # the edit leaves a branch open as a whole, so its goal names no clause
+    ('kcl_consumer', 'Consumer::lose.processor'): ['Consumer::lose.ensures'],
     ('kcl_consumer', 'Consumer::absorb.stage'): [
         'after_give.stage', 'after_mark.stage', 'after_open.stage', 'after_end.stage', 'after_read.stage',
         'stage_after_give.stage', 'Ahead::front_stage.stage', 'Ahead::pop_first.ensures', 'Ahead::stops_filling.ensures',
